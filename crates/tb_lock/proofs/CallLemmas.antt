@@ -1,5 +1,6 @@
 -- What a call on the core in hand adds, and what the whole call comes to.
-use Rattle.std.proofs.Common.{◌≡◌, ◌<◌, ◌++◌, cond, true≢false, ℕ, List, [], ◌∷◌, Bool, true, false, ◌||◌, Option, Some, None, Result, Ok, Err, IfOk, OnErr, option_to_list, refl, sym, ap, ◌∙◌, subst, append-nil}
+use Rattle.std.proofs.Common.{◌≡◌, ◌<◌, ◌≤◌, ◌++◌, length, cond, true≢false, ℕ, List, [], ◌∷◌, Bool, true, false, ◌||◌, Option, Some, None, Result, Ok, Err, IfOk, OnErr, option_to_list, refl, sym, ap, ◌∙◌, subst, append-nil, arith}
+use Rattle.std.proofs.lemmas.List.{append_cancel_left}
 use Rattle.atomic_table.specs.Seated.{TableId}
 use Rattle.tb_log.specs.declared.entry.Entry.{Entry}
 use Rattle.tb_log.specs.declared.entry.Out.{Out}
@@ -78,6 +79,10 @@ own_option rights (Some entry) has_it = ap (λ (b : Bool). cond b (entry ∷ [])
 pub own_entries : (rights : Rights) (core : CoreState) (call : Call) → has rights (right_to call) ≡ true → own rights (entries_of core call) ≡ entries_of core call
 own_entries rights core call right = own_option rights (would_log core call) (λ entry e. ap (has rights) (entry_right core call entry e) ∙ right)
 
+pub one_at_most : (logged : Option Entry) → length (option_to_list logged) ≤ 1
+one_at_most None = let none : 0 ≤ 1 = omega arith in none
+one_at_most (Some entry) = let one : 1 ≤ 1 = omega arith in one
+
 sparse_option : (log : List Entry) (logged : Option Entry) → IsSparse log → ((entry : Entry) → logged ≡ Some entry → says_quiet (Some entry) ≡ true → ends_quiet log ≡ false) → IsSparse (log ++ option_to_list logged)
 sparse_option log None h new = sparse_same log h
 sparse_option log (Some entry) h new = sparse_more log entry h (new entry refl)
@@ -99,44 +104,47 @@ follows_by (Err refused) core after call logs stays = record { origin = stays.or
 pub follows : {A : Type 0} (Finds : CoreState → A → Type 0) (call : Call) (result : Result A CoreFault) (core after : CoreState) → Answers Finds call core after result → Follows core after (added result (entries_of core call))
 follows Finds call result core after a = follows_by result core after call a.logs a.stays
 
--- what is so of all that a call would add is so of what it adds
-of_added : {A : Type 0} (P : List Entry → Type 0) (result : Result A CoreFault) (entries : List Entry) → P [] → P entries → P (added result entries)
-of_added P (Ok answer) entries none all = all
-of_added P (Err refused) entries none all = none
+sparse_added : {A : Type 0} (core : CoreState) (call : Call) (result : Result A CoreFault) → IsSparse core.log → IsSparse (core.log ++ added result (entries_of core call))
+sparse_added core call (Ok answer) h = sparse_entries core call h
+sparse_added core call (Err refused) h = sparse_same core.log h
 
-pub trace_from : (core : CoreState) (origin : Origin) (entries : List Entry) → core.origin ≡ origin → IsTrace (bus_now core) entries → IsTrace (replay (start origin) core.log) entries
+trace_from : (core : CoreState) (origin : Origin) (entries : List Entry) → core.origin ≡ origin → IsTrace (bus_now core) entries → IsTrace (replay (start origin) core.log) entries
 unfolding bus_now
 trace_from core origin entries is trace = subst (λ (o : Origin). IsTrace (replay (start o) core.log) entries) is trace
 
 module _ (seat : SeatView) (core : CoreState) (meets : Meets seat core) where
-  -- The core may go back with what the call has added.
+  -- The core may go back with one entry more, or with none.
+  goes_back : (me : HolderState) (after : CoreState) (logged : Option Entry) → HasTurn seat core me → Follows core after (option_to_list logged) → IsSparse (core.log ++ option_to_list logged) →
+      own seat.rights (option_to_list logged) ≡ option_to_list logged → own all_rights (option_to_list logged) ≡ option_to_list logged → MayRelease me after
+  goes_back me after logged turn goes sparse rights owned = subst (λ (m : HolderState). MayRelease m after) (sym turn.1) (record {
+    ticket = turn.0;
+    logged = logged;
+    stage = ap (Serving turn.0) (sym goes.stopped);
+    slot = refl;
+    adds = record {
+      origin = goes.origin ∙ meets.origin;
+      log = goes.log;
+      trace = trace_from core seat.origin (option_to_list logged) meets.origin goes.trace;
+      sparse = sparse;
+      rights = rights;
+      owned = owned;
+    };
+  })
+
+  -- So it may go back with what the call has added.
   pub may_release : {A : Type 0} (result : Result A CoreFault) (me : HolderState) (after : CoreState) (call : Call) → IsCallInShape call → has seat.rights (right_to call) ≡ true → HasTurn seat core me →
       Follows core after (added result (entries_of core call)) → MayRelease me after
-  may_release result me after call form right turn goes =
-      let entries = added result (entries_of core call) in
-      let at = record seat { seen = core.log; stage = Serving turn.0 core.stopped } in
-      subst (λ (m : HolderState). MayRelease m after) (sym turn.1) (record {
-        ticket = turn.0;
-        entries = entries;
-        stage = ap (Serving turn.0) (sym goes.stopped);
-        slot = refl;
-        adds = record {
-          origin = goes.origin ∙ meets.origin;
-          log = goes.log;
-          trace = trace_from core seat.origin entries meets.origin goes.trace;
-          sparse = of_added (λ (es : List Entry). IsSparse (core.log ++ es)) result (entries_of core call) (sparse_same core.log meets.sparse) (sparse_entries core call meets.sparse);
-          rights = of_added (λ (es : List Entry). own seat.rights es ≡ es) result (entries_of core call) refl (own_entries seat.rights core call right);
-          owned = of_added (λ (es : List Entry). own all_rights es ≡ es) result (entries_of core call) refl (own_entries all_rights core call (all_have call form));
-        };
-      })
+  may_release (Ok answer) me after call form right turn goes =
+      goes_back me after (would_log core call) turn goes (sparse_entries core call meets.sparse) (own_entries seat.rights core call right) (own_entries all_rights core call (all_have call form))
+  may_release (Err refused) me after call form right turn goes = goes_back me after None turn goes (sparse_same core.log meets.sparse) refl refl
 
   -- What is then left of the seat.
   pub has_released : {A : Type 0} (result : Result A CoreFault) (me left : HolderState) (after : CoreState) (call : Call) → seat.stage ≡ Idle → HasTurn seat core me → Follows core after (added result (entries_of core call)) → Releases me after left →
       left ≡ (noted seat core (added result (entries_of core call)), [])
   has_released result me left after call idle turn goes releases =
-      let entries = added result (entries_of core call) in
-      (subst (λ (m : HolderState). Releases m after left) turn.1 releases) entries goes.log
-      ∙ (λ i. (record (noted seat core entries) { told = seat.told || goes.stopped i; stage = sym idle i }, []))
+      let t = subst (λ (m : HolderState). Releases m after left) turn.1 releases in
+      let es = append_cancel_left core.log (option_to_list t.0) (added result (entries_of core call)) (sym t.1 ∙ goes.log) in
+      t.2 ∙ (λ i. (record (noted seat core (es i)) { told = seat.told || goes.stopped i; stage = sym idle i }, []))
 
 -- of which bus it is doesn't matter
 pub meets_on : (bus : TableId) (seat : SeatView) (core : CoreState) → Meets seat core → Meets (record seat { bus = bus }) core
@@ -167,7 +175,7 @@ called Finds call result bus seat core after old new old_is new_is meets a =
       meets = meets_on bus seat core meets;
       seat = refl;
       trace = trace-append (start seat.origin) core.log (added result (entries_of core call)) meets.trace (trace_from core seat.origin (added result (entries_of core call)) meets.origin goes.trace);
-      sparse = of_added (λ (es : List Entry). IsSparse (core.log ++ es)) result (entries_of core call) (sparse_same core.log meets.sparse) (sparse_entries core call meets.sparse);
+      sparse = sparse_added core call result meets.sparse;
       finds = a.finds;
       stopped = a.stopped;
       full = a.full;

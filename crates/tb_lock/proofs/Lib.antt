@@ -12,5 +12,4 @@ pub mod NoteLemmas
 pub mod ShareLemmas
 pub mod TurnLemmas
 pub mod CallLemmas
-pub mod RowLemmas
 pub mod SendLemmas

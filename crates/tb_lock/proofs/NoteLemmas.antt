@@ -1,6 +1,5 @@
 -- Noting a call on the core in hand keeps the rule, and so does noting that it was stopped.
-use Rattle.std.proofs.Common.{◌≡◌, ◌≢◌, ◌<◌, ◌+◌, ◌%◌, ◌^◌, ℕ, List, [], ◌∷◌, ◌++◌, length, slice_index, slice_set, Bool, true, Option, Some, IfSome, refl, sym, ap, ◌∙◌, subst, inr, ⊎_elim, arith, length-append}
-use Rattle.std.proofs.lemmas.List.{append_cancel_left}
+use Rattle.std.proofs.Common.{◌≡◌, ◌≢◌, ◌<◌, ◌+◌, ◌%◌, ◌^◌, ℕ, List, [], ◌∷◌, ◌++◌, length, slice_index, slice_set, Bool, true, Option, Some, option_to_list, refl, sym, ap, ◌∙◌, subst, inr, ⊎_elim, arith, length-append}
 use mathlib.Core.Option as opt
 use lib.ListN.{get_elem?}
 use Rattle.atomic_table.specs.Table.{keeps, stepped, Allows}
@@ -46,9 +45,12 @@ module _ (origin : Origin) (board : BoardState) (run : Running origin board) (id
   out : Away board
   out = slot_out origin board run.log run.stopped id seat at (ap has_turn open_is) run.slot
 
-  module _ (core : CoreState) (entries : List Entry) (adds : Adds seat core entries) (mark_is : core.stopped ≡ mark) where
+  module _ (core : CoreState) (logged : Option Entry) (adds : Adds seat core logged) (mark_is : core.stopped ≡ mark) where
+    abbrev entries : List Entry
+    entries = option_to_list logged
+
     abbrev noted_by : SeatView
-    noted_by = noting seat entries core.stopped
+    noted_by = noting seat logged core.stopped
 
     longer_is : seat.seen ++ entries ≡ run.log ++ entries
     longer_is = ap (λ (xs : List Entry). xs ++ entries) now.2
@@ -148,23 +150,16 @@ module _ (origin : Origin) (board : BoardState) (run : Running origin board) (id
         reason = λ _. any_here (λ s. s.called ≡ true) board.views id seat stopped_by at refl;
       })
 
--- what is noted is what the core in hand has logged since
-noted_so : (me : HolderState) (found : ℕ) (core : CoreState) (entries : List Entry) → me.1 ≡ (0, Some core) ∷ [] → core.log ≡ me.0.seen ++ entries → Notes me found (noting me.0 entries core.stopped, me.1)
-noted_so me found core entries slot log_is =
-    subst (λ (o : Option CoreState). IfSome o (λ c. (more : List Entry) → c.log ≡ me.0.seen ++ more → ◌≡◌ {A = HolderState} (noting me.0 entries core.stopped, me.1) (noting me.0 more c.stopped, me.1)))
-    (sym (ap in_hand slot))
-    (λ more e. ap (λ (xs : List Entry). (noting me.0 xs core.stopped, me.1)) (append_cancel_left me.0.seen entries more (sym log_is ∙ e)))
-
-pub notes : (origin : Origin) (slots id : ℕ) (me : HolderState) (ticket : ℕ) (core : CoreState) (entries : List Entry) → me.0.stage ≡ Serving ticket core.stopped → me.1 ≡ (0, Some core) ∷ [] → Adds me.0 core entries →
+pub notes : (origin : Origin) (slots id : ℕ) (me : HolderState) (ticket : ℕ) (core : CoreState) (logged : Option Entry) → me.0.stage ≡ Serving ticket core.stopped → me.1 ≡ (0, Some core) ∷ [] → Adds me.0 core logged →
     Allows (Kept origin) slots id me 1 (λ n. n) (Notes me)
-notes origin slots id me ticket core entries open_is slot adds board kept wide at _ = ⊎_elim
+notes origin slots id me ticket core logged open_is slot adds board kept wide at _ = ⊎_elim
     (λ (new : IsNew origin board). let opening = ap (λ (s : SeatView). s.stage) (opens origin board id me.0 new at) in absurd (cc))
     (λ (run : Running origin board). (
-      noting me.0 entries core.stopped,
+      noting me.0 logged core.stopped,
       keeps,
       tt,
-      inr (noted_on origin board run id me.0 at ticket core.stopped open_is core entries adds refl),
-      noted_so me (slice_index board.words 1) core entries slot adds.log,
+      inr (noted_on origin board run id me.0 at ticket core.stopped open_is core logged adds refl),
+      (core, logged, ap in_hand slot, adds.log, refl),
     ))
     kept
 

@@ -1,11 +1,11 @@
 -- What the parts of a turn leave of a seat, one after another.
-use Rattle.std.proofs.Common.{◌≡◌, ◌≢◌, ◌%◌, ◌^◌, ℕ, List, [], ◌∷◌, ◌++◌, Bool, true, false, Option, Some, None, refl, sym, ap, ◌∙◌, subst}
+use Rattle.std.proofs.Common.{◌≡◌, ◌≢◌, ◌%◌, ◌^◌, ℕ, List, [], ◌∷◌, ◌++◌, Bool, true, false, Option, Some, None, option_to_list, refl, sym, ap, ◌∙◌, subst}
 use Rattle.atomic_table.specs.Table.{rest}
 use Rattle.tb_log.specs.declared.entry.Entry.{Entry}
 use Rattle.tb_core.specs.Cores.{CoreState}
 use Rattle.tb_lock.specs.Seats.{SeatView, Stage, Idle, Waiting, Serving, joined}
 use Rattle.tb_lock.specs.Calls.{Meets, Joins}
-use Rattle.tb_lock.specs.Helpers.Plays.{HolderState, Draws, Reads, Notes, Stops, Adds, in_hand, noting, stopping, MayPass, HasTurn, joining, Looks}
+use Rattle.tb_lock.specs.Helpers.Plays.{HolderState, Draws, Reads, Notes, Stops, in_hand, noting, stopping, MayPass, HasTurn, joining, Looks}
 
 -- what a seat meets doesn't depend on how far it has come
 meets_at : (seat : SeatView) (stage : Stage) (core : CoreState) → Meets (record seat { stage = stage }) core → Meets seat core
@@ -53,13 +53,22 @@ taken_out seat me after ticket core found is holds then_is = (
 pub put_back : (me after : HolderState) (core : CoreState) → me.1 ≡ (0, None) ∷ [] → after ≡ (me.0, (0, Some core) ∷ rest me.1) → after ≡ (me.0, (0, Some core) ∷ [])
 put_back me after core empty then_is = then_is ∙ ap (λ (slots : List (ℕ × Option CoreState)). (me.0, (0, Some core) ∷ rest slots)) empty
 
--- A call is noted.
-pub noted : (me after : HolderState) (found : ℕ) (seat : SeatView) (core : CoreState) (entries : List Entry) → me ≡ (seat, (0, Some core) ∷ []) → core.log ≡ seat.seen ++ entries → Notes me found after → after ≡ (noting seat entries core.stopped, (0, Some core) ∷ [])
-noted me after found seat core entries is log_is notes = (subst (λ (m : HolderState). Notes m found after) is notes) entries log_is
+same_core : (found : Option CoreState) (core other : CoreState) → found ≡ Some core → found ≡ Some other → core ≡ other
+same_core found core other one more = cc
+
+-- A call is noted, with one entry at most.
+abbrev pub Noted : SeatView → CoreState → HolderState → Type 0
+Noted seat core after = (logged : Option Entry) × (core.log ≡ seat.seen ++ option_to_list logged) × (after ≡ (noting seat logged core.stopped, (0, Some core) ∷ []))
+
+pub noted : (me after : HolderState) (found : ℕ) (seat : SeatView) (core : CoreState) → me ≡ (seat, (0, Some core) ∷ []) → Notes me found after → Noted seat core after
+noted me after found seat core is notes =
+    let t = subst (λ (m : HolderState). Notes m found after) is notes in
+    let same : t.0 ≡ core = same_core (Some core) t.0 core t.2 refl in
+    (t.1, ap (λ (k : CoreState). k.log) (sym same) ∙ t.3, t.4 ∙ ap (λ (k : CoreState). (noting seat t.1 k.stopped, (0, Some core) ∷ [])) same)
 
 -- Then the turn may be passed on.
-pub may_pass_noted : (after : HolderState) (seat : SeatView) (core : CoreState) (ticket : ℕ) (entries : List Entry) → seat.stage ≡ Serving ticket core.stopped → Adds seat core entries → after ≡ (noting seat entries core.stopped, (0, Some core) ∷ []) → MayPass after
-may_pass_noted after seat core ticket entries open_is adds is = subst MayPass (sym is) (record { ticket = ticket; core = core; stage = open_is; slot = refl; origin = adds.origin; log = adds.log })
+pub may_pass_noted : (after : HolderState) (seat : SeatView) (core : CoreState) (ticket : ℕ) → seat.stage ≡ Serving ticket core.stopped → core.origin ≡ seat.origin → Noted seat core after → MayPass after
+may_pass_noted after seat core ticket open_is origin_is n = subst MayPass (sym n.2) (record { ticket = ticket; core = core; stage = open_is; slot = refl; origin = origin_is; log = n.1 })
 
 -- That the core was stopped is noted, and the turn may be passed on.
 pub noted_stop : (me after : HolderState) (found ticket : ℕ) (mark : Bool) (seat : SeatView) (core : CoreState) → me ≡ (seat, (0, Some core) ∷ []) → seat.stage ≡ Serving ticket mark → Stops me found after → after ≡ (stopping ticket seat, (0, Some core) ∷ [])
@@ -77,9 +86,6 @@ may_pass_returned after seat core ticket open_is origin_is log_is is = subst May
 pub may_pass_first : (after : HolderState) (seat : SeatView) (core : CoreState) → core.origin ≡ seat.origin → core.log ≡ seat.seen → core.stopped ≡ false → after ≡ (record seat { stage = Serving 0 false }, (0, Some core) ∷ []) → MayPass after
 may_pass_first after seat core origin_is log_is stopped_is is =
     subst MayPass (sym is) (record { ticket = 0; core = core; stage = ap (Serving 0) (sym stopped_is); slot = refl; origin = origin_is; log = log_is })
-
-same_core : (found : Option CoreState) (core other : CoreState) → found ≡ Some core → found ≡ Some other → core ≡ other
-same_core found core other one more = cc
 
 -- What was found in the slot is the core that the seat has met.
 pub acquired : (seat : SeatView) (after : HolderState) (found : Option CoreState) (core result : CoreState) (ticket : ℕ) → found ≡ Some core → found ≡ Some result →

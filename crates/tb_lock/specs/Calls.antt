@@ -1,5 +1,5 @@
 -- What the calls of a shared bus come to: those that wait for a turn are answered as by one core, whose log is the one history; and how seats join.
-use Rattle.std.specs.Prelude.{◌≡◌, ◌≢◌, ◌↔◌, ℕ, zero, suc, ◌⊎◌, Bool, List, [], ◌∷◌, ◌++◌, map, length, take, drop, true, false, ◌||◌, IsTrue, Result, Ok, Err, IfOk, IsErrOf, ⊤}
+use Rattle.std.specs.Prelude.{◌≡◌, ◌↔◌, ℕ, Bool, List, [], ◌∷◌, ◌++◌, map, length, take, drop, true, false, ◌||◌, IsTrue, Result, Ok, Err, IfOk, IsErrOf, ⊤}
 use Rattle.std.specs.Option.{is_some}
 use Rattle.tb_terms.specs.declared.memory.NoMemory.{NoMemory}
 use Rattle.tb_log.specs.declared.entry.Entry.{Entry}
@@ -13,10 +13,8 @@ use Rattle.tb_bus.specs.Buses.{start}
 use Rattle.tb_bus.specs.Traces.{IsTrace, fed}
 use Rattle.tb_core.specs.declared.answers.CoreFault.{CoreFault}
 use Rattle.tb_core.specs.declared.answers.CoreFault.TheVariants as fault
-use Rattle.tb_core.specs.declared.answers.Stepped.{Stepped}
-use Rattle.tb_core.specs.declared.answers.Stepped.TheVariants as stepped
 use Rattle.tb_core.specs.declared.answers.TakeOut.{TakeOut}
-use Rattle.tb_core.specs.Cores.{CoreState, Call, HandIn, MakeStep, HandOut, bus_now, entries_of, is_full, IsStep, IsTakenOut}
+use Rattle.tb_core.specs.Cores.{CoreState, Call, HandIn, MakeStep, HandOut, bus_now, entries_of, is_full, IsTakenOut}
 use Rattle.tb_lock.specs.Rights.{own, all_rights}
 use Rattle.tb_lock.specs.Histories.{Grows, IsSparse, indexed}
 use Rattle.tb_lock.specs.Seats.{SeatView, joined, most_seats}
@@ -70,22 +68,6 @@ pub record Called {A : Type 0} (Finds : CoreState → A → Type 0) (call : Call
   pub stopped : IsErrOf result fault.Stopped ↔ IsTrue core.stopped
   pub full : IsErrOf result fault.Full → is_full core call ≡ true
   pub room : IfOk result (λ _. is_full core call ≡ false)
-
--- A step of a row, which meets such a history.
-abbrev pub StepsAt : (List Entry → Type 0) → SeatView → SeatView → Result Stepped CoreFault → Type 0
-StepsAt Finds old new result = (called : Called IsStep MakeStep old new result) × Finds called.core.log
-
--- So many steps and one more at most, of which the first meets such a history, and each other one just what the one before has left:
--- each but the last was answered that it did one, and the last wasn't, unless there are so many.
-unfoldable pub StepsFrom : ℕ → (List Entry → Type 0) → SeatView → SeatView → Result Stepped CoreFault → Type 0
-StepsFrom zero Finds old new result = StepsAt Finds old new result
-StepsFrom (suc more) Finds old new result =
-    (StepsAt Finds old new result × (result ≢ Ok stepped.Did))
-    ⊎ ((mid : SeatView) × StepsAt Finds old mid (Ok stepped.Did) × StepsFrom more (λ log. log ≡ mid.seen) mid new result)
-
--- Steps that are made in one turn: as the same calls made one after another, between which no other seat makes an entry.
-abbrev pub CalledInRow : ℕ → SeatView → SeatView → Result Stepped CoreFault → Type 0
-CalledInRow more old new result = StepsFrom more (λ log. ⊤) old new result
 
 -- what becomes of an input
 abbrev pub IsReply : Input → CoreState → Reply → Type 0

@@ -1,6 +1,6 @@
 //! The calls of a core that may log an entry, all of one form.
 ghost use Rattle.tb_lock.specs.Calls.{IsCallInShape};
-ghost use Rattle.tb_lock.specs.Helpers.Plays.{Answers, StepsInRow};
+ghost use Rattle.tb_lock.specs.Helpers.Plays.{Answers};
 
 use tb_algebra::Walker;
 use tb_core::{Core, CoreFault, Stepped, TakeOut};
@@ -83,20 +83,4 @@ impl<W: Walker> CoreCall<W> for TakingOut {
     fn make(self, core: &mut Core<W>) -> Result<TakeOut, CoreFault> {
         core.take_out(self.lane)
     }
-}
-
-/// Makes steps, so many and one more at most, until one isn't answered by `Did`; gives the answer of the last.
-pub(crate) fn make_steps<W: Walker>(core: &mut Core<W>, more: u32) -> Result<Stepped, CoreFault>
-    ensures { StepsInRow more core.old core.new result }
-{
-    for done in 0..more {
-        match Stepping.make(core) {
-            Ok(Stepped::Did) => {}
-            Ok(Stepped::Quiet) => return Ok(Stepped::Quiet),
-            Ok(Stepped::Down) => return Ok(Stepped::Down),
-            Err(fault) => return Err(fault),
-        }
-    }
-    let last = Stepping.make(core);
-    last
 }

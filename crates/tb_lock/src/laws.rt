@@ -1,4 +1,4 @@
-ghost use Rattle.std.specs.Prelude.{◌≡◌, ◌++◌, List, true};
+ghost use Rattle.std.specs.Prelude.{◌≡◌, ◌≤◌, ◌++◌, List, length, true};
 ghost use Rattle.tb_log.specs.declared.entry.Entry.{Entry};
 ghost use Rattle.tb_core.specs.Cores.{CoreState, Call, entries_of};
 ghost use Rattle.tb_lock.specs.declared.rights.Rights.{Rights};
@@ -7,7 +7,7 @@ ghost use Rattle.tb_lock.specs.Seats.{SeatView};
 ghost use Rattle.tb_lock.specs.Calls.{Meets, StopsBus, Joins, noted};
 
 /// Of the entries that need a seat's rights, or some of them, the seat sees after a call just those that it saw
-/// before, and then the call's own. A call has the right for what it adds.
+/// before, and then the call's own. A call has the right for what it adds, and adds one entry at most.
 pub fn calls_add_their_own()
     ensures seen { (old : SeatView) (core : CoreState) (entries : List Entry) (some : Rights)
         → Meets old core → AreAmong some old.rights
@@ -15,6 +15,7 @@ pub fn calls_add_their_own()
     ensures added { (rights : Rights) (core : CoreState) (call : Call)
         → has rights (right_to call) ≡ true
         → own rights (entries_of core call) ≡ entries_of core call }
+    ensures one { (core : CoreState) (call : Call) → length (entries_of core call) ≤ 1 }
 {}
 
 /// Of the entries that need a seat's rights, or some of them, the seat sees in its turn just those that it saw before, and

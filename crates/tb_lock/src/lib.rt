@@ -11,8 +11,10 @@ mod seat;
 mod share;
 mod shared;
 mod turn;
+mod visit;
 
 pub use laws::{calls_add_their_own, joins_keep_their_own, looks_add_nothing};
 pub use rights::Rights;
 pub use seat::Seat;
 pub use shared::{NoRoom, Shared};
+pub use visit::Visit;

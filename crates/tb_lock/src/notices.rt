@@ -38,6 +38,9 @@ fn lanes_of<W: Walker>(core: &Core<W>) -> u32 {
     if core.is_stopped() || core.is_down() {
         return u32::MAX;
     }
+    if core.first_out().is_none() {
+        return 0;
+    }
     let mut lanes = 0;
     let mut lane: u8 = 0;
     for has in &outs_of(core) {

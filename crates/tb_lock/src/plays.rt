@@ -44,7 +44,7 @@ impl<W: Walker> Play<Option<Core<W>>, View> for Read {
     ghost then = { λ _ me found after. Reads me found after };
 }
 
-/// Note a call that was made on the core in hand.
+/// Note a call that was made on the core in hand, which has logged one entry at most.
 pub(crate) struct Note;
 
 impl<W: Walker> Play<Option<Core<W>>, View> for Note {

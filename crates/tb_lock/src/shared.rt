@@ -3,15 +3,16 @@ ghost use Rattle.tb_log.specs.Shapes.{IsInputInShape, IsLane};
 ghost use Rattle.tb_core.specs.Cores.{HandIn, MakeStep, HandOut, IsStep};
 ghost use Rattle.tb_lock.specs.Rights.{AreAmong, has, right_to, all_rights};
 ghost use Rattle.tb_lock.specs.Seats.{first_seat, kept_of, handed_on, most_seats};
-ghost use Rattle.tb_lock.specs.Calls.{IsCallInShape, Called, IsReply, IsTaken, CalledInRow, Observes, IsStateOf, IsPieceOf, StopsBus, Joins, Closes};
+ghost use Rattle.tb_lock.specs.Calls.{IsCallInShape, Called, IsReply, IsTaken, Observes, IsStateOf, IsPieceOf, StopsBus, Joins, Closes};
 
-use crate::call::{CoreCall, HandingIn, Stepping, TakingOut, make_steps};
+use crate::call::{CoreCall, HandingIn, Stepping, TakingOut};
 use crate::notices::Notices;
 use crate::plays::BusRule;
 use crate::rights::Rights;
 use crate::seat::{Seat, View};
 use crate::share::{part, unite};
 use crate::turn::{acquire, open, release, release_stopped, release_unchanged};
+use crate::visit::Visit;
 use atomic_table::{Badge, Table};
 use std::alloc::Global;
 use std::marker::{Brand, Model};
@@ -131,22 +132,14 @@ impl<W: Walker> Shared<W> {
         self.call(rt, seat, Stepping)
     }
 
-    /// Makes steps in one turn of the seat, so many and one more at most, until one isn't answered by `Did`; gives the answer of
-    /// the last.
-    pub fn steps<R: Wait>(&self, rt: &R, seat: &mut Seat, more: u32) -> Result<Stepped, CoreFault>
-        requires own { seat.old.bus ≡ self.now }
-        requires right { has seat.old.rights (right_to MakeStep) ≡ true }
-        ensures { CalledInRow more seat.old seat.new result }
+    /// Enters the gate of the bus once, for several turns one after another. The gate is shut until the visit is dropped.
+    pub fn enter<R: Wait>(&self, rt: &R) -> Visit<'_, W>
+        ensures { result ≡ self.now }
     {
-        let mut holder = replace(&mut seat.badge, Badge::blank()).into_seat();
-        let guard = self.gate.enter(rt);
-        let mut core = acquire(rt, &self.table.shared, &mut holder);
-        let answer = make_steps(&mut core, more);
-        self.notices.put(&core);
-        release(&self.table.shared, &mut holder, core);
-        drop(guard);
-        seat.badge = holder.into_badge();
-        answer
+        Visit {
+            bus: self,
+            _gate: self.gate.enter(rt),
+        }
     }
 
     /// Takes what is to be handed out next on a lane, in the seat's turn.
@@ -217,13 +210,29 @@ impl<W: Walker> Shared<W> {
         requires right { has seat.old.rights (right_to (C.call call)) ≡ true }
         ensures { Called (C.finds call) (C.call call) seat.old seat.new result }
     {
-        let mut holder = replace(&mut seat.badge, Badge::blank()).into_seat();
         let guard = self.gate.enter(rt);
+        let answer = self.turn(rt, seat, call);
+        drop(guard);
+        answer
+    }
+
+    /// Makes a call of the core in one turn of the seat. The thread is inside the gate.
+    pub(crate) fn turn<R: Wait, C: CoreCall<W>>(
+        &self,
+        rt: &R,
+        seat: &mut Seat,
+        call: C,
+    ) -> Result<C::Answer, CoreFault>
+        requires own { seat.old.bus ≡ self.now }
+        requires form { IsCallInShape (C.call call) }
+        requires right { has seat.old.rights (right_to (C.call call)) ≡ true }
+        ensures { Called (C.finds call) (C.call call) seat.old seat.new result }
+    {
+        let mut holder = replace(&mut seat.badge, Badge::blank()).into_seat();
         let mut core = acquire(rt, &self.table.shared, &mut holder);
         let answer = call.make(&mut core);
         self.notices.put(&core);
         release(&self.table.shared, &mut holder, core);
-        drop(guard);
         seat.badge = holder.into_badge();
         answer
     }

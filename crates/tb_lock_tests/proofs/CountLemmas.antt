@@ -1,6 +1,5 @@
 -- How many entries of its own a seat has after a call.
-use Rattle.std.proofs.Common.{◌≡◌, ◌+◌, ℕ, zero, suc, inl, inr, List, [], ◌∷◌, map, length, Bool, true, false, if◌then◌else◌, Result, Ok, option_to_list, refl, sym, ap, ◌∙◌, length-append}
-use Rattle.std.specs.Prelude.{⊤}
+use Rattle.std.proofs.Common.{◌≡◌, ◌+◌, ℕ, suc, List, [], ◌∷◌, map, length, Bool, true, false, if◌then◌else◌, Result, Ok, option_to_list, refl, sym, ap, ◌∙◌, length-append}
 use Rattle.tb_log.specs.declared.entry.Entry.{Entry}
 use Rattle.tb_log.specs.declared.entry.Input.{Input}
 use Rattle.tb_log.specs.declared.entry.Reply.{Reply}
@@ -12,7 +11,7 @@ use Rattle.tb_core.specs.declared.answers.Stepped.TheVariants.{Did}
 use Rattle.tb_core.specs.Cores.{CoreState, Call, HandIn, MakeStep, bus_now, ends_quiet, step_entry, entries_of, IsStep}
 use Rattle.tb_lock.specs.Histories.{indexed}
 use Rattle.tb_lock.specs.Seats.{SeatView}
-use Rattle.tb_lock.specs.Calls.{added, Called, CalledInRow, StepsFrom, IsReply}
+use Rattle.tb_lock.specs.Calls.{added, Called, IsReply}
 
 -- a bus that is down has no step
 down_stuck : (bus : Bus) → bus.down ≡ true → steps bus ≡ []
@@ -50,16 +49,3 @@ hand_grows input old new reply called = mine_grows (IsReply input) (HandIn input
 -- of which bus a seat is, its rights and its room stay
 pub called_keeps : {A : Type 0} (Finds : CoreState → A → Type 0) (call : Call) (old new : SeatView) (result : Result A CoreFault) → Called Finds call old new result → (new.bus ≡ old.bus) × (new.rights ≡ old.rights) × (new.room ≡ old.room)
 called_keeps Finds call old new result called = (ap (λ (s : SeatView). s.bus) called.seat, ap (λ (s : SeatView). s.rights) called.seat, ap (λ (s : SeatView). s.room) called.seat)
-
--- so it is in a row of steps
-steps_keep : (more : ℕ) (Finds : List Entry → Type 0) (old new : SeatView) (result : Result Stepped CoreFault) → StepsFrom more Finds old new result → (new.bus ≡ old.bus) × (new.rights ≡ old.rights) × (new.room ≡ old.room)
-unfolding StepsFrom
-steps_keep zero Finds old new result row = called_keeps IsStep MakeStep old new result row.0
-steps_keep (suc more) Finds old new result (inl row) = called_keeps IsStep MakeStep old new result row.0.0
-steps_keep (suc more) Finds old new result (inr rest) =
-    let first = called_keeps IsStep MakeStep old rest.0 (Ok Did) rest.1.0 in
-    let others = steps_keep more (λ log. log ≡ rest.0.seen) rest.0 new result rest.2 in
-    (others.0 ∙ first.0, others.1 ∙ first.1, others.2 ∙ first.2)
-
-pub row_keeps : (more : ℕ) (old new : SeatView) (result : Result Stepped CoreFault) → CalledInRow more old new result → (new.bus ≡ old.bus) × (new.rights ≡ old.rights) × (new.room ≡ old.room)
-row_keeps more old new result row = steps_keep more (λ log. ⊤) old new result row

@@ -12,22 +12,34 @@ const TICKS: u64 = 300;
 /// How many bytes of the log are kept.
 const ROOM: usize = 65_536;
 
-/// Scripts, and what the log says in this order, whatever thread is next: of a program that isn't there `cut` and `gone` come in
-/// either order.
-static RUNS: [(&str, &str); 2] = [
+/// Scripts; lines that the log has in this order, whichever thread is next; and how some line of the log ends. If a command names
+/// no program, `cut` comes before or after the end of its lane. A dropped `cut` has the reason before it.
+static RUNS: [(&str, &str, &str); 2] = [
     (
         "tool t is { command = \"sed -u -n s/rec-eval(q)/snd-value(ok)/p\" } process P is let T : t, V : term in execute(t, T?) . snd-eval(T, q) . rec-value(T, V?) . snd-terminate(T, 0) endlet toolbus(P)",
         "execute 1.1 t(1)\nsnd-eval 1.2 t(1),q\nrec-value 1.3 t(1),ok\nsnd-terminate 1.4 t(1),0\nfinish",
+        " line 1 snd-value(ok)",
     ),
     (
         "tool t is { command = \"./there-is-no-such-program\" } process P is let T : t in execute(t, T?) . rec-disconnect(T?) endlet toolbus(P)",
         "execute 1.1 t(1)\nrec-disconnect 1.2 t(1)\nfinish",
+        " cut 1",
     ),
 ];
 
+/// Returns whether some line ends so.
+fn some_line_ends(log: &str, ending: &str) -> bool {
+    for line in log.lines() {
+        if line.ends_with(ending) {
+            return true;
+        }
+    }
+    false
+}
+
 #[test]
 fn a_child_is_started_and_answers(rt: HostRuntime) -> Result<(), Fail> {
-    for (script, wanted) in RUNS {
+    for (script, wanted, ending) in RUNS {
         let mut lanes = Vec::with_capacity(rt.alloc(), LANES)?;
         for _ in 0..LANES {
             let ChildPair { inlet, outlet } = child_pair(rt.alloc(), rt)?;
@@ -50,7 +62,8 @@ fn a_child_is_started_and_answers(rt: HostRuntime) -> Result<(), Fail> {
             &mut out,
         );
         let log = str::from_utf8(out.as_slice()).unwrap_or("(no text)");
-        assert_eq!(rt; (why, first_missing(log, wanted)), (RunWhy::Ended, None));
+        let found = (why, first_missing(log, wanted), some_line_ends(log, ending));
+        assert_eq!(rt; found, (RunWhy::Ended, None, true));
     }
     Ok(())
 }

@@ -148,27 +148,37 @@ fn a_seat_without_rights_reads_the_log_in_pieces(rt: HostRuntime) -> Result<(), 
     Ok(())
 }
 
-/// So many steps in a row, and one more, at most.
+/// Makes at most `most` steps, until an answer isn't `Did`. The thread enters the gate once, and each step has its own turn.
 fn row<W: Walker, R: Wait>(
     rt: &R,
     bus: &Shared<W>,
     seat: &mut Seat,
-    more: u32,
+    most: u32,
 ) -> Result<Stepped, CoreFault>
     requires own { seat.old.bus ≡ bus.now }
     requires whole { seat.old.rights ≡ all_rights }
     ensures same { (seat.new.bus ≡ seat.old.bus) × (seat.new.rights ≡ seat.old.rights)
         × (seat.new.room ≡ seat.old.room) }
 {
-    bus.steps(rt, seat, more)
+    let visit = bus.enter(rt);
+    for _ in 1..most {
+        match visit.step(rt, seat) {
+            Ok(Stepped::Did) => {}
+            Ok(Stepped::Quiet) => return Ok(Stepped::Quiet),
+            Ok(Stepped::Down) => return Ok(Stepped::Down),
+            Err(fault) => return Err(fault),
+        }
+    }
+    let last = visit.step(rt, seat);
+    last
 }
 
 #[test]
 fn a_row_of_steps_ends_where_none_is_possible(rt: HostRuntime) -> Result<(), Fail> {
     let (bus, mut seat) = bus_of::<Rewriter>(rt.alloc(), ASKS, 10)?;
-    let long = row(&rt, &bus, &mut seat, 9);
+    let long = row(&rt, &bus, &mut seat, 10);
     let calls = bus.calls_for(1);
-    let again = row(&rt, &bus, &mut seat, 9);
+    let again = row(&rt, &bus, &mut seat, 10);
     let logged = has_logged(rt.alloc(), bus.close(&rt, seat), ASKED);
     let wanted = (Ok(Stepped::Quiet), true, Ok(Stepped::Quiet), Ok(true));
     assert_eq!(rt; (long, calls, again, logged), wanted);
@@ -180,10 +190,10 @@ fn a_row_of_steps_has_its_length_and_ends_where_one_is_refused(
     rt: HostRuntime,
 ) -> Result<(), Fail> {
     let (bus, mut seat) = bus_of::<Rewriter>(rt.alloc(), COUNTS, 6)?;
-    let four = row(&rt, &bus, &mut seat, 3);
-    let two = row(&rt, &bus, &mut seat, 9);
+    let four = row(&rt, &bus, &mut seat, 4);
+    let two = row(&rt, &bus, &mut seat, 10);
     bus.stop(&rt, &mut seat);
-    let none = row(&rt, &bus, &mut seat, 9);
+    let none = row(&rt, &bus, &mut seat, 10);
     let logged = has_logged(rt.alloc(), bus.close(&rt, seat), SIX);
     let wanted = (
         Ok(Stepped::Did),
@@ -223,7 +233,7 @@ fn a_walk_goes_on_in_another_thread_and_back(rt: HostRuntime) -> Result<(), Fail
     let ticks = bus.split(&mut seat, Rights::ticker());
     let ((mut seat, made), (ticks, handed)) = side_by_side(&rt, &bus, seat, ticks);
     bus.join(&mut seat, ticks);
-    let back = row(&rt, &bus, &mut seat, 9);
+    let back = row(&rt, &bus, &mut seat, 10);
     let found = counted(rt.alloc(), bus.close(&rt, seat));
     let wanted = (true, true, Ok(Stepped::Did), Ok((true, 110)));
     assert_eq!(rt; (made, handed, back, found), wanted);

@@ -1,5 +1,8 @@
 ghost use Rattle.std.specs.Prelude.{◌≡◌, true, MatchOption};
+ghost use Rattle.tb_core.specs.Cores.{MakeStep, IsStep};
 ghost use Rattle.tb_lock.specs.Rights.{Steps as ToStep, has};
+ghost use Rattle.tb_lock.specs.Seats.{SeatView};
+ghost use Rattle.tb_lock.specs.Calls.{Called};
 ghost use Rattle.tb_run.specs.Workers.{Steps, StepsBus};
 
 use crate::ends::WorkEnd;
@@ -7,11 +10,11 @@ use crate::hand::refused;
 use std::sync::Wait;
 use tb_algebra::Walker;
 use tb_bells::{Bells, Sleeper};
-use tb_core::Stepped;
+use tb_core::{CoreFault, Stepped};
 use tb_lock::{Seat, Shared, calls_add_their_own};
 
-/// How many steps but one are made in a turn before the others are told.
-const BURST: u32 = 7;
+/// The largest number of turns that the stepper takes before it tells the others.
+const BURST: u32 = 8;
 
 /// Makes steps until the bus is down. Where there is none it waits until something comes.
 pub fn step_worker<W: Walker, R: Wait>(
@@ -47,7 +50,7 @@ fn step_some<W: Walker, R: Wait>(
     ensures { MatchOption result (Steps seat.old seat.new) (StepsBus seat.old seat.new) }
 {
     calls_add_their_own();
-    match shared.steps(rt, seat, BURST) {
+    match make_steps(rt, shared, seat) {
         Ok(Stepped::Did) => {
             tell(shared, bells);
             None
@@ -63,6 +66,31 @@ fn step_some<W: Walker, R: Wait>(
         }
         Err(fault) => Some(refused(rt, shared, bells, seat, fault)),
     }
+}
+
+/// Makes steps, each in its own turn, until an answer isn't `Did` or `BURST` turns are taken. Enters the gate of the bus once, and
+/// returns the last answer.
+fn make_steps<W: Walker, R: Wait>(
+    rt: &R,
+    shared: &Shared<W>,
+    seat: &mut Seat,
+) -> Result<Stepped, CoreFault>
+    requires own { seat.old.bus ≡ shared.now }
+    requires right { has seat.old.rights ToStep ≡ true }
+    ensures { (mid : SeatView) × Steps seat.old mid × Called IsStep MakeStep mid seat.new result }
+{
+    calls_add_their_own();
+    let visit = shared.enter(rt);
+    for _ in 1..BURST {
+        match visit.step(rt, seat) {
+            Ok(Stepped::Did) => {}
+            Ok(Stepped::Quiet) => return Ok(Stepped::Quiet),
+            Ok(Stepped::Down) => return Ok(Stepped::Down),
+            Err(fault) => return Err(fault),
+        }
+    }
+    let last = visit.step(rt, seat);
+    last
 }
 
 /// Wakes who may have something to do after steps: who writes the log, and the writers of the lanes on which there is something

@@ -1,5 +1,5 @@
 -- What each kind of atomic step tells the seat that makes it, and what the parts of a turn leave behind.
-use Rattle.std.specs.Prelude.{◌≡◌, ◌≢◌, ℕ, zero, suc, ◌⊎◌, Ok, ◌%◌, ◌^◌, ◌<◌, List, [], ◌∷◌, ◌++◌, length, Bool, true, false, ◌||◌, Option, Some, None, IfSome, Result, IfOk, OnErr, IsErrOf, IsTrue, ◌↔◌}
+use Rattle.std.specs.Prelude.{◌≡◌, ◌≢◌, ℕ, ◌%◌, ◌^◌, ◌<◌, List, [], ◌∷◌, ◌++◌, length, Bool, true, false, ◌||◌, Option, Some, None, option_to_list, Result, IfOk, OnErr, IsErrOf, IsTrue, ◌↔◌}
 use Rattle.atomic_table.specs.Table.{Me}
 use Rattle.atomic_table.specs.Seated.{TableId}
 use Rattle.tb_log.specs.declared.entry.Entry.{Entry}
@@ -7,9 +7,7 @@ use Rattle.tb_bus.specs.Buses.{start}
 use Rattle.tb_bus.specs.Traces.{IsTrace, replay}
 use Rattle.tb_core.specs.declared.answers.CoreFault.{CoreFault}
 use Rattle.tb_core.specs.declared.answers.CoreFault.TheVariants as fault
-use Rattle.tb_core.specs.declared.answers.Stepped.{Stepped}
-use Rattle.tb_core.specs.declared.answers.Stepped.TheVariants as stepped
-use Rattle.tb_core.specs.Cores.{CoreState, Call, MakeStep, IsStep, entries_of, is_full, Logs, Stays}
+use Rattle.tb_core.specs.Cores.{CoreState, Call, entries_of, is_full, Logs, Stays}
 use Rattle.tb_lock.specs.declared.rights.Rights.{Rights}
 use Rattle.tb_lock.specs.Rights.{own, all_rights}
 use Rattle.tb_lock.specs.Histories.{Grows, IsSparse, indexed}
@@ -45,17 +43,18 @@ abbrev pub in_hand : List (ℕ × Option CoreState) → Option CoreState
 in_hand [] = None
 in_hand (slot ∷ slots) = slot.1
 
--- a seat that has noted these entries of its own, on a core that is stopped or not
-abbrev pub noting : SeatView → List Entry → Bool → SeatView
-noting seat entries stopped = record seat {
-  seen = seat.seen ++ entries;
-  mine = seat.mine ++ indexed (length seat.seen) entries;
+-- a seat that has noted an entry of its own, or none, on a core that is stopped or not
+abbrev pub noting : SeatView → Option Entry → Bool → SeatView
+noting seat logged stopped = record seat {
+  seen = seat.seen ++ option_to_list logged;
+  mine = seat.mine ++ indexed (length seat.seen) (option_to_list logged);
   told = seat.told || stopped;
 }
 
--- Note a call: what the core in hand has logged since is seen, and is the seat's own.
+-- Note a call: the core in hand has logged one entry at most since it was taken, which is seen, and is the seat's own.
 abbrev pub Notes : HolderState → ℕ → HolderState → Type 0
-Notes me found after = IfSome (in_hand me.1) (λ core. (entries : List Entry) → core.log ≡ me.0.seen ++ entries → after ≡ (noting me.0 entries core.stopped, me.1))
+Notes me found after =
+    (core : CoreState) × (logged : Option Entry) × (in_hand me.1 ≡ Some core) × (core.log ≡ me.0.seen ++ option_to_list logged) × (after ≡ (noting me.0 logged core.stopped, me.1))
 
 -- a seat that has stopped the core in hand
 abbrev pub stopping : ℕ → SeatView → SeatView
@@ -92,28 +91,22 @@ pub record Answers {A : Type 0} (Finds : CoreState → A → Type 0) (call : Cal
   pub room : IfOk result (λ _. is_full old call ≡ false)
   pub stays : OnErr result (Stays old new)
 
--- Steps of the core in hand, so many and one more at most: each but the last was answered that it did one, and the last wasn't, unless there are
--- so many.
-unfoldable pub StepsInRow : ℕ → CoreState → CoreState → Result Stepped CoreFault → Type 0
-StepsInRow zero old new result = Answers IsStep MakeStep old new result
-StepsInRow (suc more) old new result = (Answers IsStep MakeStep old new result × (result ≢ Ok stepped.Did)) ⊎ ((mid : CoreState) × Answers IsStep MakeStep old mid (Ok stepped.Did) × StepsInRow more mid new result)
-
--- A seat whose turn is open may note these entries, which the core in hand has logged since it was taken.
-pub record Adds (seat : SeatView) (core : CoreState) (entries : List Entry) : Type 0 where
+-- A seat whose turn is open may note this entry, or none, which the core in hand has logged since it was taken.
+pub record Adds (seat : SeatView) (core : CoreState) (logged : Option Entry) : Type 0 where
   pub origin : core.origin ≡ seat.origin
-  pub log : core.log ≡ seat.seen ++ entries
-  pub trace : IsTrace (replay (start seat.origin) seat.seen) entries
-  pub sparse : IsSparse (seat.seen ++ entries)
-  pub rights : own seat.rights entries ≡ entries
-  pub owned : own all_rights entries ≡ entries
+  pub log : core.log ≡ seat.seen ++ option_to_list logged
+  pub trace : IsTrace (replay (start seat.origin) seat.seen) (option_to_list logged)
+  pub sparse : IsSparse (seat.seen ++ option_to_list logged)
+  pub rights : own seat.rights (option_to_list logged) ≡ option_to_list logged
+  pub owned : own all_rights (option_to_list logged) ≡ option_to_list logged
 
--- Its turn is open, it holds the empty slot, and the core may go back with these entries.
+-- Its turn is open, it holds the empty slot, and the core may go back with one entry more at most.
 pub record MayRelease (me : HolderState) (core : CoreState) : Type 0 where
   pub ticket : ℕ
-  pub entries : List Entry
+  pub logged : Option Entry
   pub stage : me.0.stage ≡ Serving ticket core.stopped
   pub slot : me.1 ≡ (0, None) ∷ []
-  pub adds : Adds me.0 core entries
+  pub adds : Adds me.0 core logged
 
 -- what contracts see of a seat of this bus, whose views these are
 abbrev pub seat_of : TableId → List SeatView → SeatView
@@ -133,9 +126,9 @@ pub record MayPass (me : HolderState) : Type 0 where
   pub origin : core.origin ≡ me.0.origin
   pub log : core.log ≡ me.0.seen
 
--- the core was put back and the call noted, and the turn was passed on
+-- the core was put back and the call noted, with one entry at most, and the turn was passed on
 abbrev pub Releases : HolderState → CoreState → HolderState → Type 0
-Releases me core after = (entries : List Entry) → core.log ≡ me.0.seen ++ entries → after ≡ (record (noting me.0 entries core.stopped) { stage = Idle }, [])
+Releases me core after = (logged : Option Entry) × (core.log ≡ me.0.seen ++ option_to_list logged) × (after ≡ (record (noting me.0 logged core.stopped) { stage = Idle }, []))
 
 -- Its turn is open, it holds the empty slot, and the core is as it was taken out.
 pub record MayReturn (me : HolderState) (core : CoreState) : Type 0 where

@@ -5,7 +5,7 @@ use Rattle.tb_lock.specs.Seats.{SeatView}
 use Rattle.tb_lock.specs.Calls.{added, noted}
 use Rattle.tb_lock.specs.Helpers.Plays.{HolderState, IsSeat}
 use Rattle.tb_lock.proofs.CallLemmas.{opened, follows, may_release, has_released, is_seat, seen_as, called}
-use Rattle.tb_lock.proofs.shared.Shared.call.Goals as goal
+use Rattle.tb_lock.proofs.shared.Shared.turn.Goals as goal
 
 pub into_seat-holder-requires : goal.into_seat-holder-requires
 into_seat-holder-requires g c =
