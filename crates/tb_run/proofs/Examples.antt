@@ -39,7 +39,8 @@ use Rattle.tb_lock.specs.Histories.{IsSparse}
 use Rattle.tb_run.specs.Workers.{AreLines, AreTicks, IsNoTicks, cut_count}
 use Rattle.tb_run.specs.Clocks.{is_time, TimeIs}
 use Rattle.tb_run.specs.Dropping.{HasDropped}
-use Rattle.tb_run.specs.Outcomes.{LaneView, LaneRan, LaneStopped, EachLane, OutsideView, outside_of, is_of}
+use Rattle.tb_run.specs.Outcomes.{LaneRan, LaneStopped, is_of}
+use Rattle.tb_run.specs.Views.{LaneView, EachLane, OutsideView, outside_of}
 
 -- an atom that has no times
 abbrev pub plain : Act → Atom
@@ -126,10 +127,10 @@ from_start = record { slot = 0; start = None } ∷ []
 
 -- an end that has given and taken nothing, and has not failed
 abbrev pub idle : LaneView
-idle = record { gave = Some (record { gave = []; over = false }); took = Some []; faults = 0 }
+idle = record { gave = Some (record { gave = []; over = false }); inlet_faults = 0; took = Some []; outlet_faults = 0 }
 
 abbrev pub at_end : List Given → List Taken → ℕ → LaneView
-at_end gives takes faults = record { gave = Some (record { gave = gives; over = true }); took = Some takes; faults = faults }
+at_end gives takes faults = record { gave = Some (record { gave = gives; over = true }); inlet_faults = 0; took = Some takes; outlet_faults = faults }
 
 -- a lane of which a log says nothing
 untouched : (log : List Entry) (lane : ℕ) → inputs log lane ≡ [] → sent log lane ≡ [] → cut_count lane log ≡ 0 → LaneRan log lane idle (at_end [] [] 0)
@@ -341,7 +342,7 @@ is_over (Some view) = view.over
 
 -- an inlet isn't over, and nothing of it was dropped since the bus was down
 pub not-over : (log : List Entry) (lane : ℕ) (gives : List Given) (takes : List Taken) (faults : ℕ) → none_dropped log ≡ true →
-    LaneRan log lane idle (record { gave = Some (record { gave = gives; over = false }); took = Some takes; faults = faults }) → ⊥
+    LaneRan log lane idle (record { gave = Some (record { gave = gives; over = false }); inlet_faults = 0; took = Some takes; outlet_faults = faults }) → ⊥
 not-over log lane gives takes faults none ran = elim ran.end [
   | inl over ↦ let same : ◌≡◌ {A = Bool} false true = ap is_over ran.gave ∙ over in cc
   | inr dropped ↦ not-dropped (is_of lane) log none dropped

@@ -6,6 +6,7 @@ pub mod EndLemmas
 pub mod JoinLemmas
 pub mod LaneLemmas
 pub mod LimitLemmas
+pub mod RefusedLemmas
 pub mod LogLemmas
 pub mod MarkLemmas
 pub mod NothingLemmas
