@@ -1,3 +1,4 @@
 pub mod Parts
 pub mod Completeness
+mod OneLog
 pub mod Summaries

@@ -1,5 +1,5 @@
 -- How `sim` ends, and what was put then.
-use Rattle.std.specs.Prelude.{◌≡◌, ◌⊎◌, ℕ, List, [], Option, Some, None, IsTrue, Result, Ok, Err}
+use Rattle.std.specs.Prelude.{◌≡◌, ◌≤◌, ◌⊎◌, ℕ, List, [], Option, Some, None, IsTrue, Result, Ok, Err, length}
 use Rattle.std.specs.List.{list_all}
 use Rattle.tb_edge.specs.Sinks.{Writes, WritesPrefix}
 use Rattle.tb_body.specs.declared.program.Program.{Program}
@@ -58,6 +58,8 @@ pub record IsSimOf (held : List ℕ → Option (List ℕ)) (request : Request) (
   pub simulated : IsSim (limits_of request.steps (origin_for request program)) (sim_start (start (origin_for request program)) inputs) log last
   pub trace : IsTrace (start (origin_for request program)) log
   pub proper : IsTrue (list_all is_proper_entry log)
+  -- it has at most as many entries as it may have
+  pub within : length log ≤ request.events
 
 -- the whole text of the log of the simulation was put, which ends so
 abbrev pub PutsLog : (List ℕ → Option (List ℕ)) → Request → Option (List ℕ) → Option (List ℕ) → SimEnd → Type 0
