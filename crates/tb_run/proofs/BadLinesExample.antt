@@ -440,7 +440,7 @@ line-refused = inl (record {
   lines = tt;
   input = input.Line 1 line.Bad;
   stands = (refl, refl);
-  no_room = record { core = core_of short early; may = (omega arith, omega arith); origin_is = refl; rest = []; is = refl; full = refl };
+  no_room = record { core = core_of short early; may = ((omega arith, omega arith), tt); origin_is = refl; rest = []; is = refl; full = refl };
 })
 
 pub stopped-run : Runs 36000 before stopped short (core_of short early) Events

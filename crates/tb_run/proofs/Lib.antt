@@ -3,6 +3,7 @@ pub mod ClockLemmas
 pub mod CloseLemmas
 pub mod ComeLemmas
 pub mod EndLemmas
+mod EndedLemmas
 pub mod JoinLemmas
 pub mod LaneLemmas
 pub mod LimitLemmas

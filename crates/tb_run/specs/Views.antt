@@ -1,5 +1,5 @@
 -- What is seen of the outside of a run, before the call and after it.
-use Rattle.std.specs.Prelude.{◌+◌, ℕ, List, [], ◌∷◌, map, Option, ◌⊎◌, ⊤}
+use Rattle.std.specs.Prelude.{◌≡◌, ◌+◌, ℕ, List, [], ◌∷◌, map, Option, Some, ◌⊎◌, ⊤}
 use Rattle.std.specs.declared.alloc.Global.{Global}
 use Rattle.std.specs.declared.dyn_box.DynBox.{DynBox}
 use Rattle.tb_edge.specs.Ends.{InletView, ClockView}
@@ -63,3 +63,13 @@ abbrev pub SomeLane : {A : Type 0} → (ℕ → A → A → Type 0) → ℕ → 
 SomeLane P lane [] news = ⊥
 SomeLane P lane (old ∷ olds) [] = ⊥
 SomeLane P lane (old ∷ olds) (new ∷ news) = P lane old new ⊎ SomeLane P (lane + 1) olds news
+
+-- each of these lanes tells what its inlet gave and what its outlet took
+abbrev pub AllTell : List LaneView → Type 0
+AllTell [] = ⊤
+AllTell (lane ∷ lanes) = ((given : InletView) × (lane.gave ≡ Some given)) × ((taken : List Taken) × (lane.took ≡ Some taken)) × AllTell lanes
+
+-- the lanes and the clock tell what they gave and took
+pub record Tells (outside : OutsideView) : Type 0 where
+  pub lanes : AllTell outside.lanes
+  pub clock : (given : ClockView) × (outside.clock ≡ Some given)

@@ -1,5 +1,5 @@
 -- The bytes that were put determine the log.
-use Rattle.std.proofs.Common.{◌≡◌, ◌≤◌, ◌<◌, ◌^◌, ℕ, Option, Some, None, List, ◌++◌, length, ap, sym, ◌∙◌, subst, arith}
+use Rattle.std.proofs.Common.{◌≡◌, ◌≤◌, ◌<◌, ◌^◌, ℕ, Option, Some, None, List, [], ◌++◌, length, ap, sym, ◌∙◌, subst, arith}
 use Rattle.std.specs.Prelude.{IsTrue}
 use Rattle.std.specs.List.{list_all}
 use Rattle.std.proofs.lemmas.List.{append_cancel_left}
@@ -23,12 +23,15 @@ use Rattle.tb_top.specs.OneLog.{HasPut, PutsAll}
 use Rattle.tb_top.specs.Run.{IsRun, RunRequest}
 use Rattle.tb_top.specs.Sim.{IsSimOf, Request}
 
+taken-in : Option (List ℕ) → List ℕ
+taken-in None = []
+taken-in (Some taken) = taken
+
 -- the text that was put is the bytes that were
 text-put : (bytes text : List ℕ) (old new : Option (List ℕ)) → HasPut bytes old new → Writes old new text → bytes ≡ text
 text-put bytes text None new has writes = absurd has
 text-put bytes text (Some taken) new has writes =
-    let both : ◌≡◌ {A = Option (List ℕ)} (Some (taken ++ bytes)) (Some (taken ++ text)) = sym has ∙ writes in
-    let same : taken ++ bytes ≡ taken ++ text = cc in
+    let same : taken ++ bytes ≡ taken ++ text = ap taken-in (sym has ∙ writes) in
     append_cancel_left taken bytes text same
 
 is-log : (origin : Origin) (log : List Entry) → IsTrace (start origin) log → IsTrue (list_all is_proper_entry log) → length log < 2 ^ 64 → IsLog log
