@@ -52,6 +52,7 @@ use Rattle.tb_log.specs.declared.entry.Entry.TheVariants.{Did, Quiet, Fed, Gave}
 use Rattle.tb_log.specs.declared.entry.Label.{Label}
 use Rattle.tb_log.specs.declared.entry.LabelKind.TheVariants as kind
 use Rattle.tb_log.specs.Lanes.{inputs, sent}
+use Rattle.tb_terms.specs.Names.{is_string}
 use Rattle.tb_terms.specs.Proper.{is_proper}
 use Rattle.tb_log.specs.Proper.{is_proper_entry}
 use Rattle.std.specs.List.{list_all}
@@ -66,7 +67,7 @@ use Rattle.tb_run.specs.declared.ends.RunWhy.TheVariants.{Ended, Crew, Clock, Ev
 use Rattle.tb_run.specs.Outcomes.{LaneRan, LaneStopped, IsDone, Runs}
 use Rattle.tb_run.specs.Refusals.{LaneRefused}
 use Rattle.tb_run.specs.Views.{LaneView, EachLane, outside_of, OutsideView}
-use Rattle.tb_run.proofs.Examples.{plain, root, seen, finish, tool, holding, Leads, stays, did, quiet, came, gave, sparse, from_start, empty-lane, idle, at_end, silent-lanes, one_lane, clock_of, before, afterwards, core_of, no-ticks, not-twice, not-behind, not-quiet, not-made, gave-all, gave-most, unmoved-lanes}
+use Rattle.tb_run.proofs.Examples.{letter-string, plain, root, seen, finish, tool, holding, Leads, stays, did, quiet, came, gave, sparse, from_start, empty-lane, idle, at_end, silent-lanes, one_lane, clock_of, before, afterwards, core_of, no-ticks, not-twice, not-behind, not-quiet, not-made, gave-all, gave-most, unmoved-lanes}
 
 -- the name of the tool, and its command
 abbrev pub t : List ℕ
@@ -204,8 +205,11 @@ departing_text = codes "1 execute 1.1 t(1)\n2 out 1 start \"t\"\n3 quiet\n4 drop
 pub tool-proper : is_proper (tool t 1) ≡ true
 tool-proper = search (rules, term_lemmas)
 
+name-string : is_string t ≡ true
+name-string = letter-string 116 (omega arith) refl
+
 departing-proper : list_all is_proper_entry departing_log ≡ true
-departing-proper = simp tool-proper
+departing-proper = simp (tool-proper, name-string)
 
 departing-text : log_text departing_log ≡ departing_text
 unfolding digits
@@ -431,6 +435,9 @@ clock-stopped = record {
   why = inl refl;
 }
 
+early-proper : list_all is_proper_entry early ≡ true
+early-proper = simp (tool-proper, name-string)
+
 -- the call that hands in the line was refused
 line-refused : LaneRefused short early 1 idle (record { gave = Some (record { gave = given.Long ∷ []; over = false }); inlet_faults = 0; took = Some (taken.Start t ∷ []); outlet_faults = 0 })
 line-refused = inl (record {
@@ -447,7 +454,7 @@ pub stopped-run : Runs 36000 before stopped short (core_of short early) Events
 stopped-run = record {
   origin_is = refl;
   history = record { trace = (opens (λ bus. Leads bus early (waits (live []))) starts).trace; sparse = sparse early refl };
-  proper = simp tool-proper;
+  proper = early-proper;
   within = omega arith;
   outcome = (ap (λ (text : List ℕ). Some text) (sym early-text), (tool-stopped, unmoved-lanes early 2 15 refl), clock-stopped, inl refl, inl (inl line-refused));
   first = (refl, refl);

@@ -288,9 +288,9 @@ module _ (first_law : FirstLaw) (second_law : SecondLaw) (down_law : DownLaw) (e
         }
 
     has_run : (Failed : Type 0) → (tick_end ≡ end.Failed → Rose clock_faults_old clock_faults_new → Failed) → HasRun most Failed last Before After
-    has_run Failed fails = record {
+    has_run Failed failing = record {
       lanes = each_ran seat ended work gave fails took faults last begun CameToEnd (λ it h. h) is is_new os os_new (reads CameToEnd meet_end) (writes CameToEnd meet_end);
-      clock = clock_ran most tick_begun tick_done last clock_old clock_new clock_faults_old clock_faults_new tick_end c.ticks tick_right tick_fresh kept.1.0 Failed (ticker_whole Failed fails tick_end refl came.0);
+      clock = clock_ran most tick_begun tick_done last clock_old clock_new clock_faults_old clock_faults_new tick_end c.ticks tick_right tick_fresh kept.1.0 Failed (ticker_whole Failed failing tick_end refl came.0);
       done = bus_done;
     }
 
@@ -327,12 +327,9 @@ module _ (first_law : FirstLaw) (second_law : SecondLaw) (down_law : DownLaw) (e
           sym (each_length (ReaderWent seat ended work gave fails took faults last begun (λ _. ⊤)) 1 is is_new (reads (λ _. ⊤) all_end))
           ∙ (c.count ∙ each_length (WriterWent seat ended work gave fails took faults last begun (λ _. ⊤)) 1 os os_new (writes (λ _. ⊤) all_end))
 
-      abbrev Refuses : ℕ → LaneView → LaneView → Type 0
-      Refuses = LaneRefused last.origin last.seen
-
-      placed : SomeLane (OfInlet gave fails took faults Refuses) 1 is is_new ⊎ (SomeLane (OfOutlet gave fails took faults Refuses) 1 os os_new ⊎ HadNoRoom MakeStep last.origin last.seen) → WasRefused most Before After last.origin last.seen
-      placed (inl r) = inl (reader_view gave fails took faults Refuses 1 is is_new os os_new c.count count r)
-      placed (inr (inl w)) = inl (writer_view gave fails took faults Refuses 1 is is_new os os_new c.count count w)
+      placed : SomeLane (OfInlet gave fails took faults (LaneRefused last.origin last.seen)) 1 is is_new ⊎ (SomeLane (OfOutlet gave fails took faults (LaneRefused last.origin last.seen)) 1 os os_new ⊎ HadNoRoom MakeStep last.origin last.seen) → WasRefused most Before After last.origin last.seen
+      placed (inl r) = inl (reader_view gave fails took faults (LaneRefused last.origin last.seen) 1 is is_new os os_new c.count count r)
+      placed (inr (inl w)) = inl (writer_view gave fails took faults (LaneRefused last.origin last.seen) 1 is is_new os os_new c.count count w)
       placed (inr (inr s)) = inr (inr (inr s))
 
       others : list_any is_full_end (map ended ys) ≡ true → WasRefused most Before After last.origin last.seen
@@ -340,8 +337,8 @@ module _ (first_law : FirstLaw) (second_law : SecondLaw) (down_law : DownLaw) (e
           let z = zip_went seat ended work gave fails took faults last begun (λ _. ⊤) xs ys zip c.rights new_seats kept.1.1 all_end in
           let s = some_refused seat ended work gave fails took faults last begun (λ _. ⊤) (sym last_origin) is os xs ys c.works z h in
           placed
-          (subst (λ (os' : List O). SomeLane (OfInlet gave fails took faults Refuses) 1 is is_new ⊎ (SomeLane (OfOutlet gave fails took faults Refuses) 1 os os' ⊎ HadNoRoom MakeStep last.origin last.seen)) (sym (c.outlets ∙ s.outlets))
-          (subst (λ (is' : List I). SomeLane (OfInlet gave fails took faults Refuses) 1 is is' ⊎ (SomeLane (OfOutlet gave fails took faults Refuses) 1 os s.os_new ⊎ HadNoRoom MakeStep last.origin last.seen)) (sym (c.inlets ∙ s.inlets)) s.some))
+          (subst (λ (os' : List O). SomeLane (OfInlet gave fails took faults (LaneRefused last.origin last.seen)) 1 is is_new ⊎ (SomeLane (OfOutlet gave fails took faults (LaneRefused last.origin last.seen)) 1 os os' ⊎ HadNoRoom MakeStep last.origin last.seen)) (sym (c.outlets ∙ s.outlets))
+          (subst (λ (is' : List I). SomeLane (OfInlet gave fails took faults (LaneRefused last.origin last.seen)) 1 is is' ⊎ (SomeLane (OfOutlet gave fails took faults (LaneRefused last.origin last.seen)) 1 os s.os_new ⊎ HadNoRoom MakeStep last.origin last.seen)) (sym (c.inlets ∙ s.inlets)) s.some))
 
       go : (it : WorkEnd) → tick_end ≡ it → TickerEndsOf it → (is_full_end it || list_any is_full_end (map ended ys)) ≡ true → WasRefused most Before After last.origin last.seen
       go end.Full is t h =

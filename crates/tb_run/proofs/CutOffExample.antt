@@ -47,6 +47,7 @@ use Rattle.tb_log.specs.declared.entry.Entry.{Entry}
 use Rattle.tb_log.specs.declared.entry.Entry.TheVariants.{Did, Fed, Gave}
 use Rattle.tb_log.specs.declared.entry.LabelKind.TheVariants as kind
 use Rattle.tb_log.specs.Lanes.{handed, sent, is_cut_off}
+use Rattle.tb_terms.specs.Names.{is_string}
 use Rattle.tb_terms.specs.Proper.{is_proper}
 use Rattle.tb_log.specs.Proper.{is_proper_entry}
 use Rattle.std.specs.List.{list_all}
@@ -57,7 +58,7 @@ use Rattle.tb_run.specs.declared.ends.RunWhy.TheVariants.{Ended}
 use Rattle.tb_core.specs.Cores.{CoreState}
 use Rattle.tb_run.specs.Outcomes.{LaneRan, LaneStopped, IsDone, Runs}
 use Rattle.tb_run.specs.Views.{LaneView, EachLane, OutsideView}
-use Rattle.tb_run.proofs.Examples.{plain, root, seen, finish, tool, holding, Leads, stays, did, came, gave, sparse, from_start, empty-lane, idle, at_end, silent-lanes, one_lane, clock_of, before, afterwards, core_of, no-ticks, not-over}
+use Rattle.tb_run.proofs.Examples.{letter-string, plain, root, seen, finish, tool, holding, Leads, stays, did, came, gave, sparse, from_start, empty-lane, idle, at_end, silent-lanes, one_lane, clock_of, before, afterwards, core_of, no-ticks, not-over}
 
 -- the name of the tool, and its command
 abbrev pub t : List ℕ
@@ -281,8 +282,11 @@ do-proper = search (rules, term_lemmas)
 other-proper : is_proper (term.Appl (codes "rec-do") (word (codes "b") ∷ [])) ≡ true
 other-proper = search (rules, term_lemmas)
 
+name-string : is_string t ≡ true
+name-string = letter-string 116 (omega arith) refl
+
 cutting-proper : list_all is_proper_entry cutting_log ≡ true
-cutting-proper = simp (tool-proper, a-proper, b-proper, do-proper, other-proper)
+cutting-proper = simp (tool-proper, a-proper, b-proper, do-proper, other-proper, name-string)
 
 tool-text : term_text (tool t 1) ≡ codes "t(1)"
 unfolding digits

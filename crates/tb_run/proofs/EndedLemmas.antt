@@ -50,15 +50,15 @@ zip_length P (x ∷ xs) [] z = absurd z
 zip_length P (x ∷ xs) (y ∷ ys) z = let rest = zip_length P xs ys z.1 in omega (arith, rest)
 
 -- what was told, or nothing
-given_in : Option InletView → List Given
+abbrev given_in : Option InletView → List Given
 given_in None = []
 given_in (Some view) = view.gave
 
-taken_in : Option (List Taken) → List Taken
+abbrev taken_in : Option (List Taken) → List Taken
 taken_in None = []
 taken_in (Some taken) = taken
 
-ticks_in : Option ClockView → ℕ
+abbrev ticks_in : Option ClockView → ℕ
 ticks_in None = 0
 ticks_in (Some view) = view.ticks
 

@@ -1,7 +1,10 @@
 -- Worked runs, computed from the definitions alone: what they share.
-use Rattle.std.proofs.Common.{length-append, ◌≡◌, ℕ, ◌≤◌, List, [], ◌∷◌, replicate, inl, map, refl, ap, sym, ◌∙◌, subst, arith, false, true, Option, Some, None, Bool, not, ◌&&◌, ◌+◌, ◌-◌, ◌++◌, suc, zero, length, Contains, inr, slice_get}
+use Rattle.std.proofs.Common.{length-append, ◌≡◌, ℕ, ◌≤◌, ◌<◌, IsAscii, lit<, List, [], ◌∷◌, replicate, inl, map, refl, ap, sym, ◌∙◌, subst, arith, false, true, Option, Some, None, Bool, not, ◌&&◌, ◌+◌, ◌-◌, ◌++◌, suc, zero, length, Contains, inr, slice_get}
 use Rattle.std.specs.Prelude.{nat_eq, slice_index_or, filter, ◌⊎◌}
-use Rattle.std.proofs.lemmas.Bool.{and_parts, and_right, eqb-true}
+use Rattle.std.specs.Str.{is_utf8}
+use Rattle.std.proofs.lemmas.Bool.{and_from, and_parts, and_right, eqb-true}
+use Rattle.std.proofs.lemmas.Str.{IsUtf8-from_ascii, is_utf8-from_IsUtf8}
+use Rattle.tb_terms.specs.Names.{is_string, is_text, is_text_byte}
 use Rattle.tb_terms.specs.declared.term.Term.{Term}
 use Rattle.tb_terms.specs.declared.sort.Sort.TheVariants as sort
 use Rattle.tb_func.specs.declared.slot.Slot.{Slot}
@@ -49,6 +52,15 @@ plain a = record { act = a; times = [] }
 -- a process that starts without actuals
 abbrev pub root : ℕ → Root
 root process = record { process = process; actuals = [] }
+
+-- a letter is a string
+one-byte : (byte : ℕ) → byte < 128 → IsAscii (byte ∷ [])
+one-byte byte small zero = small
+one-byte byte small (suc index) = lit< tt
+
+pub letter-string : (byte : ℕ) → byte < 128 → is_text_byte byte ≡ true → is_string (byte ∷ []) ≡ true
+letter-string byte small text =
+    and_from (is_utf8 (byte ∷ [])) (is_text (byte ∷ [])) (is_utf8-from_IsUtf8 (byte ∷ []) (IsUtf8-from_ascii (byte ∷ []) (one-byte byte small))) (and_from (is_text_byte byte) true text refl)
 
 -- a step by itself, seen as this
 abbrev pub seen : LabelKind → ℕ → ℕ → List Term → Label

@@ -59,6 +59,7 @@ use Rattle.tb_log.specs.declared.entry.Entry.{Entry}
 use Rattle.tb_log.specs.declared.entry.Entry.TheVariants.{Did, Quiet, Fed, Gave}
 use Rattle.tb_log.specs.declared.entry.LabelKind.TheVariants as kind
 use Rattle.tb_log.specs.Lanes.{sent}
+use Rattle.tb_terms.specs.Names.{is_string}
 use Rattle.tb_terms.specs.Proper.{is_proper}
 use Rattle.tb_log.specs.Proper.{is_proper_entry}
 use Rattle.std.specs.List.{list_all}
@@ -69,7 +70,7 @@ use Rattle.tb_run.specs.declared.ends.RunWhy.TheVariants.{Ended}
 use Rattle.tb_core.specs.Cores.{CoreState}
 use Rattle.tb_run.specs.Outcomes.{LaneRan, IsDone, Runs}
 use Rattle.tb_run.specs.Views.{LaneView, EachLane}
-use Rattle.tb_run.proofs.Examples.{plain, root, seen, finish, tool, holding, Leads, stays, did, quiet, came, gave, sparse, empty-lane, idle, at_end, silent-lanes, clock_of, before, afterwards, core_of, no-ticks, gave-all}
+use Rattle.tb_run.proofs.Examples.{letter-string, plain, root, seen, finish, tool, holding, Leads, stays, did, quiet, came, gave, sparse, empty-lane, idle, at_end, silent-lanes, clock_of, before, afterwards, core_of, no-ticks, gave-all}
 
 -- the names of the tools, which are their commands
 abbrev pub a : List ℕ
@@ -487,8 +488,14 @@ two-line_proper = search (rules, term_lemmas)
 last-line_proper : is_proper (term.Appl (codes "rec-terminate") (word (codes "finish") ∷ [])) ≡ true
 last-line_proper = search (rules, term_lemmas)
 
+first-string : is_string a ≡ true
+first-string = letter-string 97 (omega arith) refl
+
+second-string : is_string b ≡ true
+second-string = letter-string 98 (omega arith) refl
+
 asking-proper : list_all is_proper_entry asking_log ≡ true
-asking-proper = simp (a-proper, b-proper, one-proper, two-proper, first-proper, second-proper, one-line_proper, two-line_proper, last-line_proper)
+asking-proper = simp (a-proper, b-proper, one-proper, two-proper, first-proper, second-proper, one-line_proper, two-line_proper, last-line_proper, first-string, second-string)
 
 a-text : term_text (tool a 1) ≡ codes "a(1)"
 unfolding digits

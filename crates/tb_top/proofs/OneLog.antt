@@ -23,7 +23,7 @@ use Rattle.tb_top.specs.OneLog.{HasPut, PutsAll}
 use Rattle.tb_top.specs.Run.{IsRun, RunRequest}
 use Rattle.tb_top.specs.Sim.{IsSimOf, Request}
 
-taken-in : Option (List ℕ) → List ℕ
+abbrev taken-in : Option (List ℕ) → List ℕ
 taken-in None = []
 taken-in (Some taken) = taken
 
