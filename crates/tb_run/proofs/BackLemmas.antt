@@ -18,7 +18,7 @@ use Rattle.tb_run.specs.Jobs.{HasRight}
 use Rattle.tb_run.specs.Joining.{JoinsAll}
 use Rattle.tb_run.specs.Logging.{LogDone}
 use Rattle.tb_run.specs.Moving.{works_of, inlets_of, outlets_of}
-use Rattle.tb_run.specs.Outcomes.{LaneView, OutsideView, views}
+use Rattle.tb_run.specs.Views.{LaneView, OutsideView, views}
 use Rattle.tb_run.specs.Parting.{parted, left_after}
 use Rattle.tb_run.specs.Parts.{job_rights, to_tick}
 use Rattle.tb_run.specs.Reasons.{reason_of}
@@ -68,7 +68,7 @@ moved {K} {S} A T L s s' k k' e e' l l' w w' o o' f f' ps pk pe pl pw po pf (a, 
   subst (λ (x : LogEnd). L l' w' o' x) (sym pf) (subst (λ (x : S). L l' w' x f) (sym po) (subst (λ (x : WriterView). L l' x o f) (sym pw) (subst (λ (x : SeatView). L x w o f) (sym pl) d))),
 )
 
-module _ {X I O : Type 0} (seat : X → SeatView) (ended : X → WorkEnd) (work : X → Work I O) (gave : I → Option InletView) (took : O → Option (List Taken)) (faults : O → ℕ)
+module _ {X I O : Type 0} (seat : X → SeatView) (ended : X → WorkEnd) (work : X → Work I O) (gave : I → Option InletView) (fails : I → ℕ) (took : O → Option (List Taken)) (faults : O → ℕ)
     (most : ℕ) (begun : SeatView) (is : List I) (os : List O) (xs ys : List X) (tick_begun tick_done log_begun log_done : SeatView) (tick_end : WorkEnd) (log_end : LogEnd)
     (clock_old clock_new : Option ClockView) (clock_faults_old clock_faults_new : ℕ) (put_old put_new : Option (List ℕ)) (out_faults_old out_faults_new : ℕ) (writer : WriterView)
     (crew_faults_old crew_faults_new : ℕ)
@@ -78,7 +78,7 @@ module _ {X I O : Type 0} (seat : X → SeatView) (ended : X → WorkEnd) (work 
   -- what was done
   abbrev pub Worked : Type 0
   Worked =
-      AllDone (Done seat ended work gave took faults) xs ys
+      AllDone (Done seat ended work gave fails took faults) xs ys
       × TicksBus (λ count. count ≡ most) most tick_begun tick_done clock_old clock_new clock_faults_old clock_faults_new tick_end
       × LogDone log_begun log_done writer put_old put_new out_faults_old out_faults_new log_end
 
@@ -86,14 +86,14 @@ module _ {X I O : Type 0} (seat : X → SeatView) (ended : X → WorkEnd) (work 
   abbrev pub Idle : RunWhy → Type 0
   Idle w = FailsFor w crew_faults_old crew_faults_new × (ys ≡ xs) × (tick_done ≡ tick_begun) × (log_done ≡ log_begun) × (clock_new ≡ clock_old) × (put_new ≡ put_old)
 
-  pub can_gather : MatchOption failed Worked Idle → CanGather seat ended work gave took faults begun.bus ys tick_done log_done
+  pub can_gather : MatchOption failed Worked Idle → CanGather seat ended work gave fails took faults begun.bus ys tick_done log_done
   can_gather m = go failed m
     where
-      go : (o : Option RunWhy) → MatchOption o Worked Idle → CanGather seat ended work gave took faults begun.bus ys tick_done log_done
+      go : (o : Option RunWhy) → MatchOption o Worked Idle → CanGather seat ended work gave fails took faults begun.bus ys tick_done log_done
       go None w =
-          gather_done seat ended work gave took faults begun is os xs ys tick_begun tick_done log_begun log_done first seats works tick_is log_is sixteen_in sixteen_out w.0 w.1.adds.bus
+          gather_done seat ended work gave fails took faults begun is os xs ys tick_begun tick_done log_begun log_done first seats works tick_is log_is sixteen_in sixteen_out w.0 w.1.adds.bus
           (logs_add log_begun log_done writer put_old put_new out_faults_old out_faults_new log_end w.2).bus
-      go (Some y) w = gather_same seat ended work gave took faults begun is os xs ys tick_begun tick_done log_begun log_done first seats works tick_is log_is sixteen_in sixteen_out w.1 w.2 w.3
+      go (Some y) w = gather_same seat ended work gave fails took faults begun is os xs ys tick_begun tick_done log_begun log_done first seats works tick_is log_is sixteen_in sixteen_out w.1 w.2 w.3
 
   -- the counts of faults
   abbrev pub Calm : Type 0
@@ -107,10 +107,10 @@ module _ {X I O : Type 0} (seat : X → SeatView) (ended : X → WorkEnd) (work 
       (joins : JoinsAll (kept_of no_rights (kept_of to_tick (left_after begun job_rights))) (log_done ∷ tick_done ∷ map seat ys) last)
       (inlets : is_new ≡ inlets_of (map work ys)) (outlets : os_new ≡ outlets_of (map work ys)) where
     abbrev pub Before : OutsideView
-    Before = record { lanes = views gave took faults is os; clock = clock_old; clock_faults = clock_faults_old; crew_faults = crew_faults_old; put = put_old; out_faults = out_faults_old }
+    Before = record { lanes = views gave fails took faults is os; clock = clock_old; clock_faults = clock_faults_old; crew_faults = crew_faults_old; put = put_old; out_faults = out_faults_old }
 
     abbrev pub After : OutsideView
-    After = record { lanes = views gave took faults is_new os_new; clock = clock_new; clock_faults = clock_faults_new; crew_faults = crew_faults_new; put = put_new; out_faults = out_faults_new }
+    After = record { lanes = views gave fails took faults is_new os_new; clock = clock_new; clock_faults = clock_faults_new; crew_faults = crew_faults_new; put = put_new; out_faults = out_faults_new }
 
     pub has_come : MatchOption failed Worked Idle → MatchOption failed (it ≡ reason_of tick_end (map ended ys) log_end) (λ w. it ≡ w) → MatchOption failed Calm Uncalled → HasCome most Before After begun last writer it
     has_come m r counts = go failed m r counts
@@ -118,14 +118,14 @@ module _ {X I O : Type 0} (seat : X → SeatView) (ended : X → WorkEnd) (work 
         go : (o : Option RunWhy) → MatchOption o Worked Idle → MatchOption o (it ≡ reason_of tick_end (map ended ys) log_end) (λ w. it ≡ w) → MatchOption o Calm Uncalled → HasCome most Before After begun last writer it
         go None w e k =
             subst (HasCome most Before After begun last writer) (sym e)
-            (come first_law second_law down_law empty_law seat ended work gave took faults most begun last is is_new os os_new xs ys tick_begun tick_done log_begun log_done tick_end log_end
+            (come first_law second_law down_law empty_law seat ended work gave fails took faults most begun last is is_new os os_new xs ys tick_begun tick_done log_begun log_done tick_end log_end
             clock_old clock_new clock_faults_old clock_faults_new put_old put_new out_faults_old out_faults_new writer crew_faults_old crew_faults_new
-            (record { first = first; seats = seats; works = works; rights = rights; done = w.0; tick_is = tick_is; log_is = log_is; ticks = w.1; logs = w.2; joins = joins; inlets = inlets; outlets = outlets; lanes = sixteen_out }) k)
+            (record { first = first; seats = seats; works = works; rights = rights; done = w.0; tick_is = tick_is; log_is = log_is; ticks = w.1; logs = w.2; joins = joins; inlets = inlets; outlets = outlets; lanes = sixteen_out; count = sixteen_in ∙ sym sixteen_out }) k)
         go (Some y) w e k =
             let same_in : is_new ≡ is = inlets ∙ (ap (λ (zs : List X). inlets_of (map work zs)) w.1 ∙ (ap (λ (ws : List (Work I O)). inlets_of ws) works ∙ inlets_works is os)) in
             let same_out : os_new ≡ os = outlets ∙ (ap (λ (zs : List X). outlets_of (map work zs)) w.1 ∙ (ap (λ (ws : List (Work I O)). outlets_of ws) works ∙ outlets_works is os)) in
-            let lanes : views gave took faults is_new os_new ≡ views gave took faults is os =
-            ap (λ (s : List I). views gave took faults s os_new) same_in ∙ ap (λ (s : List O). views gave took faults is s) same_out in
+            let lanes : views gave fails took faults is_new os_new ≡ views gave fails took faults is os =
+            ap (λ (s : List I). views gave fails took faults s os_new) same_in ∙ ap (λ (s : List O). views gave fails took faults is s) same_out in
             let seats' : map seat ys ≡ parted begun job_rights = ap (λ (zs : List X). map seat zs) w.1 ∙ seats in
             subst (HasCome most Before After begun last writer) (sym e)
             (uncrewed most Before After begun last tick_done log_done (map seat ys) writer y first seats' (w.2 ∙ tick_is) (w.3 ∙ log_is) joins lanes w.4 w.5 w.0 k.0 k.1)

@@ -52,6 +52,10 @@ use Rattle.tb_log.specs.declared.entry.Entry.TheVariants.{Did, Quiet, Fed, Gave}
 use Rattle.tb_log.specs.declared.entry.Label.{Label}
 use Rattle.tb_log.specs.declared.entry.LabelKind.TheVariants as kind
 use Rattle.tb_log.specs.Lanes.{inputs, sent}
+use Rattle.tb_terms.specs.Names.{is_string}
+use Rattle.tb_terms.specs.Proper.{is_proper}
+use Rattle.tb_log.specs.Proper.{is_proper_entry}
+use Rattle.std.specs.List.{list_all}
 use Rattle.tb_log.specs.LogText.{log_text}
 use Rattle.tb_log.specs.Limits.{log_size}
 use Rattle.tb_edge.specs.Faults.{Rose}
@@ -60,8 +64,10 @@ use Rattle.tb_run.specs.Workers.{AreLines}
 use Rattle.tb_run.specs.Clocks.{ClockRan, ClockStopped, TimeIs}
 use Rattle.tb_run.specs.declared.ends.RunWhy.{RunWhy}
 use Rattle.tb_run.specs.declared.ends.RunWhy.TheVariants.{Ended, Crew, Clock, Events, NoMemory}
-use Rattle.tb_run.specs.Outcomes.{LaneView, LaneRan, LaneStopped, EachLane, outside_of, IsDone, OutsideView, Runs}
-use Rattle.tb_run.proofs.Examples.{plain, root, seen, finish, tool, holding, Leads, stays, did, quiet, came, gave, sparse, from_start, empty-lane, idle, at_end, silent-lanes, one_lane, clock_of, before, afterwards, core_of, no-ticks, not-twice, not-behind, not-quiet, not-made, gave-all, gave-most, unmoved-lanes}
+use Rattle.tb_run.specs.Outcomes.{LaneRan, LaneStopped, IsDone, Runs}
+use Rattle.tb_run.specs.Refusals.{LaneRefused}
+use Rattle.tb_run.specs.Views.{LaneView, EachLane, outside_of, OutsideView}
+use Rattle.tb_run.proofs.Examples.{letter-string, plain, root, seen, finish, tool, holding, Leads, stays, did, quiet, came, gave, sparse, from_start, empty-lane, idle, at_end, silent-lanes, one_lane, clock_of, before, afterwards, core_of, no-ticks, not-twice, not-behind, not-quiet, not-made, gave-all, gave-most, unmoved-lanes}
 
 -- the name of the tool, and its command
 abbrev pub t : List ℕ
@@ -196,7 +202,16 @@ tool-text = search (rules, term_lemmas)
 abbrev pub departing_text : List ℕ
 departing_text = codes "1 execute 1.1 t(1)\n2 out 1 start \"t\"\n3 quiet\n4 drop bad line 1 ?\n5 drop bad line 1 ?\n6 drop bad line 1 ?\n7 gone 1\n8 out 1 end\n9 rec-disconnect 1.2 t(1)\n10 finish\n11 drop down noticks\n"
 
-pub departing-text : log_text departing_log ≡ departing_text
+pub tool-proper : is_proper (tool t 1) ≡ true
+tool-proper = search (rules, term_lemmas)
+
+name-string : is_string t ≡ true
+name-string = letter-string 116 (omega arith) refl
+
+departing-proper : list_all is_proper_entry departing_log ≡ true
+departing-proper = simp (tool-proper, name-string)
+
+departing-text : log_text departing_log ≡ departing_text
 unfolding digits
 departing-text = simp tool-text
 
@@ -268,6 +283,7 @@ pub departing-run : Runs 36000 before departed departing back Ended
 departing-run = record {
   origin_is = refl;
   history = record { trace = departing-leads.trace; sparse = departing-sparse };
+  proper = departing-proper;
   within = omega arith;
   outcome = (ap (λ (text : List ℕ). Some text) (sym departing-text), lanes-ran, clock-ran, departing-done);
   first = (refl, refl, refl);
@@ -382,14 +398,14 @@ short = record departing { limit = 2 }
 
 abbrev pub stopped : OutsideView
 stopped = outside_of
-    (one_lane (record { gave = Some (record { gave = given.Long ∷ []; over = false }); took = Some (taken.Start t ∷ []); faults = 0 }) idle)
+    (one_lane (record { gave = Some (record { gave = given.Long ∷ []; over = false }); inlet_faults = 0; took = Some (taken.Start t ∷ []); outlet_faults = 0 }) idle)
     (clock_of false) 0 0 (Some (codes "1 execute 1.1 t(1)\n2 out 1 start \"t\"\n")) 0
 
 early-text : log_text early ≡ codes "1 execute 1.1 t(1)\n2 out 1 start \"t\"\n"
 unfolding digits
 early-text = simp tool-text
 
-tool-stopped : LaneStopped early 1 idle (record { gave = Some (record { gave = given.Long ∷ []; over = false }); took = Some (taken.Start t ∷ []); faults = 0 })
+tool-stopped : LaneStopped early 1 idle (record { gave = Some (record { gave = given.Long ∷ []; over = false }); inlet_faults = 0; took = Some (taken.Start t ∷ []); outlet_faults = 0 })
 tool-stopped = record {
   fed = [];
   last = given.Long ∷ [];
@@ -419,11 +435,27 @@ clock-stopped = record {
   why = inl refl;
 }
 
+early-proper : list_all is_proper_entry early ≡ true
+early-proper = simp (tool-proper, name-string)
+
+-- the call that hands in the line was refused
+line-refused : LaneRefused short early 1 idle (record { gave = Some (record { gave = given.Long ∷ []; over = false }); inlet_faults = 0; took = Some (taken.Start t ∷ []); outlet_faults = 0 })
+line-refused = inl (record {
+  fed = [];
+  last = given.Long;
+  gave = refl;
+  lines = tt;
+  input = input.Line 1 line.Bad;
+  stands = (refl, refl);
+  no_room = record { core = core_of short early; may = ((omega arith, omega arith), tt); origin_is = refl; rest = []; is = refl; full = refl };
+})
+
 pub stopped-run : Runs 36000 before stopped short (core_of short early) Events
 stopped-run = record {
   origin_is = refl;
   history = record { trace = (opens (λ bus. Leads bus early (waits (live []))) starts).trace; sparse = sparse early refl };
+  proper = early-proper;
   within = omega arith;
-  outcome = (ap (λ (text : List ℕ). Some text) (sym early-text), (tool-stopped, unmoved-lanes early 2 15 refl), clock-stopped, inl refl);
+  outcome = (ap (λ (text : List ℕ). Some text) (sym early-text), (tool-stopped, unmoved-lanes early 2 15 refl), clock-stopped, inl refl, inl (inl line-refused));
   first = (refl, refl);
 }

@@ -1,9 +1,12 @@
 -- What a run comes to once its bus is closed and the rest of the log was put.
 use Rattle.std.proofs.Common.{◌≡◌, ◌≤◌, ◌<◌, ◌+◌, ◌⊎◌, ℕ, List, [], ◌∷◌, ◌++◌, length, drop, Option, refl, sym, ap, ◌∙◌, subst, inl, inr, append_assoc, length-append, arith}
+use Rattle.std.specs.Prelude.{IsTrue}
+use Rattle.std.specs.List.{list_all}
 use Rattle.tb_edge.specs.Ends.{ClockView, and_ticked}
 use Rattle.tb_edge.specs.Faults.{Rose}
 use Rattle.tb_edge.specs.Sinks.{Writes, WritesPrefix, and_more}
 use Rattle.tb_log.specs.LogText.{log_text, log_text_from}
+use Rattle.tb_log.specs.Proper.{is_proper_entry}
 use Rattle.tb_log.specs.declared.entry.Entry.{Entry}
 use Rattle.tb_bus.specs.Buses.{start}
 use Rattle.tb_bus.specs.declared.origin.Origin.{Origin}
@@ -13,10 +16,11 @@ use Rattle.tb_lock.specs.Calls.{Closes}
 use Rattle.tb_write.specs.Writers.{WriterView}
 use Rattle.tb_run.specs.declared.ends.RunWhy.{RunWhy}
 use Rattle.tb_run.specs.declared.ends.RunWhy.TheVariants as why
-use Rattle.tb_run.specs.Outcomes.{LaneView, OutsideView, IsRunOf, RunOutcome, Runs, TellsFirst}
+use Rattle.tb_run.specs.Outcomes.{IsRunOf, RunOutcome, Runs, TellsFirst}
+use Rattle.tb_run.specs.Views.{LaneView, OutsideView}
 use Rattle.tb_run.specs.Running.{ComesTo, GoesToRest, HasCome, HasRun, IsAfterRest, IsPut, IsStopped, PutsRest, rest_text}
 use Rattle.tb_run.specs.Seats.{SeesTrace}
-use Rattle.tb_run.proofs.LimitLemmas.{LaterLaw, full_at_limit}
+use Rattle.tb_run.proofs.LimitLemmas.{LaterLaw, full_at_limit, was_full}
 use Rattle.tb_run.proofs.LogLemmas.{drop_after, more_on, text_append}
 use Rattle.tb_run.proofs.ComeLemmas.{prefix_of_put}
 
@@ -59,7 +63,8 @@ module _ (seen : List Entry) (writer : WriterView) (put_old put_mid put_new : Op
   rose_since (inr top) = inr top
 
 module _ (law : LaterLaw) (most : ℕ) (old : OutsideView) (lanes : List LaneView) (clock : Option ClockView) (clock_faults crew_faults : ℕ) (put_mid put_new : Option (List ℕ)) (faults_mid faults_new : ℕ)
-    (begun seat : SeatView) (writer : WriterView) (core : CoreState) (closes : Closes seat core) (within : length core.log ≤ core.origin.limit) where
+    (begun seat : SeatView) (writer : WriterView) (core : CoreState) (closes : Closes seat core) (within : length core.log ≤ core.origin.limit)
+    (proper : IsTrue (list_all is_proper_entry core.log)) where
   abbrev Mid : OutsideView
   Mid = record { lanes = lanes; clock = clock; clock_faults = clock_faults; crew_faults = crew_faults; put = put_mid; out_faults = faults_mid }
 
@@ -99,7 +104,7 @@ module _ (law : LaterLaw) (most : ℕ) (old : OutsideView) (lanes : List LaneVie
   outcome why.Events it sees c (inr e) = by_sink it c.0 c.1 e
   outcome why.Events it sees c (inl e) =
       subst (RunOutcome most old New Known) (sym e.0)
-      (all_put seat.seen writer old.put put_mid put_new old.out_faults faults_mid faults_new c.0 e.1, c.1.lanes, c.1.clock, full_at_limit law seat sees.trace c.2 few)
+      (all_put seat.seen writer old.put put_mid put_new old.out_faults faults_mid faults_new c.0 e.1, c.1.lanes, c.1.clock, full_at_limit law seat.origin seat.seen sees.trace (was_full most old Mid seat.origin seat.seen c.2) few, c.2)
   outcome why.Out it sees c e =
       subst (RunOutcome most old New Known) (sym e.0) (
         subst (λ (o : Option (List ℕ)). WritesPrefix old.put o (log_text seat.seen)) (sym e.1) c.0,
@@ -133,6 +138,7 @@ module _ (law : LaterLaw) (most : ℕ) (old : OutsideView) (lanes : List LaneVie
   closed w it come after = record {
     origin_is = closes.origin ∙ come.origin;
     history = known (λ (k : CoreState). IsRunOf k.origin k.log) (record { trace = come.sees.trace; sparse = come.sees.sparse });
+    proper = proper;
     within = within;
     outcome = known (λ (k : CoreState). RunOutcome most old New k it)
         (outcome w it come.sees come.outcome (subst (λ (l : List Entry). IsAfterRest l writer w it put_mid put_new faults_mid faults_new) closes.log after));

@@ -1,5 +1,5 @@
 -- What a run comes to before the bus is closed, from what its workers have done and how their seats were joined.
-use Rattle.std.proofs.Common.{◌≡◌, ◌+◌, ◌⊎◌, ℕ, List, [], ◌∷◌, ◌++◌, map, length, Bool, true, false, ◌||◌, nat_lt, Option, None, if◌then◌else◌, refl, sym, ap, ◌∙◌, subst, inl, inr, append_assoc, append-nil, arith}
+use Rattle.std.proofs.Common.{◌≡◌, ◌+◌, ◌⊎◌, ℕ, List, [], ◌∷◌, ◌++◌, map, length, Bool, true, false, ◌||◌, nat_lt, Option, None, if◌then◌else◌, refl, sym, ap, ◌∙◌, subst, inl, inr, ⊎_elim, append_assoc, append-nil, arith}
 use Rattle.std.specs.Prelude.{⊤}
 use Rattle.std.specs.List.{All, AllZip, list_any, fold}
 use Rattle.tb_edge.specs.Ends.{InletView, ClockView}
@@ -9,13 +9,12 @@ use Rattle.tb_edge.specs.Jobs.{AllDone}
 use Rattle.tb_edge.specs.declared.given.Taken.{Taken}
 use Rattle.tb_log.specs.LogText.{log_text, log_text_from}
 use Rattle.tb_log.specs.declared.entry.Entry.{Entry}
-use Rattle.tb_log.specs.declared.entry.Input.TheVariants as input
 use Rattle.tb_log.specs.declared.entry.Out.{Out}
 use Rattle.tb_tools.specs.Finding.{next_out}
 use Rattle.tb_bus.specs.Buses.{start}
 use Rattle.tb_bus.specs.Traces.{IsTrace}
 use Rattle.tb_bus.specs.declared.origin.Origin.{Origin}
-use Rattle.tb_core.specs.Cores.{CoreState, HandIn}
+use Rattle.tb_core.specs.Cores.{CoreState, MakeStep}
 use Rattle.tb_lock.specs.declared.rights.Rights.{Rights}
 use Rattle.tb_lock.specs.Rights.{Ticks as ToTick, all_rights, no_rights, has, united, without}
 use Rattle.tb_lock.specs.Seats.{SeatView, first_seat, kept_of, handed_on, joined, most_seats}
@@ -31,24 +30,24 @@ use Rattle.tb_run.specs.Jobs.{HasRight}
 use Rattle.tb_run.specs.Joining.{JoinsAll}
 use Rattle.tb_run.specs.Logging.{LogDone, Logged}
 use Rattle.tb_run.specs.Moving.{works_of, inlets_of, outlets_of}
-use Rattle.tb_run.specs.Outcomes.{EachLane, OutsideView, IsDone, TellsFirst, views}
+use Rattle.tb_run.specs.Outcomes.{IsDone, TellsFirst}
+use Rattle.tb_run.specs.Refusals.{HadNoRoom, LaneRefused, WasRefused}
+use Rattle.tb_run.specs.Views.{EachLane, LaneView, OutsideView, SomeLane, views}
 use Rattle.tb_run.specs.Parting.{parted, left_after}
 use Rattle.tb_run.specs.Parts.{job_rights, to_tick, rights_left}
 use Rattle.tb_run.specs.Reasons.{reason_of, of_log, of_clock, is_no_memory, is_full_end}
 use Rattle.tb_run.specs.Running.{ComesTo, HasCome, HasRun, IsPut, IsStopped, PutsPrefix}
-use Rattle.tb_run.specs.Seats.{Adds, SeesTrace, WasFull, FoundFull}
+use Rattle.tb_run.specs.Seats.{Adds, SeesTrace}
 use Rattle.tb_run.specs.Workers.{ClockFaults, TicksBus, TickerEnds, StepperEnds, WriterEnds, bus_of}
-use Rattle.tb_run.proofs.ClockLemmas.{clock_ran, clock_stopped, TickerWhole}
+use Rattle.tb_run.proofs.ClockLemmas.{clock_ran, clock_refused, clock_stopped, TickerWhole}
 use Rattle.tb_run.proofs.EndLemmas.{CameToEnd, AllCameToEnd, NoneRefused, ends_of, came_to_end}
 use Rattle.tb_run.proofs.JoinLemmas.{AllKept, FirstLaw, SecondLaw, own_each, rights_of_all, room_of_all}
-use Rattle.tb_run.proofs.SeatLemmas.{was_full}
-use Rattle.tb_run.proofs.LimitLemmas.{full_kept}
 use Rattle.tb_run.proofs.LogLemmas.{text_append}
 use Rattle.tb_run.proofs.MarkLemmas.{Worked, seats_of}
 use Rattle.tb_run.proofs.PartLemmas.{left_rights, left_room, left_bus, left_origin, left_seen, left_called, parted_new, parted_rights, parted_rooms, job_count, rights_unite, rooms_unite}
-use Rattle.tb_run.proofs.RunLemmas.{EachNew, EachEnd, EachSees, Done, AllWent, ReaderWent, WriterWent, StepperWent, any_end, sees_nothing, zip_went, all_went, each_stopped, each_ran, each_sees, some_full, rights_stay, rooms_stay, worked_of, seats_worked, ends_worked, came_each, lane_in}
+use Rattle.tb_run.proofs.RunLemmas.{EachNew, EachEnd, EachSees, Done, AllWent, ReaderWent, WriterWent, StepperWent, any_end, sees_nothing, zip_went, all_went, each_stopped, each_ran, each_sees, some_refused, rights_stay, rooms_stay, worked_of, seats_worked, ends_worked, came_each, lane_in}
 use Rattle.tb_run.proofs.TraceLemmas.{DownLaw, EmptyLaw, down_to_end, empty_to_end}
-use Rattle.tb_run.proofs.WentLemmas.{zip_done}
+use Rattle.tb_run.proofs.WentLemmas.{OfInlet, OfOutlet, each_length, reader_view, writer_view, zip_done}
 
 -- the origin and the bus of the last seat are those of the first
 pub origin_of_all : (seat last : SeatView) (others : List SeatView) → JoinsAll seat others last → last.origin ≡ seat.origin
@@ -95,14 +94,14 @@ left_false true b e = e
 left_false false b e = refl
 
 -- What the functions of a run say of its parts.
-pub record Course {X I O : Type 0} (seat : X → SeatView) (ended : X → WorkEnd) (work : X → Work I O) (gave : I → Option InletView) (took : O → Option (List Taken)) (faults : O → ℕ)
+pub record Course {X I O : Type 0} (seat : X → SeatView) (ended : X → WorkEnd) (work : X → Work I O) (gave : I → Option InletView) (fails : I → ℕ) (took : O → Option (List Taken)) (faults : O → ℕ)
     (most : ℕ) (begun last : SeatView) (is is_new : List I) (os os_new : List O) (xs ys : List X) (tick_begun tick_done log_begun log_done : SeatView) (tick_end : WorkEnd) (log_end : LogEnd)
     (clock_old clock_new : Option ClockView) (clock_faults_old clock_faults_new : ℕ) (put_old put_new : Option (List ℕ)) (out_faults_old out_faults_new : ℕ) (writer : WriterView) : Type 0 where
   pub first : begun ≡ first_seat begun.bus begun.origin
   pub seats : map seat xs ≡ parted begun job_rights
   pub works : map work xs ≡ works_of is os
   pub rights : All (λ (x : X). HasRight (seat x) (work x)) xs
-  pub done : AllDone (Done seat ended work gave took faults) xs ys
+  pub done : AllDone (Done seat ended work gave fails took faults) xs ys
   pub tick_is : tick_begun ≡ handed_on to_tick (left_after begun job_rights)
   pub log_is : log_begun ≡ handed_on no_rights (kept_of to_tick (left_after begun job_rights))
   pub ticks : TicksBus (λ count. count ≡ most) most tick_begun tick_done clock_old clock_new clock_faults_old clock_faults_new tick_end
@@ -111,6 +110,7 @@ pub record Course {X I O : Type 0} (seat : X → SeatView) (ended : X → WorkEn
   pub inlets : is_new ≡ inlets_of (map work ys)
   pub outlets : os_new ≡ outlets_of (map work ys)
   pub lanes : length os ≡ 16
+  pub count : length is ≡ length os
 
 pub logs_add : (begun done : SeatView) (writer : WriterView) (put_old put_new : Option (List ℕ)) (f g : ℕ) (it : LogEnd) → LogDone begun done writer put_old put_new f g it → Adds begun done []
 logs_add begun done writer put_old put_new f g log.Over d = d.adds
@@ -118,11 +118,11 @@ logs_add begun done writer put_old put_new f g log.Out d = d.0.adds
 logs_add begun done writer put_old put_new f g log.NoMemory d = d.0.adds
 
 module _ (first_law : FirstLaw) (second_law : SecondLaw) (down_law : DownLaw) (empty_law : EmptyLaw)
-    {X I O : Type 0} (seat : X → SeatView) (ended : X → WorkEnd) (work : X → Work I O) (gave : I → Option InletView) (took : O → Option (List Taken)) (faults : O → ℕ)
+    {X I O : Type 0} (seat : X → SeatView) (ended : X → WorkEnd) (work : X → Work I O) (gave : I → Option InletView) (fails : I → ℕ) (took : O → Option (List Taken)) (faults : O → ℕ)
     (most : ℕ) (begun last : SeatView) (is is_new : List I) (os os_new : List O) (xs ys : List X) (tick_begun tick_done log_begun log_done : SeatView) (tick_end : WorkEnd) (log_end : LogEnd)
     (clock_old clock_new : Option ClockView) (clock_faults_old clock_faults_new : ℕ) (put_old put_new : Option (List ℕ)) (out_faults_old out_faults_new : ℕ) (writer : WriterView)
     (crew_faults_old crew_faults_new : ℕ)
-    (c : Course seat ended work gave took faults most begun last is is_new os os_new xs ys tick_begun tick_done log_begun log_done tick_end log_end clock_old clock_new clock_faults_old clock_faults_new put_old put_new out_faults_old out_faults_new writer) where
+    (c : Course seat ended work gave fails took faults most begun last is is_new os os_new xs ys tick_begun tick_done log_begun log_done tick_end log_end clock_old clock_new clock_faults_old clock_faults_new put_old put_new out_faults_old out_faults_new writer) where
   abbrev Rest : SeatView
   Rest = left_after begun job_rights
 
@@ -133,10 +133,10 @@ module _ (first_law : FirstLaw) (second_law : SecondLaw) (down_law : DownLaw) (e
   Others = log_done ∷ tick_done ∷ map seat ys
 
   abbrev Before : OutsideView
-  Before = record { lanes = views gave took faults is os; clock = clock_old; clock_faults = clock_faults_old; crew_faults = crew_faults_old; put = put_old; out_faults = out_faults_old }
+  Before = record { lanes = views gave fails took faults is os; clock = clock_old; clock_faults = clock_faults_old; crew_faults = crew_faults_old; put = put_old; out_faults = out_faults_old }
 
   abbrev After : OutsideView
-  After = record { lanes = views gave took faults is_new os_new; clock = clock_new; clock_faults = clock_faults_new; crew_faults = crew_faults_new; put = put_new; out_faults = out_faults_new }
+  After = record { lanes = views gave fails took faults is_new os_new; clock = clock_new; clock_faults = clock_faults_new; crew_faults = crew_faults_new; put = put_new; out_faults = out_faults_new }
 
   begun_seen : begun.seen ≡ []
   begun_seen = ap (λ (s : SeatView). s.seen) c.first
@@ -144,8 +144,8 @@ module _ (first_law : FirstLaw) (second_law : SecondLaw) (down_law : DownLaw) (e
   begun_called : begun.called ≡ false
   begun_called = ap (λ (s : SeatView). s.called) c.first
 
-  zip : AllZip (Done seat ended work gave took faults) xs ys
-  zip = zip_done (Done seat ended work gave took faults) xs ys c.done
+  zip : AllZip (Done seat ended work gave fails took faults) xs ys
+  zip = zip_done (Done seat ended work gave fails took faults) xs ys c.done
 
   new_seats : EachNew begun (map seat xs)
   new_seats = subst (EachNew begun) (sym c.seats) (parted_new begun begun job_rights refl refl begun_seen)
@@ -179,7 +179,7 @@ module _ (first_law : FirstLaw) (second_law : SecondLaw) (down_law : DownLaw) (e
   all_see = (
     log_adds.origin ∙ log_origin,
     log_adds.trace (sees_nothing log_begun log_fresh),
-    (c.ticks.adds.origin ∙ tick_origin, c.ticks.adds.trace (sees_nothing tick_begun tick_fresh), each_sees seat ended work gave took faults begun xs ys zip new_seats),
+    (c.ticks.adds.origin ∙ tick_origin, c.ticks.adds.trace (sees_nothing tick_begun tick_fresh), each_sees seat ended work gave fails took faults begun xs ys zip new_seats),
   )
 
   sees : SeesTrace last
@@ -190,7 +190,7 @@ module _ (first_law : FirstLaw) (second_law : SecondLaw) (down_law : DownLaw) (e
       rights_of_all Mine last Others c.joins
       ∙ (ap (λ (r : Rights). fold united Mine.rights (r ∷ tick_done.rights ∷ map (λ (s : SeatView). s.rights) (map seat ys))) (log_adds.rights ∙ ap (λ (s : SeatView). s.rights) c.log_is)
       ∙ (ap (λ (r : Rights). fold united Mine.rights (no_rights ∷ r ∷ map (λ (s : SeatView). s.rights) (map seat ys))) (c.ticks.adds.rights ∙ ap (λ (s : SeatView). s.rights) c.tick_is)
-      ∙ (ap (λ (rs : List Rights). fold united Mine.rights (no_rights ∷ to_tick ∷ rs)) (rights_stay seat ended work gave took faults xs ys zip ∙ (ap (map (λ (s : SeatView). s.rights)) c.seats ∙ parted_rights begun job_rights))
+      ∙ (ap (λ (rs : List Rights). fold united Mine.rights (no_rights ∷ to_tick ∷ rs)) (rights_stay seat ended work gave fails took faults xs ys zip ∙ (ap (map (λ (s : SeatView). s.rights)) c.seats ∙ parted_rights begun job_rights))
       ∙ (ap (λ (r : Rights). fold united (without (without r to_tick) no_rights) (no_rights ∷ to_tick ∷ job_rights)) e ∙ unite))))
 
   rights : last.rights ≡ all_rights
@@ -202,7 +202,7 @@ module _ (first_law : FirstLaw) (second_law : SecondLaw) (down_law : DownLaw) (e
       room_of_all Mine last Others c.joins
       ∙ (ap (λ (n : ℕ). fold (λ (a b : ℕ). a + b) Mine.room (n ∷ tick_done.room ∷ map (λ (s : SeatView). s.room) (map seat ys))) (log_adds.room ∙ ap (λ (s : SeatView). s.room) c.log_is)
       ∙ (ap (λ (n : ℕ). fold (λ (a b : ℕ). a + b) Mine.room (1 ∷ n ∷ map (λ (s : SeatView). s.room) (map seat ys))) (c.ticks.adds.room ∙ ap (λ (s : SeatView). s.room) c.tick_is)
-      ∙ (ap (λ (ns : List ℕ). fold (λ (a b : ℕ). a + b) Mine.room (1 ∷ 1 ∷ ns)) (rooms_stay seat ended work gave took faults xs ys zip ∙ (ap (map (λ (s : SeatView). s.room)) c.seats ∙ parted_rooms begun job_rights))
+      ∙ (ap (λ (ns : List ℕ). fold (λ (a b : ℕ). a + b) Mine.room (1 ∷ 1 ∷ ns)) (rooms_stay seat ended work gave fails took faults xs ys zip ∙ (ap (map (λ (s : SeatView). s.room)) c.seats ∙ parted_rooms begun job_rights))
       ∙ (ap (λ (n : ℕ). fold (λ (a b : ℕ). a + b) n (1 ∷ 1 ∷ map (λ _. 1) job_rights)) left ∙ rooms_unite))))
 
   -- the clock
@@ -211,18 +211,18 @@ module _ (first_law : FirstLaw) (second_law : SecondLaw) (down_law : DownLaw) (e
 
   -- the lanes, of workers that all meet this
   module _ (P : WorkEnd → Type 0) (meet : EachEnd P (map ended ys)) where
-    went : AllWent seat ended work gave took faults last begun P is os ys
-    went = all_went seat ended work gave took faults last begun P is os xs ys c.works (zip_went seat ended work gave took faults last begun P xs ys zip c.rights new_seats kept.1.1 meet)
+    went : AllWent seat ended work gave fails took faults last begun P is os ys
+    went = all_went seat ended work gave fails took faults last begun P is os xs ys c.works (zip_went seat ended work gave fails took faults last begun P xs ys zip c.rights new_seats kept.1.1 meet)
 
-    reads : EachLane (ReaderWent seat ended work gave took faults last begun P) 1 is is_new
-    reads = subst (EachLane (ReaderWent seat ended work gave took faults last begun P) 1 is) (sym (c.inlets ∙ went.inlets)) went.reads
+    reads : EachLane (ReaderWent seat ended work gave fails took faults last begun P) 1 is is_new
+    reads = subst (EachLane (ReaderWent seat ended work gave fails took faults last begun P) 1 is) (sym (c.inlets ∙ went.inlets)) went.reads
 
-    writes : EachLane (WriterWent seat ended work gave took faults last begun P) 1 os os_new
-    writes = subst (EachLane (WriterWent seat ended work gave took faults last begun P) 1 os) (sym (c.outlets ∙ went.outlets)) went.writes
+    writes : EachLane (WriterWent seat ended work gave fails took faults last begun P) 1 os os_new
+    writes = subst (EachLane (WriterWent seat ended work gave fails took faults last begun P) 1 os) (sym (c.outlets ∙ went.outlets)) went.writes
 
   stopped : IsStopped most last.seen Before After
   stopped = record {
-    lanes = each_stopped seat ended work gave took faults last begun (λ _. ⊤) is is_new os os_new (reads (λ _. ⊤) (any_end (map ended ys))) (writes (λ _. ⊤) (any_end (map ended ys)));
+    lanes = each_stopped seat ended work gave fails took faults last begun (λ _. ⊤) is is_new os os_new (reads (λ _. ⊤) (any_end (map ended ys))) (writes (λ _. ⊤) (any_end (map ended ys)));
     clock = clock_stopped most tick_begun tick_done last clock_old clock_new clock_faults_old clock_faults_new tick_end c.ticks tick_right tick_fresh kept.1.0;
   }
 
@@ -231,13 +231,13 @@ module _ (first_law : FirstLaw) (second_law : SecondLaw) (down_law : DownLaw) (e
   tick_worked = record { begun = tick_begun; done = tick_done; end = tick_end; fresh = ap (λ (s : SeatView). s.called) c.tick_is; marks = c.ticks.marks }
 
   abbrev all_worked : List Worked
-  all_worked = record { begun = tick_begun; done = tick_done; end = tick_end; fresh = ap (λ (s : SeatView). s.called) c.tick_is; marks = c.ticks.marks } ∷ worked_of seat ended work gave took faults begun xs ys zip new_seats
+  all_worked = record { begun = tick_begun; done = tick_done; end = tick_end; fresh = ap (λ (s : SeatView). s.called) c.tick_is; marks = c.ticks.marks } ∷ worked_of seat ended work gave fails took faults begun xs ys zip new_seats
 
   module _ (logged : Logged log_begun log_done writer put_old put_new out_faults_old out_faults_new) (none : NoneRefused (tick_end ∷ map ended ys)) (core : CoreState) (closes : Closes last core) where
     came : AllCameToEnd all_worked
     came =
-        let same : seats_of all_worked ≡ tick_done ∷ map seat ys = ap (λ (ss : List SeatView). tick_done ∷ ss) (seats_worked seat ended work gave took faults begun xs ys zip new_seats) in
-        let ends : ends_of all_worked ≡ tick_end ∷ map ended ys = ap (λ (es : List WorkEnd). tick_end ∷ es) (ends_worked seat ended work gave took faults begun xs ys zip new_seats) in
+        let same : seats_of all_worked ≡ tick_done ∷ map seat ys = ap (λ (ss : List SeatView). tick_done ∷ ss) (seats_worked seat ended work gave fails took faults begun xs ys zip new_seats) in
+        let ends : ends_of all_worked ≡ tick_end ∷ map ended ys = ap (λ (es : List WorkEnd). tick_end ∷ es) (ends_worked seat ended work gave fails took faults begun xs ys zip new_seats) in
         let log_called : log_done.called ≡ false = logged.called ∙ ap (λ (s : SeatView). s.called) c.log_is in
         let mine_called : Mine.called ≡ false = left_called begun job_rights ∙ begun_called in
         let called : c.joins.0.called ≡ false =
@@ -245,7 +245,7 @@ module _ (first_law : FirstLaw) (second_law : SecondLaw) (down_law : DownLaw) (e
         came_to_end c.joins.0 last core all_worked (subst (λ (ss : List SeatView). JoinsAll c.joins.0 ss last) (sym same) c.joins.2) closes called (subst NoneRefused (sym ends) none)
 
     abbrev meet_end : EachEnd CameToEnd (map ended ys)
-    meet_end = came_each seat ended work gave took faults begun xs ys zip new_seats came.1
+    meet_end = came_each seat ended work gave fails took faults begun xs ys zip new_seats came.1
 
     ticker_whole : (Failed : Type 0) → (tick_end ≡ end.Failed → Rose clock_faults_old clock_faults_new → Failed) → (it : WorkEnd) → tick_end ≡ it → CameToEnd it →
         TickerWhole most tick_begun tick_done last clock_old clock_new clock_faults_old clock_faults_new tick_end c.ticks tick_right tick_fresh kept.1.0 Failed it
@@ -256,7 +256,7 @@ module _ (first_law : FirstLaw) (second_law : SecondLaw) (down_law : DownLaw) (e
     ticker_whole Failed fails end.Full e h = absurd h
     ticker_whole Failed fails end.NoMemory e h = absurd h
 
-    down_of : (stepper : StepperWent seat ended work gave took faults last begun CameToEnd) (it : WorkEnd) → CameToEnd it → StepperEnds stepper.begun stepper.done it → (bus_of stepper.done).down ≡ true
+    down_of : (stepper : StepperWent seat ended work gave fails took faults last begun CameToEnd) (it : WorkEnd) → CameToEnd it → StepperEnds stepper.begun stepper.done it → (bus_of stepper.done).down ≡ true
     down_of stepper end.Over h e = absurd e
     down_of stepper end.Down h e = e
     down_of stepper end.Failed h e = absurd e
@@ -281,16 +281,16 @@ module _ (first_law : FirstLaw) (second_law : SecondLaw) (down_law : DownLaw) (e
         record {
           down = down_to_end w.stepper.done last (same_origin w.stepper.done w.stepper.origin) sees.trace w.stepper.kept down_law (down_of w.stepper w.stepper.it w.stepper.meets w.stepper.steps.ends);
           empty = λ lane is.
-              let at = lane_in (WriterWent seat ended work gave took faults last begun CameToEnd) 1 os os_new (writes CameToEnd meet_end) lane is.0 (let n = c.lanes in let high = is.1 in omega arith) in
+              let at = lane_in (WriterWent seat ended work gave fails took faults last begun CameToEnd) 1 os os_new (writes CameToEnd meet_end) lane is.0 (let n = c.lanes in let high = is.1 in omega arith) in
               let s = at.2 in
               let e = empty_of lane s.writes.last s.begun s.done s.it s.meets s.writes.ends in
               empty_to_end s.done last (same_origin s.done s.origin) sees.trace s.kept empty_law lane is e.1 e.0;
         }
 
     has_run : (Failed : Type 0) → (tick_end ≡ end.Failed → Rose clock_faults_old clock_faults_new → Failed) → HasRun most Failed last Before After
-    has_run Failed fails = record {
-      lanes = each_ran seat ended work gave took faults last begun CameToEnd (λ it h. h) is is_new os os_new (reads CameToEnd meet_end) (writes CameToEnd meet_end);
-      clock = clock_ran most tick_begun tick_done last clock_old clock_new clock_faults_old clock_faults_new tick_end c.ticks tick_right tick_fresh kept.1.0 Failed (ticker_whole Failed fails tick_end refl came.0);
+    has_run Failed failing = record {
+      lanes = each_ran seat ended work gave fails took faults last begun CameToEnd (λ it h. h) is is_new os os_new (reads CameToEnd meet_end) (writes CameToEnd meet_end);
+      clock = clock_ran most tick_begun tick_done last clock_old clock_new clock_faults_old clock_faults_new tick_end c.ticks tick_right tick_fresh kept.1.0 Failed (ticker_whole Failed failing tick_end refl came.0);
       done = bus_done;
     }
 
@@ -315,25 +315,40 @@ module _ (first_law : FirstLaw) (second_law : SecondLaw) (down_law : DownLaw) (e
   abbrev TickerEndsOf : WorkEnd → Type 0
   TickerEndsOf it = TickerEnds (λ count. count ≡ most) c.ticks.tail c.ticks.last tick_begun tick_done (length c.ticks.first) clock_faults_old clock_faults_new c.ticks.ended it
 
-  full_one : list_any is_full_end (tick_end ∷ map ended ys) ≡ true → WasFull last
-  full_one e = go tick_end c.ticks.ends e
+  -- a call was refused since the log was full
+  refused_one : list_any is_full_end (tick_end ∷ map ended ys) ≡ true → WasRefused most Before After last.origin last.seen
+  refused_one e = go tick_end refl c.ticks.ends e
     where
-      others : list_any is_full_end (map ended ys) ≡ true → WasFull last
+      all_end : EachEnd (λ _. ⊤) (map ended ys)
+      all_end = any_end (map ended ys)
+
+      count : length is_new ≡ length os_new
+      count =
+          sym (each_length (ReaderWent seat ended work gave fails took faults last begun (λ _. ⊤)) 1 is is_new (reads (λ _. ⊤) all_end))
+          ∙ (c.count ∙ each_length (WriterWent seat ended work gave fails took faults last begun (λ _. ⊤)) 1 os os_new (writes (λ _. ⊤) all_end))
+
+      placed : SomeLane (OfInlet gave fails took faults (LaneRefused last.origin last.seen)) 1 is is_new ⊎ (SomeLane (OfOutlet gave fails took faults (LaneRefused last.origin last.seen)) 1 os os_new ⊎ HadNoRoom MakeStep last.origin last.seen) → WasRefused most Before After last.origin last.seen
+      placed (inl r) = inl (reader_view gave fails took faults (LaneRefused last.origin last.seen) 1 is is_new os os_new c.count count r)
+      placed (inr (inl w)) = inl (writer_view gave fails took faults (LaneRefused last.origin last.seen) 1 is is_new os os_new c.count count w)
+      placed (inr (inr s)) = inr (inr (inr s))
+
+      others : list_any is_full_end (map ended ys) ≡ true → WasRefused most Before After last.origin last.seen
       others h =
-          let s = some_full seat ended work gave took faults last begun xs ys zip new_seats kept.1.1 h in
-          full_kept s.0 last (s.2 ∙ sym last_origin) s.3 s.1
+          let z = zip_went seat ended work gave fails took faults last begun (λ _. ⊤) xs ys zip c.rights new_seats kept.1.1 all_end in
+          let s = some_refused seat ended work gave fails took faults last begun (λ _. ⊤) (sym last_origin) is os xs ys c.works z h in
+          placed
+          (subst (λ (os' : List O). SomeLane (OfInlet gave fails took faults (LaneRefused last.origin last.seen)) 1 is is_new ⊎ (SomeLane (OfOutlet gave fails took faults (LaneRefused last.origin last.seen)) 1 os os' ⊎ HadNoRoom MakeStep last.origin last.seen)) (sym (c.outlets ∙ s.outlets))
+          (subst (λ (is' : List I). SomeLane (OfInlet gave fails took faults (LaneRefused last.origin last.seen)) 1 is is' ⊎ (SomeLane (OfOutlet gave fails took faults (LaneRefused last.origin last.seen)) 1 os s.os_new ⊎ HadNoRoom MakeStep last.origin last.seen)) (sym (c.inlets ∙ s.inlets)) s.some))
 
-      tick_full : ((c.ticks.last ≡ 1) × FoundFull (HandIn input.Tick) tick_begun tick_done) ⊎ ((c.ticks.last ≡ 0) × FoundFull (HandIn input.NoTicks) tick_begun tick_done) → WasFull tick_done
-      tick_full (inl f) = was_full (HandIn input.Tick) tick_begun tick_done f.1
-      tick_full (inr f) = was_full (HandIn input.NoTicks) tick_begun tick_done f.1
-
-      go : (it : WorkEnd) → TickerEndsOf it → (is_full_end it || list_any is_full_end (map ended ys)) ≡ true → WasFull last
-      go end.Full t h = full_kept tick_done last (c.ticks.adds.origin ∙ (tick_origin ∙ sym last_origin)) kept.1.0 (tick_full t.1)
-      go end.Over t h = others h
-      go end.Down t h = others h
-      go end.Stopped t h = others h
-      go end.Failed t h = others h
-      go end.NoMemory t h = others h
+      go : (it : WorkEnd) → tick_end ≡ it → TickerEndsOf it → (is_full_end it || list_any is_full_end (map ended ys)) ≡ true → WasRefused most Before After last.origin last.seen
+      go end.Full is t h =
+          ⊎_elim (λ tick. inr (inl tick)) (λ none. inr (inr (inl none)))
+          (clock_refused most tick_begun tick_done last clock_old clock_new clock_faults_old clock_faults_new tick_end c.ticks tick_right tick_fresh kept.1.0 is (c.ticks.adds.origin ∙ (tick_origin ∙ sym last_origin)) t)
+      go end.Over is t h = others h
+      go end.Down is t h = others h
+      go end.Stopped is t h = others h
+      go end.Failed is t h = others h
+      go end.NoMemory is t h = others h
 
   of_tick : Logged log_begun log_done writer put_old put_new out_faults_old out_faults_new → NoneRefused (tick_end ∷ map ended ys) → (it : WorkEnd) → tick_end ≡ it → TickerEndsOf it → ComesTo most Before After last writer (of_clock it)
   of_tick l none end.Over e t = (is_put l, stopped, λ core closes. has_run l none core closes ⊥ (λ f r. let no : end.Over ≡ end.Failed = sym e ∙ f in absurd (let b : ⊥ = cc in b)))
@@ -345,7 +360,7 @@ module _ (first_law : FirstLaw) (second_law : SecondLaw) (down_law : DownLaw) (e
 
   outcome : (m f : Bool) → list_any is_no_memory (tick_end ∷ map ended ys) ≡ m → list_any is_full_end (tick_end ∷ map ended ys) ≡ f → (it : LogEnd) → LogDone log_begun log_done writer put_old put_new out_faults_old out_faults_new it → ComesTo most Before After last writer (of_log m f tick_end it)
   outcome true f me fe log.Over d = (puts_some d, stopped)
-  outcome false true me fe log.Over d = (is_put d, stopped, full_one fe)
+  outcome false true me fe log.Over d = (is_put d, stopped, refused_one fe)
   outcome false false me fe log.Over d = of_tick d (me, fe) tick_end refl c.ticks.ends
   outcome true f me fe log.Out d = (puts_part d.1, stopped)
   outcome false f me fe log.Out d = (puts_part d.1, stopped, d.2)

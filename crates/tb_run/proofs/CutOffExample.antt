@@ -47,13 +47,18 @@ use Rattle.tb_log.specs.declared.entry.Entry.{Entry}
 use Rattle.tb_log.specs.declared.entry.Entry.TheVariants.{Did, Fed, Gave}
 use Rattle.tb_log.specs.declared.entry.LabelKind.TheVariants as kind
 use Rattle.tb_log.specs.Lanes.{handed, sent, is_cut_off}
+use Rattle.tb_terms.specs.Names.{is_string}
+use Rattle.tb_terms.specs.Proper.{is_proper}
+use Rattle.tb_log.specs.Proper.{is_proper_entry}
+use Rattle.std.specs.List.{list_all}
 use Rattle.tb_log.specs.LogText.{log_text}
 use Rattle.tb_lock.specs.Histories.{IsSparse}
 use Rattle.tb_run.specs.Clocks.{ClockRan}
 use Rattle.tb_run.specs.declared.ends.RunWhy.TheVariants.{Ended}
 use Rattle.tb_core.specs.Cores.{CoreState}
-use Rattle.tb_run.specs.Outcomes.{LaneView, LaneRan, LaneStopped, EachLane, IsDone, OutsideView, Runs}
-use Rattle.tb_run.proofs.Examples.{plain, root, seen, finish, tool, holding, Leads, stays, did, came, gave, sparse, from_start, empty-lane, idle, at_end, silent-lanes, one_lane, clock_of, before, afterwards, core_of, no-ticks, not-over}
+use Rattle.tb_run.specs.Outcomes.{LaneRan, LaneStopped, IsDone, Runs}
+use Rattle.tb_run.specs.Views.{LaneView, EachLane, OutsideView}
+use Rattle.tb_run.proofs.Examples.{letter-string, plain, root, seen, finish, tool, holding, Leads, stays, did, came, gave, sparse, from_start, empty-lane, idle, at_end, silent-lanes, one_lane, clock_of, before, afterwards, core_of, no-ticks, not-over}
 
 -- the name of the tool, and its command
 abbrev pub t : List ℕ
@@ -232,7 +237,7 @@ taken-all = ap (λ (text : List ℕ). taken.Start t ∷ taken.Line text ∷ take
 
 -- the inlet gave its end, and wasn't read to the end, since the bus was down; the outlet failed once
 abbrev pub tool_end : LaneView
-tool_end = record { gave = Some (record { gave = given.End ∷ []; over = false }); took = Some taken_by_tool; faults = 1 }
+tool_end = record { gave = Some (record { gave = given.End ∷ []; over = false }); inlet_faults = 0; took = Some taken_by_tool; outlet_faults = 1 }
 
 pub tool-ran : LaneRan cutting_log 1 idle tool_end
 tool-ran = record {
@@ -261,6 +266,27 @@ clock-ran = record {
 
 abbrev pub cutting_text : List ℕ
 cutting_text = codes "1 execute 1.1 t(1)\n2 out 1 start \"t\"\n3 snd-do 1.2 t(1),a\n4 out 1 rec-do(a)\n5 snd-do 1.3 t(1),b\n6 out 1 rec-do(b)\n7 cut 1\n8 out 1 end\n9 rec-disconnect 1.4 t(1)\n10 finish\n11 drop down gone 1\n12 drop down noticks\n"
+
+tool-proper : is_proper (tool t 1) ≡ true
+tool-proper = search (rules, term_lemmas)
+
+a-proper : is_proper (word (codes "a")) ≡ true
+a-proper = search (rules, term_lemmas)
+
+b-proper : is_proper (word (codes "b")) ≡ true
+b-proper = search (rules, term_lemmas)
+
+do-proper : is_proper (term.Appl (codes "rec-do") (word (codes "a") ∷ [])) ≡ true
+do-proper = search (rules, term_lemmas)
+
+other-proper : is_proper (term.Appl (codes "rec-do") (word (codes "b") ∷ [])) ≡ true
+other-proper = search (rules, term_lemmas)
+
+name-string : is_string t ≡ true
+name-string = letter-string 116 (omega arith) refl
+
+cutting-proper : list_all is_proper_entry cutting_log ≡ true
+cutting-proper = simp (tool-proper, a-proper, b-proper, do-proper, other-proper, name-string)
 
 tool-text : term_text (tool t 1) ≡ codes "t(1)"
 unfolding digits
@@ -291,6 +317,7 @@ pub cutting-run : Runs 36000 before (after_cut tool_end) cutting back Ended
 cutting-run = record {
   origin_is = refl;
   history = record { trace = cutting-leads.trace; sparse = cutting-sparse };
+  proper = cutting-proper;
   within = omega arith;
   outcome = (ap (λ (text : List ℕ). Some text) (sym put-text), lanes-ran, clock-ran, cutting-done);
   first = (refl, refl, refl);
@@ -306,7 +333,7 @@ none-uncut runs =
     let same : ◌≡◌ {A = Taken} (taken.Line (codes "rec-do(b)")) taken.End = cc in cc
 
 -- its count of faults didn't rise
-pub none-unfailed : Runs 36000 before (after_cut (record tool_end { faults = 0 })) cutting back Ended → ⊥
+pub none-unfailed : Runs 36000 before (after_cut (record tool_end { outlet_faults = 0 })) cutting back Ended → ⊥
 none-unfailed runs = elim runs.outcome.1.0.cuts [ inl rose ↦ absurd (omega (arith, rose)) | inr last ↦ absurd (omega (arith, last)) ]
 
 -- the log doesn't say that the line was cut off
@@ -330,7 +357,7 @@ none-unsaid ran =
     let same : ◌≡◌ {A = Taken} taken.End (taken.Line (codes "rec-do(b)")) = cc in cc
 
 -- the inlet isn't over, and the log has nothing of it that was dropped since the bus was down
-pub none-unread : (gives : List Given) (takes : List Taken) (faults : ℕ) → LaneRan before_gone 1 idle (record { gave = Some (record { gave = gives; over = false }); took = Some takes; faults = faults }) → ⊥
+pub none-unread : (gives : List Given) (takes : List Taken) (faults : ℕ) → LaneRan before_gone 1 idle (record { gave = Some (record { gave = gives; over = false }); inlet_faults = 0; took = Some takes; outlet_faults = faults }) → ⊥
 none-unread gives takes faults = not-over before_gone 1 gives takes faults refl
 
 -- a run that was stopped before it was said that the line was cut off: the outlet lacks the line
@@ -338,7 +365,7 @@ abbrev cut_short : List Entry
 cut_short = Gave 1 (out.Start t) ∷ Gave 1 (do_line (codes "a")) ∷ Gave 1 (do_line (codes "b")) ∷ []
 
 abbrev short_end : List Taken → ℕ → LaneView
-short_end takes faults = record { gave = Some (record { gave = []; over = false }); took = Some takes; faults = faults }
+short_end takes faults = record { gave = Some (record { gave = []; over = false }); inlet_faults = 0; took = Some takes; outlet_faults = faults }
 
 tool-stopped : LaneStopped cut_short 1 idle (short_end (taken.Start t ∷ taken.Line (codes "rec-do(a)") ∷ []) 1)
 tool-stopped = record {

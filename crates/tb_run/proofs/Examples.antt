@@ -1,7 +1,10 @@
 -- Worked runs, computed from the definitions alone: what they share.
-use Rattle.std.proofs.Common.{length-append, ◌≡◌, ℕ, ◌≤◌, List, [], ◌∷◌, replicate, inl, map, refl, ap, sym, ◌∙◌, subst, arith, false, true, Option, Some, None, Bool, not, ◌&&◌, ◌+◌, ◌-◌, ◌++◌, suc, zero, length, Contains, inr, slice_get}
+use Rattle.std.proofs.Common.{length-append, ◌≡◌, ℕ, ◌≤◌, ◌<◌, IsAscii, lit<, List, [], ◌∷◌, replicate, inl, map, refl, ap, sym, ◌∙◌, subst, arith, false, true, Option, Some, None, Bool, not, ◌&&◌, ◌+◌, ◌-◌, ◌++◌, suc, zero, length, Contains, inr, slice_get}
 use Rattle.std.specs.Prelude.{nat_eq, slice_index_or, filter, ◌⊎◌}
-use Rattle.std.proofs.lemmas.Bool.{and_parts, and_right, eqb-true}
+use Rattle.std.specs.Str.{is_utf8}
+use Rattle.std.proofs.lemmas.Bool.{and_from, and_parts, and_right, eqb-true}
+use Rattle.std.proofs.lemmas.Str.{IsUtf8-from_ascii, is_utf8-from_IsUtf8}
+use Rattle.tb_terms.specs.Names.{is_string, is_text, is_text_byte}
 use Rattle.tb_terms.specs.declared.term.Term.{Term}
 use Rattle.tb_terms.specs.declared.sort.Sort.TheVariants as sort
 use Rattle.tb_func.specs.declared.slot.Slot.{Slot}
@@ -39,7 +42,8 @@ use Rattle.tb_lock.specs.Histories.{IsSparse}
 use Rattle.tb_run.specs.Workers.{AreLines, AreTicks, IsNoTicks, cut_count}
 use Rattle.tb_run.specs.Clocks.{is_time, TimeIs}
 use Rattle.tb_run.specs.Dropping.{HasDropped}
-use Rattle.tb_run.specs.Outcomes.{LaneView, LaneRan, LaneStopped, EachLane, OutsideView, outside_of, is_of}
+use Rattle.tb_run.specs.Outcomes.{LaneRan, LaneStopped, is_of}
+use Rattle.tb_run.specs.Views.{LaneView, EachLane, OutsideView, outside_of}
 
 -- an atom that has no times
 abbrev pub plain : Act → Atom
@@ -48,6 +52,15 @@ plain a = record { act = a; times = [] }
 -- a process that starts without actuals
 abbrev pub root : ℕ → Root
 root process = record { process = process; actuals = [] }
+
+-- a letter is a string
+one-byte : (byte : ℕ) → byte < 128 → IsAscii (byte ∷ [])
+one-byte byte small zero = small
+one-byte byte small (suc index) = lit< tt
+
+pub letter-string : (byte : ℕ) → byte < 128 → is_text_byte byte ≡ true → is_string (byte ∷ []) ≡ true
+letter-string byte small text =
+    and_from (is_utf8 (byte ∷ [])) (is_text (byte ∷ [])) (is_utf8-from_IsUtf8 (byte ∷ []) (IsUtf8-from_ascii (byte ∷ []) (one-byte byte small))) (and_from (is_text_byte byte) true text refl)
 
 -- a step by itself, seen as this
 abbrev pub seen : LabelKind → ℕ → ℕ → List Term → Label
@@ -126,10 +139,10 @@ from_start = record { slot = 0; start = None } ∷ []
 
 -- an end that has given and taken nothing, and has not failed
 abbrev pub idle : LaneView
-idle = record { gave = Some (record { gave = []; over = false }); took = Some []; faults = 0 }
+idle = record { gave = Some (record { gave = []; over = false }); inlet_faults = 0; took = Some []; outlet_faults = 0 }
 
 abbrev pub at_end : List Given → List Taken → ℕ → LaneView
-at_end gives takes faults = record { gave = Some (record { gave = gives; over = true }); took = Some takes; faults = faults }
+at_end gives takes faults = record { gave = Some (record { gave = gives; over = true }); inlet_faults = 0; took = Some takes; outlet_faults = faults }
 
 -- a lane of which a log says nothing
 untouched : (log : List Entry) (lane : ℕ) → inputs log lane ≡ [] → sent log lane ≡ [] → cut_count lane log ≡ 0 → LaneRan log lane idle (at_end [] [] 0)
@@ -341,7 +354,7 @@ is_over (Some view) = view.over
 
 -- an inlet isn't over, and nothing of it was dropped since the bus was down
 pub not-over : (log : List Entry) (lane : ℕ) (gives : List Given) (takes : List Taken) (faults : ℕ) → none_dropped log ≡ true →
-    LaneRan log lane idle (record { gave = Some (record { gave = gives; over = false }); took = Some takes; faults = faults }) → ⊥
+    LaneRan log lane idle (record { gave = Some (record { gave = gives; over = false }); inlet_faults = 0; took = Some takes; outlet_faults = faults }) → ⊥
 not-over log lane gives takes faults none ran = elim ran.end [
   | inl over ↦ let same : ◌≡◌ {A = Bool} false true = ap is_over ran.gave ∙ over in cc
   | inr dropped ↦ not-dropped (is_of lane) log none dropped

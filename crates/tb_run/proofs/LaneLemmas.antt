@@ -17,7 +17,8 @@ use Rattle.tb_run.specs.declared.ends.WorkEnd.{WorkEnd}
 use Rattle.tb_run.specs.declared.ends.WorkEnd.TheVariants as end
 use Rattle.tb_run.specs.Seats.{Adds}
 use Rattle.tb_run.specs.Workers.{ReadsLane, WritesLane, AreLines, CountsTo, cut_count, ends_over, was_over, MayLack, ReaderEnds}
-use Rattle.tb_run.specs.Outcomes.{LaneView, LaneRan, LaneStopped, is_of}
+use Rattle.tb_run.specs.Outcomes.{LaneRan, LaneStopped, is_of}
+use Rattle.tb_run.specs.Views.{LaneView}
 use Rattle.tb_run.specs.Dropping.{HasDropped}
 use Rattle.tb_run.proofs.JoinLemmas.{Kept}
 use Rattle.tb_run.proofs.Projections.{inputs_own, sent_own, cut_count_own}
@@ -47,7 +48,7 @@ IsWhole end.NoMemory = ⊥
 
 module _ (lane : ℕ) (last : SeatView) (old new : LaneView) (read_begun read_done write_begun write_done : SeatView) (read_end write_end : WorkEnd)
     (read : ReadsLane lane read_begun read_done old.gave new.gave read_end)
-    (write : WritesLane lane write_begun write_done old.took new.took old.faults new.faults write_end) where
+    (write : WritesLane lane write_begun write_done old.took new.took old.outlet_faults new.outlet_faults write_end) where
   nothing_lacks : {A : Type 0} (it : WorkEnd) (xs : List A) → IsWhole it → MayLack it (length xs) → xs ≡ []
   nothing_lacks end.Over xs w e = nil_from_length xs e
   nothing_lacks end.Down xs w e = nil_from_length xs e
@@ -82,7 +83,7 @@ module _ (lane : ℕ) (last : SeatView) (old new : LaneView) (read_begun read_do
         lines = subst (AreLines lane read.fed) (sym gave) read.lines;
         end = read_to_end read_end read_whole read.ends read_kept;
         took = write.told ∙ ap (λ (s : List Out). and_taken old.took (map taken_of s)) (sym went);
-        cuts = subst (CountsTo old.faults new.faults) (sym cut) write.counts.cuts;
+        cuts = subst (CountsTo old.outlet_faults new.outlet_faults) (sym cut) write.counts.cuts;
       }
 
   at_most_one : {A : Type 0} (it : WorkEnd) (xs : List A) → MayLack it (length xs) → length xs ≤ 1
@@ -122,5 +123,5 @@ module _ (lane : ℕ) (last : SeatView) (old new : LaneView) (read_begun read_do
         took = write.told;
         one_lost = at_most_one write_end write.last write.lacks;
         failed = write.rose;
-        cuts = subst (CountsTo old.faults new.faults) (sym cut) write.counts.cuts;
+        cuts = subst (CountsTo old.outlet_faults new.outlet_faults) (sym cut) write.counts.cuts;
       }

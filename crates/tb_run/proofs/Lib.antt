@@ -3,9 +3,11 @@ pub mod ClockLemmas
 pub mod CloseLemmas
 pub mod ComeLemmas
 pub mod EndLemmas
+mod EndedLemmas
 pub mod JoinLemmas
 pub mod LaneLemmas
 pub mod LimitLemmas
+pub mod RefusedLemmas
 pub mod LogLemmas
 pub mod MarkLemmas
 pub mod NothingLemmas

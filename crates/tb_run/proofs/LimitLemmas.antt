@@ -1,39 +1,49 @@
--- A worker that was refused a call since the log was full shows that the log is at its limit.
-use Rattle.std.proofs.Common.{◌≡◌, ◌≤◌, List, ◌++◌, length, true, sym, ap, ◌∙◌, subst, append_assoc}
+-- A run whose call was refused since the log was full shows that the log is at its limit.
+use Rattle.std.proofs.Common.{◌≡◌, ◌≤◌, ◌⊎◌, ◌+◌, ℕ, List, [], ◌∷◌, ◌++◌, length, true, sym, ap, ◌∙◌, subst, inl, inr}
 use Rattle.tb_log.specs.declared.entry.Entry.{Entry}
+use Rattle.tb_log.specs.declared.entry.Input.TheVariants as input
 use Rattle.tb_bus.specs.Buses.{start}
 use Rattle.tb_bus.specs.Commands.{largest_command}
 use Rattle.tb_bus.specs.Traces.{IsTrace}
 use Rattle.tb_bus.specs.declared.origin.Origin.{Origin}
-use Rattle.tb_core.specs.Cores.{CoreState, Call, is_full}
+use Rattle.tb_core.specs.Cores.{CoreState, Call, HandIn, HandOut, MakeStep, is_full}
 use Rattle.tb_core.specs.Full.{IsAtLimit, MayCall}
 use Rattle.tb_lock.specs.Seats.{SeatView}
-use Rattle.tb_run.specs.Seats.{WasFull}
-use Rattle.tb_run.proofs.JoinLemmas.{Kept}
+use Rattle.tb_run.specs.Refusals.{HadNoRoom, LaneRefused, WasRefused}
+use Rattle.tb_run.specs.Views.{LaneView, OutsideView, SomeLane}
 use Rattle.tb_run.proofs.TraceLemmas.{trace_before}
 
--- the last seat has seen what a worker has that was refused
-pub full_kept : (done last : SeatView) → done.origin ≡ last.origin → Kept last done → WasFull done → WasFull last
-full_kept done last same kept full = record {
-  core = full.core;
-  call = full.call;
-  rest = full.rest ++ kept.rest;
-  may = full.may;
-  origin = full.origin ∙ same;
-  seen = kept.begins ∙ (ap (λ (s : List Entry). s ++ kept.rest) full.seen ∙ append_assoc full.core.log full.rest kept.rest);
-  full = full.full;
-}
+-- at some place of a log there was no room for what some call would have logged
+abbrev pub WasFull : Origin → List Entry → Type 0
+WasFull origin log = (call : Call) × HadNoRoom call origin log
+
+lane_full : (origin : Origin) (log : List Entry) (lane : ℕ) (old new : LaneView) → LaneRefused origin log lane old new → WasFull origin log
+lane_full origin log lane old new (inl r) = (HandIn r.input, r.no_room)
+lane_full origin log lane old new (inr (inl r)) = (HandOut lane, r)
+lane_full origin log lane old new (inr (inr r)) = (HandIn (input.Cut lane), r.no_room)
+
+lanes_full : (origin : Origin) (log : List Entry) (lane : ℕ) (olds news : List LaneView) → SomeLane (LaneRefused origin log) lane olds news → WasFull origin log
+lanes_full origin log lane [] news s = absurd s
+lanes_full origin log lane (old ∷ olds) [] s = absurd s
+lanes_full origin log lane (old ∷ olds) (new ∷ news) (inl r) = lane_full origin log lane old new r
+lanes_full origin log lane (old ∷ olds) (new ∷ news) (inr s) = lanes_full origin log (lane + 1) olds news s
+
+pub was_full : (most : ℕ) (old new : OutsideView) (origin : Origin) (log : List Entry) → WasRefused most old new origin log → WasFull origin log
+was_full most old new origin log (inl s) = lanes_full origin log 1 old.lanes new.lanes s
+was_full most old new origin log (inr (inl r)) = (HandIn input.Tick, r.no_room)
+was_full most old new origin log (inr (inr (inl r))) = (HandIn input.NoTicks, r.no_room)
+was_full most old new origin log (inr (inr (inr r))) = (MakeStep, r)
 
 -- the law of a core whose log was full
 abbrev pub LaterLaw : Type 0
 LaterLaw = (core : CoreState) (call : Call) (more : List Entry) → IsTrace (start core.origin) core.log → MayCall call → is_full core call ≡ true → length (core.log ++ more) ≤ core.origin.limit →
     IsAtLimit (largest_command core.origin) core.origin (core.log ++ more)
 
-pub full_at_limit : LaterLaw → (seat : SeatView) → IsTrace (start seat.origin) seat.seen → WasFull seat → length seat.seen ≤ seat.origin.limit → IsAtLimit (largest_command seat.origin) seat.origin seat.seen
-full_at_limit law seat trace full within =
-    let to : full.core.origin ≡ seat.origin = full.origin in
-    let all : IsTrace (start seat.origin) (full.core.log ++ full.rest) = subst (IsTrace (start seat.origin)) full.seen trace in
-    let before : IsTrace (start full.core.origin) full.core.log = subst (λ (o : Origin). IsTrace (start o) full.core.log) (sym to) (trace_before (start seat.origin) full.core.log full.rest all) in
-    let few : length (full.core.log ++ full.rest) ≤ full.core.origin.limit = subst (λ (o : Origin). length (full.core.log ++ full.rest) ≤ o.limit) (sym to) (subst (λ (s : List Entry). length s ≤ seat.origin.limit) full.seen within) in
-    let here : IsAtLimit (largest_command full.core.origin) full.core.origin (full.core.log ++ full.rest) = law full.core full.call full.rest before full.may full.full few in
-    subst (IsAtLimit (largest_command seat.origin) seat.origin) (sym full.seen) (subst (λ (o : Origin). IsAtLimit (largest_command o) o (full.core.log ++ full.rest)) to here)
+pub full_at_limit : LaterLaw → (origin : Origin) (log : List Entry) → IsTrace (start origin) log → WasFull origin log → length log ≤ origin.limit → IsAtLimit (largest_command origin) origin log
+full_at_limit law origin log trace (call, full) within =
+    let to : full.core.origin ≡ origin = full.origin_is in
+    let all : IsTrace (start origin) (full.core.log ++ full.rest) = subst (IsTrace (start origin)) full.is trace in
+    let before : IsTrace (start full.core.origin) full.core.log = subst (λ (o : Origin). IsTrace (start o) full.core.log) (sym to) (trace_before (start origin) full.core.log full.rest all) in
+    let few : length (full.core.log ++ full.rest) ≤ full.core.origin.limit = subst (λ (o : Origin). length (full.core.log ++ full.rest) ≤ o.limit) (sym to) (subst (λ (s : List Entry). length s ≤ origin.limit) full.is within) in
+    let here : IsAtLimit (largest_command full.core.origin) full.core.origin (full.core.log ++ full.rest) = law full.core call full.rest before full.may full.full few in
+    subst (IsAtLimit (largest_command origin) origin) (sym full.is) (subst (λ (o : Origin). IsAtLimit (largest_command o) o (full.core.log ++ full.rest)) to here)

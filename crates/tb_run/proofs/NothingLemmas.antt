@@ -1,11 +1,12 @@
 -- A run that didn't begin: nothing was logged, and the outside is as it was.
 use Rattle.std.proofs.Common.{◌≡◌, ◌≤◌, ◌+◌, ℕ, List, [], ◌∷◌, ◌++◌, map, length, false, Option, refl, sym, ap, ◌∙◌, subst, inl, arith}
-use Rattle.std.specs.Prelude.{⊤}
-use Rattle.std.specs.List.{fold}
+use Rattle.std.specs.Prelude.{IsTrue, ⊤}
+use Rattle.std.specs.List.{fold, list_all}
 use Rattle.tb_edge.specs.Ends.{ClockView}
 use Rattle.tb_edge.specs.Faults.{Rose}
 use Rattle.tb_edge.specs.Sinks.{WritesPrefix}
 use Rattle.tb_log.specs.LogText.{log_text}
+use Rattle.tb_log.specs.Proper.{is_proper_entry}
 use Rattle.tb_log.specs.declared.entry.Entry.{Entry}
 use Rattle.tb_core.specs.Cores.{CoreState}
 use Rattle.tb_lock.specs.declared.rights.Rights.{Rights}
@@ -20,7 +21,8 @@ use Rattle.tb_run.specs.declared.worker.Work.{Work}
 use Rattle.tb_run.specs.Clocks.{ClockStopped}
 use Rattle.tb_run.specs.Joining.{JoinsAll}
 use Rattle.tb_run.specs.Moving.{readers, writers, inlets_of, outlets_of}
-use Rattle.tb_run.specs.Outcomes.{EachLane, LaneView, LaneStopped, OutsideView, IsRunOf, Runs, TellsFirst}
+use Rattle.tb_run.specs.Outcomes.{LaneStopped, IsRunOf, Runs, TellsFirst}
+use Rattle.tb_run.specs.Views.{EachLane, LaneView, OutsideView}
 use Rattle.tb_run.specs.Parting.{parted, left_after}
 use Rattle.tb_run.specs.Parts.{job_rights, to_tick, rights_left}
 use Rattle.tb_run.specs.Running.{ComesTo, HasCome, IsStopped, FailsFor}
@@ -84,6 +86,7 @@ unbegun most outside core none =
     record {
       origin_is = refl;
       history = subst (IsRunOf core.origin) (sym none) (record { trace = tt; sparse = sparse_nil });
+      proper = subst (λ (l : List Entry). IsTrue (list_all is_proper_entry l)) (sym none) refl;
       within = subst (λ (l : List Entry). length l ≤ core.origin.limit) (sym none) (let z : length {A = Entry} [] ≤ core.origin.limit = omega arith in z);
       outcome = subst (λ (l : List Entry). WritesPrefix outside.put outside.put (log_text l) × EachLane (LaneStopped l) 1 outside.lanes outside.lanes × ClockStopped l most outside.clock outside.clock (Rose outside.clock_faults outside.clock_faults)) (sym none)
           (nothing_put outside outside refl, st.lanes, st.clock);

@@ -1,19 +1,18 @@
 -- What a run says of all its lanes, from what each worker has done and how all seats came together.
-use Rattle.std.proofs.Common.{◌≡◌, ◌≤◌, ◌<◌, ◌+◌, ◌⊎◌, ℕ, zero, suc, List, [], ◌∷◌, ◌++◌, map, length, true, false, ◌||◌, Option, refl, sym, ap, ◌∙◌, subst, inl, inr, append-nil, arith}
+use Rattle.std.proofs.Common.{◌≡◌, ◌≤◌, ◌<◌, ◌+◌, ◌⊎◌, ℕ, zero, suc, List, [], ◌∷◌, ◌++◌, map, length, Bool, true, false, ◌||◌, Option, refl, sym, ap, ◌∙◌, subst, inl, inr, ⊎_elim, append-nil, arith}
 use Rattle.std.specs.List.{All, AllZip, list_any, cons_option}
 use Rattle.std.specs.Prelude.{⊤}
 use Rattle.std.proofs.lemmas.Bool.{cases_lt}
 use Rattle.tb_edge.specs.Ends.{InletView}
 use Rattle.tb_edge.specs.declared.given.Given.{Given}
 use Rattle.tb_edge.specs.declared.given.Taken.{Taken}
-use Rattle.tb_log.specs.declared.entry.Input.TheVariants as input
 use Rattle.tb_log.specs.declared.entry.Out.{Out}
 use Rattle.tb_log.specs.declared.entry.Entry.{Entry}
 use Rattle.tb_log.specs.Shapes.{IsLane}
 use Rattle.tb_bus.specs.Buses.{start}
 use Rattle.tb_bus.specs.Traces.{IsTrace}
 use Rattle.tb_bus.specs.declared.origin.Origin.{Origin}
-use Rattle.tb_core.specs.Cores.{HandIn, HandOut, MakeStep}
+use Rattle.tb_core.specs.Cores.{MakeStep}
 use Rattle.tb_lock.specs.declared.rights.Rights.{Rights}
 use Rattle.tb_lock.specs.Rights.{In, Out as Outs, has}
 use Rattle.tb_lock.specs.Seats.{SeatView}
@@ -23,22 +22,24 @@ use Rattle.tb_run.specs.declared.ends.WorkEnd.{WorkEnd}
 use Rattle.tb_run.specs.declared.ends.WorkEnd.TheVariants as end
 use Rattle.tb_run.specs.declared.worker.Work.{Work}
 use Rattle.tb_run.specs.declared.worker.Work.TheVariants.{Reads, Writes, Steps}
-use Rattle.tb_run.specs.Seats.{Adds, Marks, SeesTrace, WasFull}
+use Rattle.tb_run.specs.Seats.{Adds, Marks, SeesTrace}
 use Rattle.tb_run.specs.Workers.{ReadsLane, WritesLane, StepsBus, ReaderEnds, WriterEnds}
 use Rattle.tb_run.specs.Jobs.{HasRight, WorkDone}
 use Rattle.tb_run.specs.Moving.{works_of, writers, inlets_of, outlets_of, inlet_of, outlet_of}
-use Rattle.tb_run.specs.Outcomes.{EachLane, LaneRan, LaneStopped, views}
+use Rattle.tb_run.specs.Outcomes.{LaneRan, LaneStopped}
+use Rattle.tb_run.specs.Refusals.{HadNoRoom, LaneRefused}
+use Rattle.tb_run.specs.Views.{EachLane, LaneView, SomeLane, views}
 use Rattle.tb_run.specs.Reasons.{is_full_end}
 use Rattle.tb_run.proofs.JoinLemmas.{Kept, AllKept}
 use Rattle.tb_run.proofs.MarkLemmas.{Worked, seats_of}
 use Rattle.tb_run.proofs.EndLemmas.{ends_of, CameToEnd, AllCameToEnd}
-use Rattle.tb_run.proofs.SeatLemmas.{was_full}
 use Rattle.tb_run.proofs.LaneLemmas.{IsWhole, lane_ran, lane_stopped}
-use Rattle.tb_run.proofs.WentLemmas.{after_readers, after_writers, each_view}
+use Rattle.tb_run.proofs.RefusedLemmas.{reader_refused, stepper_refused, writer_refused}
+use Rattle.tb_run.proofs.WentLemmas.{OfInlet, OfOutlet, View, after_readers, after_writers, each_view, some_reader, some_writer}
 
-writer_full : (lane : ℕ) (lost : List Out) (old new : SeatView) → WriterEnds lane lost old new end.Full → WasFull new
-writer_full lane lost old new (inl e) = was_full (HandOut lane) old new e.1
-writer_full lane lost old new (inr e) = was_full (HandIn (input.Cut lane)) old new e.2
+or_none : (b : Bool) → (b || false) ≡ true → b ≡ true
+or_none true e = refl
+or_none false e = e
 
 -- a seat that was handed out by the first of a bus, and has not been used
 pub record IsNew (first seat : SeatView) : Type 0 where
@@ -79,7 +80,7 @@ abbrev pub EachSees : Origin → List SeatView → Type 0
 EachSees origin [] = ⊤
 EachSees origin (s ∷ ss) = (s.origin ≡ origin) × SeesTrace s × EachSees origin ss
 
-module _ {X I O : Type 0} (seat : X → SeatView) (ended : X → WorkEnd) (work : X → Work I O) (gave : I → Option InletView) (took : O → Option (List Taken)) (faults : O → ℕ) where
+module _ {X I O : Type 0} (seat : X → SeatView) (ended : X → WorkEnd) (work : X → Work I O) (gave : I → Option InletView) (fails : I → ℕ) (took : O → Option (List Taken)) (faults : O → ℕ) where
   -- what was done, of one worker
   abbrev pub Does : SeatView → SeatView → WorkEnd → Work I O → Work I O → Type 0
   Does = WorkDone gave took faults
@@ -108,17 +109,6 @@ module _ {X I O : Type 0} (seat : X → SeatView) (ended : X → WorkEnd) (work 
   marks_of old new it (Writes lane o) Steps d = absurd d
   marks_of old new it Steps (Reads lane' i') d = absurd d
   marks_of old new it Steps (Writes lane' o') d = absurd d
-
-  full_of : (old new : SeatView) (w w' : Work I O) → Does old new end.Full w w' → WasFull new
-  full_of old new (Reads lane i) (Reads lane' i') d = was_full (HandIn d.1.ends.1) old new d.1.ends.4
-  full_of old new (Writes lane o) (Writes lane' o') d = writer_full lane d.1.last old new d.1.ends
-  full_of old new Steps Steps d = was_full MakeStep old new d.ends
-  full_of old new (Reads lane i) (Writes lane' o') d = absurd d
-  full_of old new (Reads lane i) Steps d = absurd d
-  full_of old new (Writes lane o) (Reads lane' i') d = absurd d
-  full_of old new (Writes lane o) Steps d = absurd d
-  full_of old new Steps (Reads lane' i') d = absurd d
-  full_of old new Steps (Writes lane' o') d = absurd d
 
   -- rights and room stay
   pub rights_stay : (xs ys : List X) → AllZip Done xs ys → map (λ (s : SeatView). s.rights) (map seat ys) ≡ map (λ (s : SeatView). s.rights) (map seat xs)
@@ -171,21 +161,6 @@ module _ {X I O : Type 0} (seat : X → SeatView) (ended : X → WorkEnd) (work 
   came_each first [] (y ∷ ys) z n c = absurd z
   came_each first (x ∷ xs) [] z n c = absurd z
   came_each first (x ∷ xs) (y ∷ ys) z n c = (c.0, came_each first xs ys z.1 n.1 c.1)
-
-  -- where one was refused a call since the log was full
-  pub some_full : (last first : SeatView) (xs ys : List X) → AllZip Done xs ys → EachNew first (map seat xs) → AllKept last (map seat ys) → list_any is_full_end (map ended ys) ≡ true → (done : SeatView) × WasFull done × (done.origin ≡ first.origin) × Kept last done
-  some_full last first [] [] z n k e = absurd cc
-  some_full last first [] (y ∷ ys) z n k e = absurd z
-  some_full last first (x ∷ xs) [] z n k e = absurd z
-  some_full last first (x ∷ xs) (y ∷ ys) z n k e = go (ended y) z.0 (some_full last first xs ys z.1 n.1 k.1) e
-    where
-      go : (it : WorkEnd) → Does (seat x) (seat y) it (work x) (work y) → (list_any is_full_end (map ended ys) ≡ true → (done : SeatView) × WasFull done × (done.origin ≡ first.origin) × Kept last done) → (is_full_end it || list_any is_full_end (map ended ys)) ≡ true → (done : SeatView) × WasFull done × (done.origin ≡ first.origin) × Kept last done
-      go end.Full d more t = (seat y, full_of (seat x) (seat y) (work x) (work y) d, (adds_of (seat x) (seat y) end.Full (work x) (work y) d).1.origin ∙ n.0.origin, k.0)
-      go end.Over d more t = more t
-      go end.Down d more t = more t
-      go end.Stopped d more t = more t
-      go end.Failed d more t = more t
-      go end.NoMemory d more t = more t
 
   module _ (last first : SeatView) (P : WorkEnd → Type 0) where
     -- one worker, from its seat as it was handed out to what that was left with
@@ -313,14 +288,85 @@ module _ {X I O : Type 0} (seat : X → SeatView) (ended : X → WorkEnd) (work 
           stepper = c.0;
         }
 
+    -- where one was refused a call since the log was full
+    module _ (at : first.origin ≡ last.origin) where
+      abbrev pub Refused : ℕ → LaneView → LaneView → Type 0
+      Refused = LaneRefused last.origin last.seen
+
+      refused_reads : (x y : X) (lane : ℕ) (i : I) → Went x y → work x ≡ Reads lane i → (i' : I) × (work y ≡ Reads lane i') × (is_full_end (ended y) ≡ true → OfInlet gave fails took faults Refused lane i i')
+      refused_reads x y lane i w e = go (work y) refl (subst (λ (t : Work I O). Does (seat x) (seat y) (ended y) t (work y)) e w.done)
+        where
+          right : let t : Work I O = Reads lane i in HasRight (seat x) t
+          right = subst (HasRight (seat x)) e w.right
+
+          go : (t : Work I O) → work y ≡ t → Does (seat x) (seat y) (ended y) (Reads lane i) t → (i' : I) × (work y ≡ Reads lane i') × (is_full_end (ended y) ≡ true → OfInlet gave fails took faults Refused lane i i')
+          go (Reads lane' i') is d = (
+            i',
+            is ∙ ap (λ (l : ℕ). let r : Work I O = Reads l i' in r) d.0,
+            λ full o o'. reader_refused lane last (seat x) (seat y) (View gave fails took faults Refused i o) (View gave fails took faults Refused i' o') (ended y) d.1 full right.1 w.fresh (d.1.adds.origin ∙ (w.origin ∙ at)) w.kept,
+          )
+          go (Writes lane' o') is d = absurd d
+          go Steps is d = absurd d
+
+      refused_writes : (x y : X) (lane : ℕ) (o : O) → Went x y → work x ≡ Writes lane o → (o' : O) × (work y ≡ Writes lane o') × (is_full_end (ended y) ≡ true → OfOutlet gave fails took faults Refused lane o o')
+      refused_writes x y lane o w e = go (work y) refl (subst (λ (t : Work I O). Does (seat x) (seat y) (ended y) t (work y)) e w.done)
+        where
+          right : let t : Work I O = Writes lane o in HasRight (seat x) t
+          right = subst (HasRight (seat x)) e w.right
+
+          go : (t : Work I O) → work y ≡ t → Does (seat x) (seat y) (ended y) (Writes lane o) t → (o' : O) × (work y ≡ Writes lane o') × (is_full_end (ended y) ≡ true → OfOutlet gave fails took faults Refused lane o o')
+          go (Writes lane' o') is d = (
+            o',
+            is ∙ ap (λ (l : ℕ). let r : Work I O = Writes l o' in r) d.0,
+            λ full i i'. writer_refused lane last (seat x) (seat y) (View gave fails took faults Refused i o) (View gave fails took faults Refused i' o') (ended y) d.1 full right.1 w.fresh (d.1.adds.origin ∙ (w.origin ∙ at)) w.kept,
+          )
+          go (Reads lane' i') is d = absurd d
+          go Steps is d = absurd d
+
+      refused_steps : (x y : X) → Went x y → work x ≡ Steps → is_full_end (ended y) ≡ true → HadNoRoom MakeStep last.origin last.seen
+      refused_steps x y w e full = go (work y) (subst (λ (t : Work I O). Does (seat x) (seat y) (ended y) t (work y)) e w.done)
+        where
+          go : (t : Work I O) → Does (seat x) (seat y) (ended y) Steps t → HadNoRoom MakeStep last.origin last.seen
+          go Steps d = stepper_refused last (seat x) (seat y) (ended y) d full (d.adds.origin ∙ (w.origin ∙ at)) w.kept
+          go (Reads lane' i') d = absurd d
+          go (Writes lane' o') d = absurd d
+
+      refused_last : (xs ys : List X) → map work xs ≡ Steps ∷ [] → AllZip Went xs ys → list_any is_full_end (map ended ys) ≡ true → HadNoRoom MakeStep last.origin last.seen
+      refused_last [] ys e z h = absurd cc
+      refused_last (x ∷ xs) [] e z h = absurd z
+      refused_last (x ∷ []) (y ∷ []) e z h = let first : work x ≡ Steps = cc in refused_steps x y z.0 first (or_none (is_full_end (ended y)) h)
+      refused_last (x ∷ []) (y ∷ y' ∷ ys) e z h = absurd z.1
+      refused_last (x ∷ x' ∷ xs) (y ∷ ys) e z h = absurd cc
+
+      -- the reader, the writer or the stepper that was
+      pub record SomeRefused (is : List I) (os : List O) (ys : List X) : Type 0 where
+        pub is_new : List I
+        pub inlets : inlets_of (map work ys) ≡ is_new
+        pub os_new : List O
+        pub outlets : outlets_of (map work ys) ≡ os_new
+        pub some : SomeLane (OfInlet gave fails took faults Refused) 1 is is_new ⊎ (SomeLane (OfOutlet gave fails took faults Refused) 1 os os_new ⊎ HadNoRoom MakeStep last.origin last.seen)
+
+      pub some_refused : (is : List I) (os : List O) (xs ys : List X) → map work xs ≡ works_of is os → AllZip Went xs ys → list_any is_full_end (map ended ys) ≡ true → SomeRefused is os ys
+      some_refused is os xs ys e z h =
+          let a = some_reader work Went ended is_full_end (OfInlet gave fails took faults Refused) (OfOutlet gave fails took faults Refused) refused_reads refused_writes 1 is (writers 1 os ++ Steps ∷ []) xs ys e z in
+          let b = some_writer work Went ended is_full_end (OfInlet gave fails took faults Refused) (OfOutlet gave fails took faults Refused) refused_reads refused_writes 1 os (Steps ∷ []) a.xs a.others a.works a.zip in
+          let c = last_one b.xs b.others b.works b.zip in
+          record {
+            is_new = a.is_new;
+            inlets = a.inlets ∙ (ap (λ (s : List I). a.is_new ++ s) (b.inlets ∙ c.1) ∙ append-nil a.is_new);
+            os_new = b.os_new;
+            outlets = a.outlets ∙ (b.outlets ∙ (ap (λ (s : List O). b.os_new ++ s) c.2 ∙ append-nil b.os_new));
+            some = ⊎_elim (λ s. inl s) (λ more. inr (⊎_elim (λ s. inl s) (λ rest. inr (refused_last b.xs b.others b.works b.zip rest)) (b.found more))) (a.found h);
+          }
+
     -- the lanes, from both their ends
-    stopped : (lane : ℕ) (i i' : I) (o o' : O) → ReaderWent lane i i' → WriterWent lane o o' → LaneStopped last.seen lane (record { gave = gave i; took = took o; faults = faults o }) (record { gave = gave i'; took = took o'; faults = faults o' })
+    stopped : (lane : ℕ) (i i' : I) (o o' : O) → ReaderWent lane i i' → WriterWent lane o o' → LaneStopped last.seen lane (record { gave = gave i; inlet_faults = fails i; took = took o; outlet_faults = faults o }) (record { gave = gave i'; inlet_faults = fails i'; took = took o'; outlet_faults = faults o' })
     stopped lane i i' o o' q s =
-        lane_stopped lane last (record { gave = gave i; took = took o; faults = faults o }) (record { gave = gave i'; took = took o'; faults = faults o' }) q.begun q.done s.begun s.done q.it s.it q.reads s.writes
+        lane_stopped lane last (record { gave = gave i; inlet_faults = fails i; took = took o; outlet_faults = faults o }) (record { gave = gave i'; inlet_faults = fails i'; took = took o'; outlet_faults = faults o' }) q.begun q.done s.begun s.done q.it s.it q.reads s.writes
         q.right s.right q.fresh s.fresh q.kept s.kept
 
-    pub each_stopped : (is is' : List I) (os os' : List O) → EachLane ReaderWent 1 is is' → EachLane WriterWent 1 os os' → EachLane (LaneStopped last.seen) 1 (views gave took faults is os) (views gave took faults is' os')
-    each_stopped is is' os os' q s = each_view gave took faults ReaderWent WriterWent (LaneStopped last.seen) stopped 1 is is' os os' q s
+    pub each_stopped : (is is' : List I) (os os' : List O) → EachLane ReaderWent 1 is is' → EachLane WriterWent 1 os os' → EachLane (LaneStopped last.seen) 1 (views gave fails took faults is os) (views gave fails took faults is' os')
+    each_stopped is is' os os' q s = each_view gave fails took faults ReaderWent WriterWent (LaneStopped last.seen) stopped 1 is is' os os' q s
 
     module _ (whole : (it : WorkEnd) → P it → CameToEnd it) where
       reader_whole : (lane : ℕ) (lost : List Given) (begun done : SeatView) (it : WorkEnd) → CameToEnd it → ReaderEnds lane lost begun done it → IsWhole it
@@ -339,13 +385,13 @@ module _ {X I O : Type 0} (seat : X → SeatView) (ended : X → WorkEnd) (work 
       writer_whole lane lost begun done end.Full c e = absurd c
       writer_whole lane lost begun done end.NoMemory c e = absurd c
 
-      ran : (lane : ℕ) (i i' : I) (o o' : O) → ReaderWent lane i i' → WriterWent lane o o' → LaneRan last.seen lane (record { gave = gave i; took = took o; faults = faults o }) (record { gave = gave i'; took = took o'; faults = faults o' })
+      ran : (lane : ℕ) (i i' : I) (o o' : O) → ReaderWent lane i i' → WriterWent lane o o' → LaneRan last.seen lane (record { gave = gave i; inlet_faults = fails i; took = took o; outlet_faults = faults o }) (record { gave = gave i'; inlet_faults = fails i'; took = took o'; outlet_faults = faults o' })
       ran lane i i' o o' q s =
-          lane_ran lane last (record { gave = gave i; took = took o; faults = faults o }) (record { gave = gave i'; took = took o'; faults = faults o' }) q.begun q.done s.begun s.done q.it s.it q.reads s.writes
+          lane_ran lane last (record { gave = gave i; inlet_faults = fails i; took = took o; outlet_faults = faults o }) (record { gave = gave i'; inlet_faults = fails i'; took = took o'; outlet_faults = faults o' }) q.begun q.done s.begun s.done q.it s.it q.reads s.writes
           q.right s.right q.fresh s.fresh q.kept s.kept (reader_whole lane q.reads.last q.begun q.done q.it (whole q.it q.meets) q.reads.ends) (writer_whole lane s.writes.last s.begun s.done s.it (whole s.it s.meets) s.writes.ends)
 
-      pub each_ran : (is is' : List I) (os os' : List O) → EachLane ReaderWent 1 is is' → EachLane WriterWent 1 os os' → EachLane (LaneRan last.seen) 1 (views gave took faults is os) (views gave took faults is' os')
-      each_ran is is' os os' q s = each_view gave took faults ReaderWent WriterWent (LaneRan last.seen) ran 1 is is' os os' q s
+      pub each_ran : (is is' : List I) (os os' : List O) → EachLane ReaderWent 1 is is' → EachLane WriterWent 1 os os' → EachLane (LaneRan last.seen) 1 (views gave fails took faults is os) (views gave fails took faults is' os')
+      each_ran is is' os os' q s = each_view gave fails took faults ReaderWent WriterWent (LaneRan last.seen) ran 1 is is' os os' q s
 
 -- one of the lanes
 pub lane_in : {A : Type 0} (P : ℕ → A → A → Type 0) (from : ℕ) (old new : List A) → EachLane P from old new → (lane : ℕ) → from ≤ lane → lane + 1 ≤ from + length old → (a : A) × (a' : A) × P lane a a'

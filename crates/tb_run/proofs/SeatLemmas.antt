@@ -24,7 +24,7 @@ use Rattle.tb_run.specs.declared.ends.WorkEnd.{WorkEnd}
 use Rattle.tb_run.specs.declared.ends.WorkEnd.TheVariants as end
 use Rattle.tb_run.specs.Dropping.{AreLetIn}
 use Rattle.tb_run.specs.Workers.{LetIn}
-use Rattle.tb_run.specs.Seats.{Adds, FoundFull, WasFull, Marks, SameMarks, Stops, EndsWith, Ends, Hands, end_of}
+use Rattle.tb_run.specs.Seats.{Adds, FoundFull, Marks, SameMarks, Stops, EndsWith, Ends, Hands, end_of}
 
 -- the laws of the shared bus
 abbrev pub SeenLaw : Type 0
@@ -183,9 +183,6 @@ found_on call a b c xs adds full = record {
   seen = full.seen;
   full = full.full;
 }
-
-pub was_full : (call : Call) (old new : SeatView) → FoundFull call old new → WasFull new
-was_full call old new full = record { core = full.core; call = call; may = full.may; rest = full.rest; origin = full.origin; seen = full.seen; full = full.full }
 
 -- what is left of a worker after a call that was refused, and after it stopped the bus
 abbrev pub Refused : Call → SeatView → SeatView → WorkEnd → Type 0

@@ -78,13 +78,18 @@ module _ (a b c : SeatView) (told_a told_b told_c : Option ClockView) (faults_a 
   faults_on end.Full same f = tt
   faults_on end.NoMemory same f = tt
 
+  cause_on : (Enough Enough' : ℕ → Type 0) → ((k : ℕ) → Enough k → Enough' (m + k)) → (k : ℕ) (ended : Bool) → faults_a ≤ faults_b → (ended ≡ true) ⊎ (Rose faults_b faults_c ⊎ Enough k) → (ended ≡ true) ⊎ (Rose faults_a faults_c ⊎ Enough' (m + k))
+  cause_on Enough Enough' f k ended low (inl e) = inl e
+  cause_on Enough Enough' f k ended low (inr (inl rose)) = inr (inl (rose_on low rose))
+  cause_on Enough Enough' f k ended low (inr (inr enough)) = inr (inr (f k enough))
+
   ends_on : (Enough Enough' : ℕ → Type 0) → ((k : ℕ) → Enough k → Enough' (m + k)) → (tail : List Entry) (last : ℕ) (xs : List Entry) → Adds a b xs → (k : ℕ) (ended : Bool) (it : WorkEnd) → faults_a ≤ faults_b → TickerEnds Enough tail last b c k faults_b faults_c ended it → TickerEnds Enough' tail last a c (m + k) faults_a faults_c ended it
   ends_on Enough Enough' f tail last xs adds k ended end.Over low (w, inl e) = (w, inl e)
   ends_on Enough Enough' f tail last xs adds k ended end.Over low (w, inr e) = (w, inr (f k e))
   ends_on Enough Enough' f tail last xs adds k ended end.Failed low e = (e.0, rose_on low e.1)
   ends_on Enough Enough' f tail last xs adds k ended end.Down low e = e
   ends_on Enough Enough' f tail last xs adds k ended end.Full low (w, inl e) = (w, inl (e.0, found_on (HandIn input.Tick) a b c xs adds e.1))
-  ends_on Enough Enough' f tail last xs adds k ended end.Full low (w, inr e) = (w, inr (e.0, found_on (HandIn input.NoTicks) a b c xs adds e.1))
+  ends_on Enough Enough' f tail last xs adds k ended end.Full low (w, inr e) = (w, inr (e.0, cause_on Enough Enough' f k ended low e.1, found_on (HandIn input.NoTicks) a b c xs adds e.2))
   ends_on Enough Enough' f tail last xs adds k ended end.Stopped low e = e
   ends_on Enough Enough' f tail last xs adds k ended end.NoMemory low e = e
 
@@ -125,13 +130,17 @@ module _ (old new : SeatView) (told_old told_new : Option ClockView) (faults_old
 
   -- no more come: the clock has ended, or failed, or there were enough
   module _ (Enough : ℕ → Type 0) (most : ℕ) (ended : Bool) (told : told_new ≡ and_ticked told_old 0 ended) where
-    refused_all : (it : WorkEnd) → IsRefused old new it → TicksBus Enough most old new told_old told_new faults_old faults_new it
-    refused_all end.Stopped r = record { first = []; tail = []; adds = r.0; ticks = tt; let_in = tt; last = 0; ended = ended; told = told; within = omega arith; lacks = omega arith; whole = λ e. refl; marks = (r.1, r.2); none = λ over. refl; never_falls = low; faults = tt; ends = refl }
-    refused_all end.Full r = record { first = []; tail = []; adds = r.0.adds; ticks = tt; let_in = tt; last = 0; ended = ended; told = told; within = omega arith; lacks = omega arith; whole = λ e. refl; marks = both_marks old new r.0; none = λ over. refl; never_falls = low; faults = tt; ends = (refl, inr (refl, r.1)) }
-    refused_all end.NoMemory r = record { first = []; tail = []; adds = r.adds; ticks = tt; let_in = tt; last = 0; ended = ended; told = told; within = omega arith; lacks = omega arith; whole = λ e. refl; marks = both_marks old new r; none = λ over. refl; never_falls = low; faults = tt; ends = refl }
-    refused_all end.Over r = absurd r
-    refused_all end.Down r = absurd r
-    refused_all end.Failed r = absurd r
+    ended_or : (ended ≡ true) ⊎ Enough 0 → (ended ≡ true) ⊎ (Rose faults_old faults_new ⊎ Enough 0)
+    ended_or (inl e) = inl e
+    ended_or (inr e) = inr (inr e)
+
+    refused_all : (it : WorkEnd) → (ended ≡ true) ⊎ (Rose faults_old faults_new ⊎ Enough 0) → IsRefused old new it → TicksBus Enough most old new told_old told_new faults_old faults_new it
+    refused_all end.Stopped why r = record { first = []; tail = []; adds = r.0; ticks = tt; let_in = tt; last = 0; ended = ended; told = told; within = omega arith; lacks = omega arith; whole = λ e. refl; marks = (r.1, r.2); none = λ over. refl; never_falls = low; faults = tt; ends = refl }
+    refused_all end.Full why r = record { first = []; tail = []; adds = r.0.adds; ticks = tt; let_in = tt; last = 0; ended = ended; told = told; within = omega arith; lacks = omega arith; whole = λ e. refl; marks = both_marks old new r.0; none = λ over. refl; never_falls = low; faults = tt; ends = (refl, inr (refl, why, r.1)) }
+    refused_all end.NoMemory why r = record { first = []; tail = []; adds = r.adds; ticks = tt; let_in = tt; last = 0; ended = ended; told = told; within = omega arith; lacks = omega arith; whole = λ e. refl; marks = both_marks old new r; none = λ over. refl; never_falls = low; faults = tt; ends = refl }
+    refused_all end.Over why r = absurd r
+    refused_all end.Down why r = absurd r
+    refused_all end.Failed why r = absurd r
 
     pub ticks_over : (it : WorkEnd) → faults_new ≡ faults_old → (ended ≡ true) ⊎ Enough 0 → EndsAll old new end.Over it → TicksBus Enough most old new told_old told_new faults_old faults_new it
     ticks_over it calm why (inl e) = subst (TicksBus Enough most old new told_old told_new faults_old faults_new) (sym e.0) (record {
@@ -152,7 +161,7 @@ module _ (old new : SeatView) (told_old told_new : Option ClockView) (faults_old
       faults = calm;
       ends = ((e.1.0, refl), why);
     })
-    ticks_over it calm why (inr r) = refused_all it r
+    ticks_over it calm why (inr r) = refused_all it (ended_or why) r
 
     pub ticks_failed : (it : WorkEnd) → Rose faults_old faults_new → EndsAll old new end.Failed it → TicksBus Enough most old new told_old told_new faults_old faults_new it
     ticks_failed it rose (inl e) = subst (TicksBus Enough most old new told_old told_new faults_old faults_new) (sym e.0) (record {
@@ -173,4 +182,4 @@ module _ (old new : SeatView) (told_old told_new : Option ClockView) (faults_old
       faults = rose;
       ends = ((e.1.0, refl), rose);
     })
-    ticks_failed it rose (inr r) = refused_all it r
+    ticks_failed it rose (inr r) = refused_all it (inr (inl rose)) r

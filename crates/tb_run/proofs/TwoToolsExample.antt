@@ -59,13 +59,18 @@ use Rattle.tb_log.specs.declared.entry.Entry.{Entry}
 use Rattle.tb_log.specs.declared.entry.Entry.TheVariants.{Did, Quiet, Fed, Gave}
 use Rattle.tb_log.specs.declared.entry.LabelKind.TheVariants as kind
 use Rattle.tb_log.specs.Lanes.{sent}
+use Rattle.tb_terms.specs.Names.{is_string}
+use Rattle.tb_terms.specs.Proper.{is_proper}
+use Rattle.tb_log.specs.Proper.{is_proper_entry}
+use Rattle.std.specs.List.{list_all}
 use Rattle.tb_log.specs.LogText.{log_text}
 use Rattle.tb_lock.specs.Histories.{IsSparse}
 use Rattle.tb_run.specs.Clocks.{ClockRan}
 use Rattle.tb_run.specs.declared.ends.RunWhy.TheVariants.{Ended}
 use Rattle.tb_core.specs.Cores.{CoreState}
-use Rattle.tb_run.specs.Outcomes.{LaneView, LaneRan, EachLane, IsDone, Runs}
-use Rattle.tb_run.proofs.Examples.{plain, root, seen, finish, tool, holding, Leads, stays, did, quiet, came, gave, sparse, empty-lane, idle, at_end, silent-lanes, clock_of, before, afterwards, core_of, no-ticks, gave-all}
+use Rattle.tb_run.specs.Outcomes.{LaneRan, IsDone, Runs}
+use Rattle.tb_run.specs.Views.{LaneView, EachLane}
+use Rattle.tb_run.proofs.Examples.{letter-string, plain, root, seen, finish, tool, holding, Leads, stays, did, quiet, came, gave, sparse, empty-lane, idle, at_end, silent-lanes, clock_of, before, afterwards, core_of, no-ticks, gave-all}
 
 -- the names of the tools, which are their commands
 abbrev pub a : List ℕ
@@ -456,6 +461,42 @@ clock-ran = record {
 abbrev pub asking_text : List ℕ
 asking_text = codes "1 execute 1.1 a(1)\n2 execute 2.1 b(2)\n3 snd-eval 1.2 a(1),one\n4 snd-eval 2.2 b(2),two\n5 quiet\n6 out 1 start \"a\"\n7 out 2 start \"b\"\n8 out 1 rec-eval(one)\n9 out 2 rec-eval(two)\n10 line 1 snd-value(1)\n11 rec-value 1.3 a(1),1\n12 line 2 snd-value(2)\n13 rec-value 2.3 b(2),2\n14 finish\n15 out 1 rec-terminate(finish)\n16 out 1 end\n17 out 2 rec-terminate(finish)\n18 out 2 end\n19 drop down noticks\n"
 
+a-proper : is_proper (tool a 1) ≡ true
+a-proper = search (rules, term_lemmas)
+
+b-proper : is_proper (tool b 2) ≡ true
+b-proper = search (rules, term_lemmas)
+
+one-proper : is_proper (word (codes "one")) ≡ true
+one-proper = search (rules, term_lemmas)
+
+two-proper : is_proper (word (codes "two")) ≡ true
+two-proper = search (rules, term_lemmas)
+
+first-proper : is_proper (value 1) ≡ true
+first-proper = search (rules, term_lemmas)
+
+second-proper : is_proper (value 2) ≡ true
+second-proper = search (rules, term_lemmas)
+
+one-line_proper : is_proper (term.Appl (codes "rec-eval") (word (codes "one") ∷ [])) ≡ true
+one-line_proper = search (rules, term_lemmas)
+
+two-line_proper : is_proper (term.Appl (codes "rec-eval") (word (codes "two") ∷ [])) ≡ true
+two-line_proper = search (rules, term_lemmas)
+
+last-line_proper : is_proper (term.Appl (codes "rec-terminate") (word (codes "finish") ∷ [])) ≡ true
+last-line_proper = search (rules, term_lemmas)
+
+first-string : is_string a ≡ true
+first-string = letter-string 97 (omega arith) refl
+
+second-string : is_string b ≡ true
+second-string = letter-string 98 (omega arith) refl
+
+asking-proper : list_all is_proper_entry asking_log ≡ true
+asking-proper = simp (a-proper, b-proper, one-proper, two-proper, first-proper, second-proper, one-line_proper, two-line_proper, last-line_proper, first-string, second-string)
+
 a-text : term_text (tool a 1) ≡ codes "a(1)"
 unfolding digits
 a-text = search (rules, term_lemmas)
@@ -493,6 +534,7 @@ pub asking-run : Runs 36000 before (afterwards (asked_lanes (given.Line (codes "
 asking-run = record {
   origin_is = refl;
   history = record { trace = asking-leads.trace; sparse = asking-sparse };
+  proper = asking-proper;
   within = omega arith;
   outcome = (ap (λ (text : List ℕ). Some text) (sym put-text), lanes-ran, clock-ran, asking-done);
   first = (refl, refl, refl);

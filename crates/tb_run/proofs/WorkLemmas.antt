@@ -17,7 +17,7 @@ use Rattle.tb_run.specs.declared.worker.Work.TheVariants.{Reads, Writes, Steps}
 use Rattle.tb_run.specs.Joining.{JoinsAll}
 use Rattle.tb_run.specs.Logging.{LogDone}
 use Rattle.tb_run.specs.Moving.{readers, writers, works_of, inlets_of, outlets_of, inlet_of, outlet_of}
-use Rattle.tb_run.specs.Outcomes.{OutsideView, views}
+use Rattle.tb_run.specs.Views.{OutsideView, views}
 use Rattle.tb_run.specs.Parting.{parted, left_after}
 use Rattle.tb_run.specs.Parts.{job_rights, to_tick}
 use Rattle.tb_run.specs.Running.{FailsFor}
@@ -54,28 +54,28 @@ pub all_joined : {X : Type 0} (seat : X → SeatView) (bus : TableId) (one two :
 all_joined seat bus one two xs a b c =
     all_cons (λ (s : SeatView). s.bus ≡ bus) one (two ∷ map seat xs) a (all_cons (λ (s : SeatView). s.bus ≡ bus) two (map seat xs) b (all_map seat (λ (s : SeatView). s.bus ≡ bus) xs c))
 
-module _ {X I O : Type 0} (seat : X → SeatView) (ended : X → WorkEnd) (work : X → Work I O) (gave : I → Option InletView) (took : O → Option (List Taken)) (faults : O → ℕ) where
+module _ {X I O : Type 0} (seat : X → SeatView) (ended : X → WorkEnd) (work : X → Work I O) (gave : I → Option InletView) (fails : I → ℕ) (took : O → Option (List Taken)) (faults : O → ℕ) where
   -- the bus of each seat is that of the first
   pub buses_new : (first : SeatView) (xs : List X) → EachNew first (map seat xs) → All (λ (x : X). (seat x).bus ≡ first.bus) xs
   buses_new first [] n = all_none (λ (x : X). (seat x).bus ≡ first.bus)
   buses_new first (x ∷ xs) n = all_cons (λ (x : X). (seat x).bus ≡ first.bus) x xs n.0.bus (buses_new first xs n.1)
 
-  pub buses_done : (first : SeatView) (xs ys : List X) → AllZip (Done seat ended work gave took faults) xs ys → EachNew first (map seat xs) → All (λ (x : X). (seat x).bus ≡ first.bus) ys
+  pub buses_done : (first : SeatView) (xs ys : List X) → AllZip (Done seat ended work gave fails took faults) xs ys → EachNew first (map seat xs) → All (λ (x : X). (seat x).bus ≡ first.bus) ys
   buses_done first [] [] z n = all_none (λ (x : X). (seat x).bus ≡ first.bus)
   buses_done first [] (y ∷ ys) z n = absurd z
   buses_done first (x ∷ xs) [] z n = absurd z
   buses_done first (x ∷ xs) (y ∷ ys) z n =
       all_cons (λ (x : X). (seat x).bus ≡ first.bus) y ys
-      ((adds_of seat ended work gave took faults (seat x) (seat y) (ended y) (work x) (work y) z.0).1.bus ∙ n.0.bus) (buses_done first xs ys z.1 n.1)
+      ((adds_of seat ended work gave fails took faults (seat x) (seat y) (ended y) (work x) (work y) z.0).1.bus ∙ n.0.bus) (buses_done first xs ys z.1 n.1)
 
   -- as many inlets and outlets come back
-  inlets_stay : (xs ys : List X) → AllZip (Done seat ended work gave took faults) xs ys → length (inlets_of (map work ys)) ≡ length (inlets_of (map work xs))
+  inlets_stay : (xs ys : List X) → AllZip (Done seat ended work gave fails took faults) xs ys → length (inlets_of (map work ys)) ≡ length (inlets_of (map work xs))
   inlets_stay [] [] z = refl
   inlets_stay [] (y ∷ ys) z = absurd z
   inlets_stay (x ∷ xs) [] z = absurd z
   inlets_stay (x ∷ xs) (y ∷ ys) z = go (work x) (work y) z.0 (inlets_stay xs ys z.1)
     where
-      go : (w w' : Work I O) → Does seat ended work gave took faults (seat x) (seat y) (ended y) w w' → length (inlets_of (map work ys)) ≡ length (inlets_of (map work xs))
+      go : (w w' : Work I O) → Does seat ended work gave fails took faults (seat x) (seat y) (ended y) w w' → length (inlets_of (map work ys)) ≡ length (inlets_of (map work xs))
           → length (cons_option (inlet_of w') (inlets_of (map work ys))) ≡ length (cons_option (inlet_of w) (inlets_of (map work xs)))
       go (Reads lane i) (Reads lane' i') d e = ap suc e
       go (Writes lane o) (Writes lane' o') d e = e
@@ -87,13 +87,13 @@ module _ {X I O : Type 0} (seat : X → SeatView) (ended : X → WorkEnd) (work 
       go Steps (Reads lane' i') d e = absurd d
       go Steps (Writes lane' o') d e = absurd d
 
-  outlets_stay : (xs ys : List X) → AllZip (Done seat ended work gave took faults) xs ys → length (outlets_of (map work ys)) ≡ length (outlets_of (map work xs))
+  outlets_stay : (xs ys : List X) → AllZip (Done seat ended work gave fails took faults) xs ys → length (outlets_of (map work ys)) ≡ length (outlets_of (map work xs))
   outlets_stay [] [] z = refl
   outlets_stay [] (y ∷ ys) z = absurd z
   outlets_stay (x ∷ xs) [] z = absurd z
   outlets_stay (x ∷ xs) (y ∷ ys) z = go (work x) (work y) z.0 (outlets_stay xs ys z.1)
     where
-      go : (w w' : Work I O) → Does seat ended work gave took faults (seat x) (seat y) (ended y) w w' → length (outlets_of (map work ys)) ≡ length (outlets_of (map work xs))
+      go : (w w' : Work I O) → Does seat ended work gave fails took faults (seat x) (seat y) (ended y) w w' → length (outlets_of (map work ys)) ≡ length (outlets_of (map work xs))
           → length (cons_option (outlet_of w') (outlets_of (map work ys))) ≡ length (cons_option (outlet_of w) (outlets_of (map work xs)))
       go (Reads lane i) (Reads lane' i') d e = e
       go (Writes lane o) (Writes lane' o') d e = ap suc e
@@ -136,9 +136,9 @@ module _ {X I O : Type 0} (seat : X → SeatView) (ended : X → WorkEnd) (work 
     outlets_there : length (outlets_of (map work xs)) ≡ 16
     outlets_there = ap (λ (ws : List (Work I O)). length (outlets_of ws)) works ∙ (ap length (outlets_works is os) ∙ sixteen_out)
 
-    pub gather_done : AllDone (Done seat ended work gave took faults) xs ys → tick_done.bus ≡ tick_begun.bus → log_done.bus ≡ log_begun.bus → CanGather begun.bus ys tick_done log_done
+    pub gather_done : AllDone (Done seat ended work gave fails took faults) xs ys → tick_done.bus ≡ tick_begun.bus → log_done.bus ≡ log_begun.bus → CanGather begun.bus ys tick_done log_done
     gather_done d tick log =
-        let z = zip_done (Done seat ended work gave took faults) xs ys d in
+        let z = zip_done (Done seat ended work gave fails took faults) xs ys d in
         record {
           buses = buses_done begun xs ys z new_seats;
           tick_bus = tick ∙ tick_bus;

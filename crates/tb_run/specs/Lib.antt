@@ -1,4 +1,6 @@
+pub mod Views
 pub mod Outcomes
+pub mod Refusals
 pub mod Workers
 pub mod Seats
 pub mod Clocks

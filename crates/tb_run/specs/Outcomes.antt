@@ -1,16 +1,17 @@
 -- What a run has done once it ends: over the log of the core that it hands back, and what the outside gave and took in the call.
-use Rattle.std.specs.Prelude.{◌≡◌, ◌≤◌, ◌+◌, ◌⊎◌, ℕ, Bool, true, ◌||◌, List, [], ◌∷◌, ◌++◌, length, map, Option, None, is_some, ⊤}
+use Rattle.std.specs.Prelude.{◌≡◌, ◌≤◌, ◌⊎◌, ℕ, Bool, true, ◌||◌, List, [], ◌++◌, length, map, None, is_some, IsTrue, ⊤}
+use Rattle.std.specs.List.{list_all}
 use Rattle.tb_edge.specs.Faults.{Rose}
 use Rattle.tb_edge.specs.Sinks.{Writes, WritesPrefix}
-use Rattle.tb_edge.specs.Ends.{InletView, ClockView, and_given, and_taken}
+use Rattle.tb_edge.specs.Ends.{and_given, and_taken}
 use Rattle.tb_edge.specs.declared.given.Given.{Given}
-use Rattle.tb_edge.specs.declared.given.Taken.{Taken}
 use Rattle.tb_log.specs.declared.entry.Input.{Input}
 use Rattle.tb_log.specs.declared.entry.Out.{Out}
 use Rattle.tb_log.specs.declared.entry.Entry.{Entry}
 use Rattle.tb_log.specs.Shapes.{IsLane}
 use Rattle.tb_log.specs.Lanes.{inputs, given_on, sent}
 use Rattle.tb_log.specs.LogText.{log_text}
+use Rattle.tb_log.specs.Proper.{is_proper_entry}
 use Rattle.tb_bus.specs.declared.origin.Origin.{Origin}
 use Rattle.tb_bus.specs.Buses.{Bus, start}
 use Rattle.tb_bus.specs.Traces.{IsTrace, replay}
@@ -22,37 +23,11 @@ use Rattle.tb_lane.specs.Sending.{taken_of}
 use Rattle.tb_lock.specs.Histories.{IsSparse}
 use Rattle.tb_run.specs.Dropping.{HasDropped}
 use Rattle.tb_run.specs.Clocks.{ClockRan, ClockStopped}
+use Rattle.tb_run.specs.Refusals.{WasRefused}
+use Rattle.tb_run.specs.Views.{EachLane, LaneView, OutsideView}
 use Rattle.tb_run.specs.Workers.{AreLines, CountsTo, cut_count, was_over}
 use Rattle.tb_run.specs.declared.ends.RunWhy.{RunWhy}
 use Rattle.tb_run.specs.declared.ends.RunWhy.TheVariants.{Ended, Crew, Clock, Out as Sink, Events, NoMemory}
-
--- what a lane's ends show: what its inlet gave, what its outlet took, and how often that failed
-pub record LaneView : Type 0 where
-  pub gave : Option InletView
-  pub took : Option (List Taken)
-  pub faults : ℕ
-
--- what is to be seen of a lane with these two ends
-abbrev pub lane_view : {I O : Type 0} → (I → Option InletView) → (O → Option (List Taken)) → (O → ℕ) → I → O → LaneView
-lane_view gave took faults inlet outlet = record { gave = gave inlet; took = took outlet; faults = faults outlet }
-
--- the lanes with these ends, in order
-abbrev pub views : {I O : Type 0} → (I → Option InletView) → (O → Option (List Taken)) → (O → ℕ) → List I → List O → List LaneView
-views gave took faults [] outlets = []
-views gave took faults (inlet ∷ inlets) [] = []
-views gave took faults (inlet ∷ inlets) (outlet ∷ outlets) = lane_view gave took faults inlet outlet ∷ views gave took faults inlets outlets
-
--- what is to be seen of the outside, before the call or after it
-pub record OutsideView : Type 0 where
-  pub lanes : List LaneView
-  pub clock : Option ClockView
-  pub clock_faults : ℕ
-  pub crew_faults : ℕ
-  pub put : Option (List ℕ)
-  pub out_faults : ℕ
-
-abbrev pub outside_of : List LaneView → Option ClockView → ℕ → ℕ → Option (List ℕ) → ℕ → OutsideView
-outside_of lanes clock clock_faults crew_faults put out_faults = record { lanes = lanes; clock = clock; clock_faults = clock_faults; crew_faults = crew_faults; put = put; out_faults = out_faults }
 
 abbrev pub is_of : ℕ → Input → Bool
 is_of lane it = is_some (given_on lane it)
@@ -66,7 +41,7 @@ pub record LaneRan (log : List Entry) (lane : ℕ) (old new : LaneView) : Type 0
   -- it was read to the end, or the bus was down
   pub end : (over ≡ true) ⊎ HasDropped (is_of lane) log
   pub took : new.took ≡ and_taken old.took (map taken_of (sent log lane))
-  pub cuts : CountsTo old.faults new.faults (cut_count lane log)
+  pub cuts : CountsTo old.outlet_faults new.outlet_faults (cut_count lane log)
 
 -- A lane after a run that was stopped: the log may lack the last item that the inlet gave, and the outlet the last that the log hands out, where that failed.
 pub record LaneStopped (log : List Entry) (lane : ℕ) (old new : LaneView) : Type 0 where
@@ -83,15 +58,8 @@ pub record LaneStopped (log : List Entry) (lane : ℕ) (old new : LaneView) : Ty
   pub handed : sent log lane ≡ put ++ lost
   pub took : new.took ≡ and_taken old.took (map taken_of put)
   pub one_lost : length lost ≤ 1
-  pub failed : (lost ≡ []) ⊎ Rose old.faults new.faults
-  pub cuts : CountsTo old.faults new.faults (cut_count lane log)
-
--- this holds of each lane, numbered from here on
-abbrev pub EachLane : {A : Type 0} → (ℕ → A → A → Type 0) → ℕ → List A → List A → Type 0
-EachLane P lane [] [] = ⊤
-EachLane P lane (old ∷ olds) (new ∷ news) = P lane old new × EachLane P (lane + 1) olds news
-EachLane P lane [] (new ∷ news) = ⊥
-EachLane P lane (old ∷ olds) [] = ⊥
+  pub failed : (lost ≡ []) ⊎ Rose old.outlet_faults new.outlet_faults
+  pub cuts : CountsTo old.outlet_faults new.outlet_faults (cut_count lane log)
 
 -- the bus is down, and nothing is left to be handed out
 pub record IsDone (bus : Bus) : Type 0 where
@@ -114,10 +82,11 @@ RunOutcome most old new back Clock =
     Writes old.put new.put (log_text back.log) × EachLane (LaneRan back.log) 1 old.lanes new.lanes
     × ClockRan back.log most old.clock new.clock (Rose old.clock_faults new.clock_faults) × IsDone (replay (start back.origin) back.log)
     × Rose old.clock_faults new.clock_faults
--- the log was full: it has all entries that it may have, or it is so large that an entry might not fit
+-- the log was full: a call was refused for that; and it has all entries that it may have, or it is so large that an entry might not fit
 RunOutcome most old new back Events =
     Writes old.put new.put (log_text back.log) × EachLane (LaneStopped back.log) 1 old.lanes new.lanes
     × ClockStopped back.log most old.clock new.clock (Rose old.clock_faults new.clock_faults) × IsAtLimit (largest_command back.origin) back.origin back.log
+    × WasRefused most old new back.origin back.log
 -- the sink failed
 RunOutcome most old new back Sink =
     WritesPrefix old.put new.put (log_text back.log) × EachLane (LaneStopped back.log) 1 old.lanes new.lanes
@@ -147,6 +116,8 @@ TellsFirst old new Ended = (new.crew_faults ≡ old.crew_faults) × (new.out_fau
 pub record Runs (most : ℕ) (old new : OutsideView) (origin : Origin) (back : CoreState) (it : RunWhy) : Type 0 where
   pub origin_is : back.origin ≡ origin
   pub history : IsRunOf back.origin back.log
+  -- its entries are proper: so it is the only log with its text
+  pub proper : IsTrue (list_all is_proper_entry back.log)
   -- it has at most as many entries as it may have
   pub within : length back.log ≤ back.origin.limit
   pub outcome : RunOutcome most old new back it

@@ -18,8 +18,10 @@ use Rattle.tb_run.specs.declared.ends.RunWhy.TheVariants.{Ended, Crew, Clock, Ou
 use Rattle.tb_run.specs.declared.worker.Work.{Work}
 use Rattle.tb_run.specs.Clocks.{ClockRan, ClockStopped}
 use Rattle.tb_run.specs.Jobs.{HasRight}
-use Rattle.tb_run.specs.Outcomes.{OutsideView, EachLane, LaneRan, LaneStopped, IsDone, TellsFirst}
-use Rattle.tb_run.specs.Seats.{SeesTrace, WasFull}
+use Rattle.tb_run.specs.Outcomes.{LaneRan, LaneStopped, IsDone, TellsFirst}
+use Rattle.tb_run.specs.Views.{OutsideView, EachLane}
+use Rattle.tb_run.specs.Refusals.{WasRefused}
+use Rattle.tb_run.specs.Seats.{SeesTrace}
 use Rattle.tb_run.specs.Workers.{bus_of}
 
 -- each seat is one of the bus, with the right for its work
@@ -62,7 +64,7 @@ IsPutBy seat writer old new = IsPut seat.seen writer old.put new.put old.out_fau
 abbrev pub ComesTo : ℕ → OutsideView → OutsideView → SeatView → WriterView → RunWhy → Type 0
 ComesTo most old new seat writer Ended = IsPutBy seat writer old new × IsStopped most seat.seen old new × RunsIfClosed most ⊥ seat old new
 ComesTo most old new seat writer Clock = IsPutBy seat writer old new × IsStopped most seat.seen old new × RunsIfClosed most (Rose old.clock_faults new.clock_faults) seat old new × Rose old.clock_faults new.clock_faults
-ComesTo most old new seat writer Events = IsPutBy seat writer old new × IsStopped most seat.seen old new × WasFull seat
+ComesTo most old new seat writer Events = IsPutBy seat writer old new × IsStopped most seat.seen old new × WasRefused most old new seat.origin seat.seen
 ComesTo most old new seat writer Sink = PutsPrefix seat.seen old new × IsStopped most seat.seen old new × Rose old.out_faults new.out_faults
 ComesTo most old new seat writer NoMemory = PutsPrefix seat.seen old new × IsStopped most seat.seen old new
 ComesTo most old new seat writer Crew = (new.put ≡ old.put) × (new.lanes ≡ old.lanes) × (new.clock ≡ old.clock) × (seat.seen ≡ []) × Rose old.crew_faults new.crew_faults

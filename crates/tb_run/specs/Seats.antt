@@ -36,16 +36,6 @@ pub record Adds (old new : SeatView) (more : List Entry) : Type 0 where
   pub trace : SeesTrace old → SeesTrace new
   pub told : old.told ≡ true → new.told ≡ true
 
--- at some place of what the seat has seen the log had no room for what some call would log
-pub record WasFull (seat : SeatView) : Type 0 where
-  pub core : CoreState
-  pub call : Call
-  pub rest : List Entry
-  pub may : MayCall call
-  pub origin : core.origin ≡ seat.origin
-  pub seen : seat.seen ≡ core.log ++ rest
-  pub full : is_full core call ≡ true
-
 -- This call, which the seat may make, found no room in the log, at some place behind what the seat had seen before.
 pub record FoundFull (call : Call) (old new : SeatView) : Type 0 where
   pub core : CoreState

@@ -199,8 +199,11 @@ TickerEnds Enough tail last old new count faults_old faults_new ended end.Over =
 TickerEnds Enough tail last old new count faults_old faults_new ended end.Failed = IsNoTicks tail × Rose faults_old faults_new
 -- the last entry is a tick that was dropped since the bus is down
 TickerEnds Enough tail last old new count faults_old faults_new ended end.Down = (tail ≡ []) × EndsWith new (Fed input.Tick (Dropped why.Down))
--- a tick found no room, or the word that no more come
-TickerEnds Enough tail last old new count faults_old faults_new ended end.Full = (tail ≡ []) × (((last ≡ 1) × FoundFull (HandIn input.Tick) old new) ⊎ ((last ≡ 0) × FoundFull (HandIn input.NoTicks) old new))
+-- a tick found no room, or the word that no more come, for one of its causes
+TickerEnds Enough tail last old new count faults_old faults_new ended end.Full =
+    (tail ≡ [])
+    × (((last ≡ 1) × FoundFull (HandIn input.Tick) old new)
+    ⊎ ((last ≡ 0) × ((ended ≡ true) ⊎ (Rose faults_old faults_new ⊎ Enough count)) × FoundFull (HandIn input.NoTicks) old new))
 TickerEnds Enough tail last old new count faults_old faults_new ended end.Stopped = tail ≡ []
 TickerEnds Enough tail last old new count faults_old faults_new ended end.NoMemory = tail ≡ []
 

@@ -6,6 +6,7 @@ mod ending;
 mod ends;
 mod hand;
 mod lanes;
+mod laws;
 mod logger;
 mod moving;
 mod parts;
@@ -23,6 +24,7 @@ mod writer;
 
 pub use ends::{LogEnd, RunWhy, WorkEnd};
 pub use lanes::{AnyInlet, AnyOutlet};
+pub use laws::a_run_that_ended_was_not_refused;
 pub use reader::read_lane;
 pub use running::run;
 pub use stepper::step_worker;

@@ -1,11 +1,13 @@
 //! The run of a bus: all its workers, and the log that is written meanwhile.
-ghost use Rattle.std.specs.Prelude.{◌≡◌, ◌≤◌, ◌+◌, ◌∷◌, [], map, drop, length, vec_len, vec_capacity, false, IfSome, OnOk, OnErr, IsErrOf};
-ghost use Rattle.std.specs.List.{All};
+ghost use Rattle.std.specs.Prelude.{◌≡◌, ◌≤◌, ◌+◌, ◌∷◌, [], map, drop, length, vec_len, vec_capacity, false, IfSome, OnOk, OnErr, IsErrOf, IsTrue};
+ghost use Rattle.std.specs.List.{All, list_all};
 ghost use Rattle.tb_edge.specs.Faults.{Rose};
 ghost use Rattle.tb_edge.specs.Sinks.{Writes, WritesPrefix};
 ghost use Rattle.tb_log.specs.LogText.{log_text_from};
+ghost use Rattle.tb_log.specs.Proper.{is_proper_entry};
 ghost use Rattle.tb_lock.specs.Seats.{first_seat};
-ghost use Rattle.tb_run.specs.Outcomes.{Runs, lane_view, outside_of, views};
+ghost use Rattle.tb_run.specs.Outcomes.{Runs};
+ghost use Rattle.tb_run.specs.Views.{ends_seen, outside_seen};
 ghost use Rattle.tb_run.specs.Running.{IsAfterRest, GoesToRest};
 
 use crate::ends::RunWhy;
@@ -23,7 +25,7 @@ use tb_bells::Bells;
 use tb_core::{Core, a_full_log_is_at_its_limit};
 use tb_edge::{Clock, Crew, Inlet, LanePair, Outlet, Sink};
 use tb_lock::{Seat, Shared};
-use tb_log::Log;
+use tb_log::{Log, show_proper_log};
 use tb_terms::NoMemory;
 use tb_write::{LogFault, LogWriter};
 
@@ -54,15 +56,9 @@ where
     requires outlets { vec_len outlets.old ≡ 16 }
     requires log { core.log ≡ [] }
     requires running { core.stopped ≡ false }
-    ensures runs { Runs ticks
-        (outside_of
-        (views I.told O.told O.faults inlets.old.items outlets.old.items)
-        (C.told clock.old) (C.faults clock.old) (P.faults crew.old)
-        (S.taken out.old) (S.faults out.old))
-        (outside_of
-        (views I.told O.told O.faults inlets.new.items outlets.new.items)
-        (C.told clock.new) (C.faults clock.new) (P.faults crew.new)
-        (S.taken out.new) (S.faults out.new))
+    ensures runs { let seen = ends_seen I.Inlet O.Outlet C.Clock P.Crew S.Sink in
+        Runs ticks (seen inlets.old.items outlets.old.items clock.old crew.old out.old)
+        (seen inlets.new.items outlets.new.items clock.new crew.new out.new)
         core.origin result.1 result.0 }
     ensures inlets { vec_len inlets.new ≡ 16 }
     ensures outlets { vec_len outlets.new ≡ 16 }
@@ -106,15 +102,9 @@ where
     requires inlets { vec_len inlets.old ≡ 16 }
     requires outlets { vec_len outlets.old ≡ 16 }
     requires first { seat ≡ first_seat shared seat.origin }
-    ensures runs { Runs ticks
-        (outside_of
-        (views I.told O.told O.faults inlets.old.items outlets.old.items)
-        (C.told clock.old) (C.faults clock.old) (P.faults crew.old)
-        (S.taken out.old) (S.faults out.old))
-        (outside_of
-        (views I.told O.told O.faults inlets.new.items outlets.new.items)
-        (C.told clock.new) (C.faults clock.new) (P.faults crew.new)
-        (S.taken out.new) (S.faults out.new))
+    ensures runs { let seen = ends_seen I.Inlet O.Outlet C.Clock P.Crew S.Sink in
+        Runs ticks (seen inlets.old.items outlets.old.items clock.old crew.old out.old)
+        (seen inlets.new.items outlets.new.items clock.new crew.new out.new)
         seat.origin result.1 result.0 }
     ensures inlets { vec_len inlets.new ≡ 16 }
     ensures outlets { vec_len outlets.new ≡ 16 }
@@ -132,12 +122,14 @@ where
     (why, core)
 }
 
-/// Writes what is left of a log, where nothing failed before.
+/// Writes what is left of a log, where nothing failed before. A log has proper entries alone.
 fn put_rest<S: Sink>(log: &Log, why: RunWhy, writer: LogWriter, out: &mut S) -> RunWhy
     requires held { GoesToRest log.now.entries writer why }
-    ensures { IsAfterRest log.now.entries writer why result (S.taken out.old) (S.taken out.new)
-        (S.faults out.old) (S.faults out.new) }
+    ensures rest { IsAfterRest log.now.entries writer why result (S.taken out.old)
+        (S.taken out.new) (S.faults out.old) (S.faults out.new) }
+    ensures proper { IsTrue (list_all is_proper_entry log.now.entries) }
 {
+    show_proper_log(log);
     match why {
         RunWhy::Ended | RunWhy::Clock | RunWhy::Events => match put_behind(log, writer, out) {
             Ok(()) => why,
@@ -203,22 +195,10 @@ where
     requires lanes { vec_len lanes.old ≡ 16 }
     requires log { core.log ≡ [] }
     requires running { core.stopped ≡ false }
-    ensures runs { Runs ticks
-        (outside_of
-        (map (λ pair. lane_view
-        ⟦<Box<dyn Inlet + Send> as Inlet>⟧.told
-        ⟦<Box<dyn Outlet + Send> as Outlet>⟧.told
-        ⟦<Box<dyn Outlet + Send> as Outlet>⟧.faults pair.inlet pair.outlet) lanes.old.items)
-        (C.told clock.old) (C.faults clock.old) (P.faults crew.old)
-        (S.taken out.old) (S.faults out.old))
-        (outside_of
-        (map (λ pair. lane_view
-        ⟦<Box<dyn Inlet + Send> as Inlet>⟧.told
-        ⟦<Box<dyn Outlet + Send> as Outlet>⟧.told
-        ⟦<Box<dyn Outlet + Send> as Outlet>⟧.faults pair.inlet pair.outlet) lanes.new.items)
-        (C.told clock.new) (C.faults clock.new) (P.faults crew.new)
-        (S.taken out.new) (S.faults out.new))
-        core.origin result.1 result.0 }
+    ensures runs { let seen = outside_seen ⟦<Box<dyn Inlet + Send> as Inlet>⟧
+        ⟦<Box<dyn Outlet + Send> as Outlet>⟧ C.Clock P.Crew S.Sink in
+        Runs ticks (seen lanes.old.items clock.old crew.old out.old)
+        (seen lanes.new.items clock.new crew.new out.new) core.origin result.1 result.0 }
     ensures lanes { vec_len lanes.new ≡ 16 }
 {
     let Ok(boxes) = make_boxes(alloc) else {

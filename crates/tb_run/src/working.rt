@@ -9,7 +9,7 @@ ghost use Rattle.tb_run.specs.Jobs.{IsReady, WorkDone};
 ghost use Rattle.tb_run.specs.Joining.{JoinsAll};
 ghost use Rattle.tb_run.specs.Logging.{LogDone};
 ghost use Rattle.tb_run.specs.Moving.{works_of, inlets_of, outlets_of};
-ghost use Rattle.tb_run.specs.Outcomes.{outside_of, views};
+ghost use Rattle.tb_run.specs.Views.{ends_seen};
 ghost use Rattle.tb_run.specs.Parting.{left_after, parted};
 ghost use Rattle.tb_run.specs.Parts.{job_rights, to_tick};
 ghost use Rattle.tb_run.specs.Reasons.{reason_of};
@@ -90,15 +90,9 @@ where
     requires inlets { vec_len inlets.old ≡ 16 }
     requires outlets { vec_len outlets.old ≡ 16 }
     requires first { seat.old ≡ first_seat shared.now seat.old.origin }
-    ensures come { HasCome ticks
-        (outside_of
-        (views I.told O.told O.faults inlets.old.items outlets.old.items)
-        (C.told clock.old) (C.faults clock.old) (P.faults crew.old)
-        (S.taken out.old) (S.faults out.old))
-        (outside_of
-        (views I.told O.told O.faults inlets.new.items outlets.new.items)
-        (C.told clock.new) (C.faults clock.new) (P.faults crew.new)
-        (S.taken out.new) (S.faults out.new))
+    ensures come { let seen = ends_seen I.Inlet O.Outlet C.Clock P.Crew S.Sink in
+        HasCome ticks (seen inlets.old.items outlets.old.items clock.old crew.old out.old)
+        (seen inlets.new.items outlets.new.items clock.new crew.new out.new)
         seat.old seat.new result.1 result.0 }
     ensures inlets { vec_len inlets.new ≡ 16 }
     ensures outlets { vec_len outlets.new ≡ 16 }

@@ -5,7 +5,7 @@ use Rattle.tb_bus.specs.Buses.{start}
 use Rattle.tb_cli.specs.declared.command.Command.{Command}
 use Rattle.tb_cli.specs.declared.command.Command.TheVariants as command
 use Rattle.tb_edge.specs.Faults.{Rose}
-use Rattle.tb_run.specs.Outcomes.{OutsideView}
+use Rattle.tb_run.specs.Views.{OutsideView}
 use Rattle.tb_run.specs.declared.ends.RunWhy.TheVariants as why
 use Rattle.tb_top.specs.Run.{IsRun, LiveOutcome, RunRequest}
 use Rattle.tb_expand.specs.declared.fault.ExpandFault.TheVariants as expand

@@ -1,4 +1,5 @@
 pub mod Parts
 pub mod Completeness
+mod OneLog
 pub mod Summaries
 pub mod AskedRings

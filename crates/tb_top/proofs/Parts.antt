@@ -6,7 +6,10 @@ use Rattle.tb_bus.specs.Buses.{start}
 use Rattle.tb_bus.specs.declared.origin.Origin.{Origin}
 use Rattle.tb_bus.specs.Traces.{IsTrace}
 use Rattle.tb_gen.specs.Ring.{ring_text}
+use Rattle.std.specs.Prelude.{◌≤◌, IsTrue, length}
+use Rattle.std.specs.List.{list_all}
 use Rattle.tb_log.specs.LogText.{log_text}
+use Rattle.tb_log.specs.Proper.{is_proper_entry}
 use Rattle.tb_log.specs.declared.entry.Entry.{Entry}
 use Rattle.tb_log.specs.declared.entry.Input.{Input}
 use Rattle.tb_script.specs.Findings.{IsFound, Program'}
@@ -21,7 +24,8 @@ use Rattle.tb_top.specs.Loading.{HasProgram, IsAccepted, IsRefused}
 use Rattle.tb_top.specs.Outcomes.{CommandOutcome}
 use Rattle.tb_core.specs.Cores.{CoreState}
 use Rattle.tb_edge.specs.Faults.{Rose}
-use Rattle.tb_run.specs.Outcomes.{OutsideView, RunOutcome, Runs}
+use Rattle.tb_run.specs.Outcomes.{RunOutcome, Runs}
+use Rattle.tb_run.specs.Views.{OutsideView}
 use Rattle.tb_run.specs.declared.ends.RunWhy.{RunWhy}
 use Rattle.tb_run.specs.declared.ends.RunWhy.TheVariants as why
 use Rattle.tb_top.specs.Run.{IsRun, LiveOutcome, RunRequest}
@@ -42,30 +46,30 @@ abbrev request_of : List ℕ → Option (List ℕ) → ℕ → Origin → Reques
 request_of script name steps origin = record { script = script; feed = name; connects = origin.connects; steps = steps; events = origin.limit }
 
 simulated : (steps : ℕ) (origin : Origin) (inputs : List Input) (held : List ℕ → Option (List ℕ)) (script : List ℕ) (name : Option (List ℕ)) (log : List Entry) (last : SimEnd) →
-    IsSim (limits_of steps origin) (sim_start (start origin) inputs) log last → IsTrace (start origin) log → IsFed held name inputs → HasProgram (held script) origin.program →
+    IsSim (limits_of steps origin) (sim_start (start origin) inputs) log last → IsTrace (start origin) log → IsTrue (list_all is_proper_entry log) → length log ≤ origin.limit → IsFed held name inputs → HasProgram (held script) origin.program →
     IsSimOf held (request_of script name steps origin) log last
-simulated steps origin inputs held script name log last is trace fed has = record { program = origin.program; has = has; inputs = inputs; fed = fed; simulated = is; trace = trace }
+simulated steps origin inputs held script name log last is trace proper within fed has = record { program = origin.program; has = has; inputs = inputs; fed = fed; simulated = is; trace = trace; proper = proper; within = within }
 
 -- the log was put, or a front of its text
 pub log-written : {A : Type 0} (steps : ℕ) (origin : Origin) (inputs : List Input) (log : List Entry) (last : SimEnd) (old new : Option (List ℕ)) (answer : Result A Fault) →
-    IsSim (limits_of steps origin) (sim_start (start origin) inputs) log last → IsTrace (start origin) log → PutsText (log_text log) last old new answer →
+    IsSim (limits_of steps origin) (sim_start (start origin) inputs) log last → IsTrace (start origin) log → IsTrue (list_all is_proper_entry log) → length log ≤ origin.limit → PutsText (log_text log) last old new answer →
     IsSimulated steps origin inputs old new answer
-log-written steps origin inputs log last old new (Ok done) is trace put held script name fed has =
-    (log, subst (IsSimOf held (request_of script name steps origin) log) put.0 (simulated steps origin inputs held script name log last is trace fed has), put.1)
-log-written steps origin inputs log last old new (Err (Limit bound.Steps)) is trace put held script name fed has =
-    (log, subst (IsSimOf held (request_of script name steps origin) log) put.0 (simulated steps origin inputs held script name log last is trace fed has), put.1)
-log-written steps origin inputs log last old new (Err (Limit bound.Events)) is trace put held script name fed has =
-    (log, subst (IsSimOf held (request_of script name steps origin) log) put.0 (simulated steps origin inputs held script name log last is trace fed has), put.1)
-log-written steps origin inputs log last old new (Err Out) is trace put held script name fed has =
-    (log, last, simulated steps origin inputs held script name log last is trace fed has, put)
-log-written steps origin inputs log last old new (Err NoMemory) is trace put held script name fed has =
-    inr (log, last, simulated steps origin inputs held script name log last is trace fed has, put)
-log-written steps origin inputs log last old new (Err (Script fault)) is trace put held script name fed has = absurd put.0
-log-written steps origin inputs log last old new (Err (Feed fault)) is trace put held script name fed has = absurd put.0
-log-written steps origin inputs log last old new (Err (Words fault)) is trace put held script name fed has = absurd put.0
-log-written steps origin inputs log last old new (Err File) is trace put held script name fed has = absurd put.0
-log-written steps origin inputs log last old new (Err Clock) is trace put held script name fed has = absurd put.0
-log-written steps origin inputs log last old new (Err Crew) is trace put held script name fed has = absurd put.0
+log-written steps origin inputs log last old new (Ok done) is trace proper within put held script name fed has =
+    (log, subst (IsSimOf held (request_of script name steps origin) log) put.0 (simulated steps origin inputs held script name log last is trace proper within fed has), put.1)
+log-written steps origin inputs log last old new (Err (Limit bound.Steps)) is trace proper within put held script name fed has =
+    (log, subst (IsSimOf held (request_of script name steps origin) log) put.0 (simulated steps origin inputs held script name log last is trace proper within fed has), put.1)
+log-written steps origin inputs log last old new (Err (Limit bound.Events)) is trace proper within put held script name fed has =
+    (log, subst (IsSimOf held (request_of script name steps origin) log) put.0 (simulated steps origin inputs held script name log last is trace proper within fed has), put.1)
+log-written steps origin inputs log last old new (Err Out) is trace proper within put held script name fed has =
+    (log, last, simulated steps origin inputs held script name log last is trace proper within fed has, put)
+log-written steps origin inputs log last old new (Err NoMemory) is trace proper within put held script name fed has =
+    inr (log, last, simulated steps origin inputs held script name log last is trace proper within fed has, put)
+log-written steps origin inputs log last old new (Err (Script fault)) is trace proper within put held script name fed has = absurd put.0
+log-written steps origin inputs log last old new (Err (Feed fault)) is trace proper within put held script name fed has = absurd put.0
+log-written steps origin inputs log last old new (Err (Words fault)) is trace proper within put held script name fed has = absurd put.0
+log-written steps origin inputs log last old new (Err File) is trace proper within put held script name fed has = absurd put.0
+log-written steps origin inputs log last old new (Err Clock) is trace proper within put held script name fed has = absurd put.0
+log-written steps origin inputs log last old new (Err Crew) is trace proper within put held script name fed has = absurd put.0
 
 -- a feed that isn't read ends the work on a program
 pub unread : (A : Type 0) (held : List ℕ → Option (List ℕ)) (request : Request) (program : Program) (told : Option (List ℕ)) (fault : Fault) →

@@ -5,6 +5,7 @@ pub mod Completeness
 pub mod Helpers
 pub mod Lines
 pub mod Loading
+pub mod OneLog
 pub mod Outcomes
 pub mod Reporting
 pub mod Ring

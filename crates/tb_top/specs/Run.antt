@@ -3,7 +3,8 @@ use Rattle.std.specs.Prelude.{◌≡◌, ◌⊎◌, ℕ, List, Option, Result, O
 use Rattle.tb_body.specs.declared.program.Program.{Program}
 use Rattle.tb_bus.specs.Buses.{origin_of}
 use Rattle.tb_core.specs.Cores.{CoreState}
-use Rattle.tb_run.specs.Outcomes.{OutsideView, Runs}
+use Rattle.tb_run.specs.Outcomes.{Runs}
+use Rattle.tb_run.specs.Views.{OutsideView}
 use Rattle.tb_run.specs.declared.ends.RunWhy.{RunWhy}
 use Rattle.tb_run.specs.declared.ends.RunWhy.TheVariants as why
 use Rattle.tb_top.specs.Loading.{HasProgram, IsUnloaded}

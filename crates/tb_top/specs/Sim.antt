@@ -1,5 +1,6 @@
 -- How `sim` ends, and what was put then.
-use Rattle.std.specs.Prelude.{◌≡◌, ◌⊎◌, ℕ, List, [], Option, Some, None, Result, Ok, Err}
+use Rattle.std.specs.Prelude.{◌≡◌, ◌≤◌, ◌⊎◌, ℕ, List, [], Option, Some, None, IsTrue, Result, Ok, Err, length}
+use Rattle.std.specs.List.{list_all}
 use Rattle.tb_edge.specs.Sinks.{Writes, WritesPrefix}
 use Rattle.tb_body.specs.declared.program.Program.{Program}
 use Rattle.tb_bus.specs.declared.origin.Origin.{Origin}
@@ -9,6 +10,7 @@ use Rattle.tb_feed.specs.Feeds.{IsFeedOf, IsFirstBad}
 use Rattle.tb_feed.specs.declared.fault.FeedFault.{FeedFault}
 use Rattle.tb_feed.specs.declared.fault.FeedFault.TheVariants as feed_fault
 use Rattle.tb_log.specs.LogText.{log_text}
+use Rattle.tb_log.specs.Proper.{is_proper_entry}
 use Rattle.tb_log.specs.declared.entry.Input.{Input}
 use Rattle.tb_log.specs.declared.entry.Entry.{Entry}
 use Rattle.tb_sim.specs.Simulation.{IsSim, limits_of, sim_start}
@@ -46,7 +48,8 @@ IsFeedRefused held (Some name) feed_fault.NoMemory = ⊥
 abbrev pub origin_for : Request → Program → Origin
 origin_for request program = origin_of program request.connects request.events
 
--- The script has a program, these inputs are fed, and this log is that of its simulation, which ends so. It is a trace of the program.
+-- The script has a program, these inputs are fed, and this log is that of its simulation, which ends so. It is a trace of the program, of proper entries:
+-- so it is the only log with its text.
 pub record IsSimOf (held : List ℕ → Option (List ℕ)) (request : Request) (log : List Entry) (last : SimEnd) : Type 0 where
   pub program : Program
   pub has : HasProgram (held request.script) program
@@ -54,6 +57,9 @@ pub record IsSimOf (held : List ℕ → Option (List ℕ)) (request : Request) (
   pub fed : IsFed held request.feed inputs
   pub simulated : IsSim (limits_of request.steps (origin_for request program)) (sim_start (start (origin_for request program)) inputs) log last
   pub trace : IsTrace (start (origin_for request program)) log
+  pub proper : IsTrue (list_all is_proper_entry log)
+  -- it has at most as many entries as it may have
+  pub within : length log ≤ request.events
 
 -- the whole text of the log of the simulation was put, which ends so
 abbrev pub PutsLog : (List ℕ → Option (List ℕ)) → Request → Option (List ℕ) → Option (List ℕ) → SimEnd → Type 0

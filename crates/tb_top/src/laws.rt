@@ -1,21 +1,26 @@
-ghost use Rattle.std.specs.Prelude.{◌≡◌, ◌≢◌, ◌≤◌, ◌+◌, ◌*◌, ◌⊎◌, ◌++◌, ◌∷◌, [], ℕ, List, Option, Ok, Some, codes, length};
+ghost use Rattle.std.specs.Prelude.{◌≡◌, ◌≢◌, ◌≤◌, ◌<◌, ◌^◌, ◌+◌, ◌*◌, ◌⊎◌, ◌++◌, ◌∷◌, [], ℕ, List, Option, Ok, Some, codes, length};
 ghost use Rattle.std.specs.Fmt.{decimal};
 ghost use Rattle.tb_body.specs.declared.program.Program.{Program};
 ghost use Rattle.tb_cli.specs.declared.command.Command.TheVariants.{Check, Ring, Run, Sim};
 ghost use Rattle.tb_cli.specs.Words.{asked};
 ghost use Rattle.tb_edge.specs.Faults.{Rose};
+ghost use Rattle.tb_edge.specs.Sinks.{Writes};
+ghost use Rattle.tb_log.specs.LogText.{log_text};
 ghost use Rattle.tb_log.specs.declared.entry.Entry.{Entry};
+ghost use Rattle.tb_run.specs.Views.{OutsideView};
+ghost use Rattle.tb_run.specs.declared.ends.RunWhy.{RunWhy};
 ghost use Rattle.tb_run.specs.declared.ends.RunWhy.TheVariants as why;
 ghost use Rattle.tb_script.specs.Findings.{IsFound, Program'};
 ghost use Rattle.tb_sim.specs.declared.ends.SimEnd.{SimEnd};
 ghost use Rattle.tb_sim.specs.declared.ends.SimEnd.TheVariants.{Down};
 ghost use Rattle.tb_top.specs.Completeness.{MustEnd};
 ghost use Rattle.tb_top.specs.Loading.{most_bytes};
+ghost use Rattle.tb_top.specs.OneLog.{HasPut, PutsAll};
 ghost use Rattle.tb_top.specs.Outcomes.{Comes};
 ghost use Rattle.tb_top.specs.Reporting.{Reported};
 ghost use Rattle.tb_top.specs.Ring.{IsRingOf, summary};
 ghost use Rattle.tb_top.specs.Run.{IsRun, RunRequest};
-ghost use Rattle.tb_top.specs.Sim.{Request};
+ghost use Rattle.tb_top.specs.Sim.{IsSimOf, Request};
 ghost use Rattle.tb_top.specs.Views.{Seen};
 
 use crate::status::{Bound, Edge, Status};
@@ -59,6 +64,29 @@ pub fn a_ring_is_put()
         → (status ≡ Status.Outside Edge.Err → ⊥)
         → Reported {A = Unit {0}} (Comes (Ok (Ring n k)) old new) told more status
         → (status ≡ Status.Ended) ⊎ (status ≡ Status.NoMemory) }
+{}
+
+/// The bytes that a run put are the text of one log alone: two runs whose whole text was put have the same log where they put
+/// the same bytes, whatever their scripts were.
+pub fn a_run_has_one_log()
+    ensures { (held other_held : List ℕ → Option (List ℕ)) (request other_request : RunRequest)
+        (old new other_old other_new : OutsideView) (it other_it : RunWhy) (bytes : List ℕ)
+        (run : IsRun held request old new it)
+        (other : IsRun other_held other_request other_old other_new other_it)
+        → request.events < 2 ^ 64 → other_request.events < 2 ^ 64 → PutsAll it → PutsAll other_it
+        → HasPut bytes old.put new.put → HasPut bytes other_old.put other_new.put
+        → run.back.log ≡ other.back.log }
+{}
+
+/// The same of two simulations.
+pub fn a_simulation_has_one_log()
+    ensures { (held other_held : List ℕ → Option (List ℕ)) (request other_request : Request)
+        (log other : List Entry) (last other_last : SimEnd)
+        (old new other_old other_new : Option (List ℕ)) (bytes : List ℕ)
+        → request.events < 2 ^ 64 → other_request.events < 2 ^ 64
+        → IsSimOf held request log last → IsSimOf other_held other_request other other_last
+        → Writes old new (log_text log) → Writes other_old other_new (log_text other)
+        → HasPut bytes old new → HasPut bytes other_old other_new → log ≡ other }
 {}
 
 /// What `ring` puts of a ring: one step more than there are messages, the last of which is the shutdown.

@@ -15,8 +15,8 @@ mod top;
 
 pub use fault::Fault;
 pub use laws::{
-    a_ring_has_one_summary, a_ring_is_put, a_run_of_an_accepted_script_ends,
-    a_simulation_that_ends_is_put, an_accepted_script_is_told,
+    a_ring_has_one_summary, a_ring_is_put, a_run_has_one_log, a_run_of_an_accepted_script_ends,
+    a_simulation_has_one_log, a_simulation_that_ends_is_put, an_accepted_script_is_told,
 };
 pub use status::{Bound, Edge, Status};
 pub use top::toolbus;

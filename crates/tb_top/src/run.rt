@@ -3,7 +3,7 @@ ghost use Rattle.std.specs.Prelude.{◌≡◌, ◌≤◌, List, [], Err, IfErr, 
 ghost use Rattle.tb_bus.specs.Buses.{origin_of};
 ghost use Rattle.tb_cli.specs.Table.{most_connects};
 ghost use Rattle.tb_edge.specs.Faults.{Rose};
-ghost use Rattle.tb_run.specs.Outcomes.{lane_view, outside_of};
+ghost use Rattle.tb_run.specs.Views.{outside_seen};
 ghost use Rattle.tb_top.specs.Asking.{AsksBeside};
 ghost use Rattle.tb_top.specs.Run.{LiveOutcome};
 ghost use Rattle.tb_top.specs.Helpers.Parts.{EndsRun, IsLive, IsLiveFault};
@@ -39,22 +39,12 @@ pub fn run_script<R: Threads + Wait + Sync, F: Files, O: Sink, C: Clock + Send, 
     requires connects { length connects.now ≤ most_connects }
     requires events { events ≤ 4000000 }
     requires lanes { vec_len lanes.old ≡ 16 }
-    ensures outcome { LiveOutcome (F.held files.old)
+    ensures outcome { let seen = outside_seen ⟦<Box<dyn Inlet + Send> as Inlet>⟧
+        ⟦<Box<dyn Outlet + Send> as Outlet>⟧ C.Clock P.Crew O.Sink in
+        LiveOutcome (F.held files.old)
         (record { script = script.now; connects = connects.now; ticks = ticks; events = events })
-        (outside_of
-        (map (λ pair. lane_view
-        ⟦<Box<dyn Inlet + Send> as Inlet>⟧.told
-        ⟦<Box<dyn Outlet + Send> as Outlet>⟧.told
-        ⟦<Box<dyn Outlet + Send> as Outlet>⟧.faults pair.inlet pair.outlet) lanes.old.items)
-        (C.told clock.old) (C.faults clock.old) (P.faults crew.old)
-        (O.taken out.old) (O.faults out.old))
-        (outside_of
-        (map (λ pair. lane_view
-        ⟦<Box<dyn Inlet + Send> as Inlet>⟧.told
-        ⟦<Box<dyn Outlet + Send> as Outlet>⟧.told
-        ⟦<Box<dyn Outlet + Send> as Outlet>⟧.faults pair.inlet pair.outlet) lanes.new.items)
-        (C.told clock.new) (C.faults clock.new) (P.faults crew.new)
-        (O.taken out.new) (O.faults out.new)) result }
+        (seen lanes.old.items clock.old crew.old out.old)
+        (seen lanes.new.items clock.new crew.new out.new) result }
     ensures asks { AsksBeside (F.held files.old script.now) script.now []
         (F.asked files.old) (F.asked files.new) result }
     ensures file_rose { result ≡ Err Fault.File → Rose (F.faults files.old) (F.faults files.new) }
@@ -87,21 +77,11 @@ fn run_program<R: Threads + Wait + Sync, O: Sink, C: Clock + Send, P: Crew>(
     requires connects { length connects.now ≤ most_connects }
     requires events { events ≤ 4000000 }
     requires lanes { vec_len lanes.old ≡ 16 }
-    ensures outcome { IsLive ticks (origin_of program connects.now events)
-        (outside_of
-        (map (λ pair. lane_view
-        ⟦<Box<dyn Inlet + Send> as Inlet>⟧.told
-        ⟦<Box<dyn Outlet + Send> as Outlet>⟧.told
-        ⟦<Box<dyn Outlet + Send> as Outlet>⟧.faults pair.inlet pair.outlet) lanes.old.items)
-        (C.told clock.old) (C.faults clock.old) (P.faults crew.old)
-        (O.taken out.old) (O.faults out.old))
-        (outside_of
-        (map (λ pair. lane_view
-        ⟦<Box<dyn Inlet + Send> as Inlet>⟧.told
-        ⟦<Box<dyn Outlet + Send> as Outlet>⟧.told
-        ⟦<Box<dyn Outlet + Send> as Outlet>⟧.faults pair.inlet pair.outlet) lanes.new.items)
-        (C.told clock.new) (C.faults clock.new) (P.faults crew.new)
-        (O.taken out.new) (O.faults out.new)) result }
+    ensures outcome { let seen = outside_seen ⟦<Box<dyn Inlet + Send> as Inlet>⟧
+        ⟦<Box<dyn Outlet + Send> as Outlet>⟧ C.Clock P.Crew O.Sink in
+        IsLive ticks (origin_of program connects.now events)
+        (seen lanes.old.items clock.old crew.old out.old)
+        (seen lanes.new.items clock.new crew.new out.new) result }
     ensures behind { IfErr result IsLiveFault }
     ensures out_rose { result ≡ Err Fault.Out → Rose (O.faults out.old) (O.faults out.new) }
     ensures clock_rose { result ≡ Err Fault.Clock → Rose (C.faults clock.old) (C.faults clock.new) }
@@ -128,21 +108,11 @@ fn run_core<R: Threads + Wait + Sync, O: Sink, C: Clock + Send, P: Crew>(
     requires fresh { core.log ≡ [] }
     requires running { core.stopped ≡ false }
     requires lanes { vec_len lanes.old ≡ 16 }
-    ensures outcome { IsLive ticks core.origin
-        (outside_of
-        (map (λ pair. lane_view
-        ⟦<Box<dyn Inlet + Send> as Inlet>⟧.told
-        ⟦<Box<dyn Outlet + Send> as Outlet>⟧.told
-        ⟦<Box<dyn Outlet + Send> as Outlet>⟧.faults pair.inlet pair.outlet) lanes.old.items)
-        (C.told clock.old) (C.faults clock.old) (P.faults crew.old)
-        (O.taken out.old) (O.faults out.old))
-        (outside_of
-        (map (λ pair. lane_view
-        ⟦<Box<dyn Inlet + Send> as Inlet>⟧.told
-        ⟦<Box<dyn Outlet + Send> as Outlet>⟧.told
-        ⟦<Box<dyn Outlet + Send> as Outlet>⟧.faults pair.inlet pair.outlet) lanes.new.items)
-        (C.told clock.new) (C.faults clock.new) (P.faults crew.new)
-        (O.taken out.new) (O.faults out.new)) result }
+    ensures outcome { let seen = outside_seen ⟦<Box<dyn Inlet + Send> as Inlet>⟧
+        ⟦<Box<dyn Outlet + Send> as Outlet>⟧ C.Clock P.Crew O.Sink in
+        IsLive ticks core.origin
+        (seen lanes.old.items clock.old crew.old out.old)
+        (seen lanes.new.items clock.new crew.new out.new) result }
     ensures behind { IfErr result IsLiveFault }
     ensures out_rose { result ≡ Err Fault.Out → Rose (O.faults out.old) (O.faults out.new) }
     ensures clock_rose { result ≡ Err Fault.Clock → Rose (C.faults clock.old) (C.faults clock.new) }

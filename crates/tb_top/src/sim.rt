@@ -1,8 +1,10 @@
 //! `sim`: the log of a script's simulation.
-ghost use Rattle.std.specs.Prelude.{◌≡◌, ◌≤◌, ℕ, List, [], option_to_list, Err, IfErr, length, false};
+ghost use Rattle.std.specs.Prelude.{◌≡◌, ◌≤◌, ℕ, List, [], option_to_list, Err, IfErr, IsTrue, length, false};
+ghost use Rattle.std.specs.List.{list_all};
 ghost use Rattle.tb_edge.specs.Faults.{Rose};
 ghost use Rattle.tb_bus.specs.Buses.{origin_of};
 ghost use Rattle.tb_log.specs.LogText.{log_text};
+ghost use Rattle.tb_log.specs.Proper.{is_proper_entry};
 ghost use Rattle.tb_log.specs.Shapes.{lane_count};
 ghost use Rattle.tb_top.specs.Asking.{AsksBeside};
 ghost use Rattle.tb_top.specs.Loading.{HasProgram};
@@ -17,7 +19,7 @@ use tb_body::Program;
 use tb_core::Core;
 use tb_edge::{Files, Sink};
 use tb_feed::Feed;
-use tb_log::Log;
+use tb_log::{Log, show_proper_log};
 use tb_sim::{SimEnd, simulate};
 use tb_terms::{NoMemory, Text, Texts};
 use tb_walk::Walk;
@@ -132,14 +134,16 @@ fn sim_core<O: Sink>(
     }
 }
 
-/// Puts the log of a simulation that ended so.
+/// Puts the log of a simulation that ended so. A log has proper entries alone.
 fn put_simulation<O: Sink>(alloc: Global, log: &Log, end: SimEnd, out: &mut O) -> Result<(), Fault>
     ensures outcome { PutsText (log_text log.now.entries) end
         (O.taken out.old) (O.taken out.new) result }
+    ensures proper { IsTrue (list_all is_proper_entry log.now.entries) }
     ensures behind { IfErr result IsBehindFeed }
     ensures inside { IfErr result IsInside }
     ensures out_rose { result ≡ Err Fault.Out → Rose (O.faults out.old) (O.faults out.new) }
 {
+    show_proper_log(log);
     match put_log(alloc, log, out) {
         Ok(()) => after_end(end),
         Err(LogFault::Out) => Err(Fault::Out),

@@ -2,10 +2,10 @@ ghost use Rattle.std.specs.Prelude.{◌≡◌, Err, Ok, map, string_bytes, vec_l
 ghost use Rattle.tb_cli.specs.Words.{asked};
 ghost use Rattle.tb_cli.specs.Table.{IsWithin};
 ghost use Rattle.tb_edge.specs.Faults.{Rose};
-ghost use Rattle.tb_run.specs.Outcomes.{lane_view, outside_of};
 ghost use Rattle.tb_top.specs.Asking.{Asks, AsksSome};
 ghost use Rattle.tb_top.specs.Outcomes.{Comes, CommandOutcome, files_of};
 ghost use Rattle.tb_top.specs.Reporting.{Reported};
+ghost use Rattle.tb_top.specs.Views.{all_seen};
 
 use crate::check::check;
 use crate::fault::Fault;
@@ -40,32 +40,12 @@ pub fn toolbus<R: Threads + Wait + Sync, F: Files, O: Sink, E: Sink, C: Clock + 
 ) -> Status
     requires { vec_len lanes.old ≡ 16 }
     // Which status comes when, and what was put and asked for then.
-    ensures outcome { Reported {A = Unit {0}}
+    ensures outcome { let seen = all_seen F.Files ⟦<Box<dyn Inlet + Send> as Inlet>⟧
+        ⟦<Box<dyn Outlet + Send> as Outlet>⟧ C.Clock P.Crew O.Sink in
+        Reported {A = Unit {0}}
         (Comes (asked (map string_bytes words.now.items))
-        (record {
-          held = F.held files.old;
-          asked = F.asked files.old;
-          file_faults = F.faults files.old;
-          outside = outside_of
-              (map (λ pair. lane_view
-              ⟦<Box<dyn Inlet + Send> as Inlet>⟧.told
-              ⟦<Box<dyn Outlet + Send> as Outlet>⟧.told
-              ⟦<Box<dyn Outlet + Send> as Outlet>⟧.faults pair.inlet pair.outlet) lanes.old.items)
-              (C.told clock.old) (C.faults clock.old) (P.faults crew.old)
-              (O.taken out.old) (O.faults out.old);
-        })
-        (record {
-          held = F.held files.new;
-          asked = F.asked files.new;
-          file_faults = F.faults files.new;
-          outside = outside_of
-              (map (λ pair. lane_view
-              ⟦<Box<dyn Inlet + Send> as Inlet>⟧.told
-              ⟦<Box<dyn Outlet + Send> as Outlet>⟧.told
-              ⟦<Box<dyn Outlet + Send> as Outlet>⟧.faults pair.inlet pair.outlet) lanes.new.items)
-              (C.told clock.new) (C.faults clock.new) (P.faults crew.new)
-              (O.taken out.new) (O.faults out.new);
-        }))
+        (seen files.old lanes.old.items clock.old crew.old out.old)
+        (seen files.new lanes.new.items clock.new crew.new out.new))
         (E.taken err.old) (E.taken err.new) result }
 
     // Whatever the status, only files that the words name are asked for, in their order.
@@ -101,31 +81,11 @@ fn answer<R: Threads + Wait + Sync, F: Files, O: Sink, C: Clock + Send, P: Crew>
     crew: &mut P,
 ) -> Result<(), Fault>
     requires { vec_len lanes.old ≡ 16 }
-    ensures outcome { CommandOutcome (asked (map string_bytes words.now.items))
-        (record {
-          held = F.held files.old;
-          asked = F.asked files.old;
-          file_faults = F.faults files.old;
-          outside = outside_of
-              (map (λ pair. lane_view
-              ⟦<Box<dyn Inlet + Send> as Inlet>⟧.told
-              ⟦<Box<dyn Outlet + Send> as Outlet>⟧.told
-              ⟦<Box<dyn Outlet + Send> as Outlet>⟧.faults pair.inlet pair.outlet) lanes.old.items)
-              (C.told clock.old) (C.faults clock.old) (P.faults crew.old)
-              (O.taken out.old) (O.faults out.old);
-        })
-        (record {
-          held = F.held files.new;
-          asked = F.asked files.new;
-          file_faults = F.faults files.new;
-          outside = outside_of
-              (map (λ pair. lane_view
-              ⟦<Box<dyn Inlet + Send> as Inlet>⟧.told
-              ⟦<Box<dyn Outlet + Send> as Outlet>⟧.told
-              ⟦<Box<dyn Outlet + Send> as Outlet>⟧.faults pair.inlet pair.outlet) lanes.new.items)
-              (C.told clock.new) (C.faults clock.new) (P.faults crew.new)
-              (O.taken out.new) (O.faults out.new);
-        }) result }
+    ensures outcome { let seen = all_seen F.Files ⟦<Box<dyn Inlet + Send> as Inlet>⟧
+        ⟦<Box<dyn Outlet + Send> as Outlet>⟧ C.Clock P.Crew O.Sink in
+        CommandOutcome (asked (map string_bytes words.now.items))
+        (seen files.old lanes.old.items clock.old crew.old out.old)
+        (seen files.new lanes.new.items clock.new crew.new out.new) result }
     ensures asks { Asks (F.held files.old) (files_of (asked (map string_bytes words.now.items)))
         (F.asked files.old) (F.asked files.new) result }
     ensures file_rose { result ≡ Err Fault.File → Rose (F.faults files.old) (F.faults files.new) }
@@ -153,31 +113,11 @@ fn do_command<R: Threads + Wait + Sync, F: Files, O: Sink, C: Clock + Send, P: C
 ) -> Result<(), Fault>
     requires within { IsWithin command.now }
     requires lanes { vec_len lanes.old ≡ 16 }
-    ensures outcome { CommandOutcome (Ok command.now)
-        (record {
-          held = F.held files.old;
-          asked = F.asked files.old;
-          file_faults = F.faults files.old;
-          outside = outside_of
-              (map (λ pair. lane_view
-              ⟦<Box<dyn Inlet + Send> as Inlet>⟧.told
-              ⟦<Box<dyn Outlet + Send> as Outlet>⟧.told
-              ⟦<Box<dyn Outlet + Send> as Outlet>⟧.faults pair.inlet pair.outlet) lanes.old.items)
-              (C.told clock.old) (C.faults clock.old) (P.faults crew.old)
-              (O.taken out.old) (O.faults out.old);
-        })
-        (record {
-          held = F.held files.new;
-          asked = F.asked files.new;
-          file_faults = F.faults files.new;
-          outside = outside_of
-              (map (λ pair. lane_view
-              ⟦<Box<dyn Inlet + Send> as Inlet>⟧.told
-              ⟦<Box<dyn Outlet + Send> as Outlet>⟧.told
-              ⟦<Box<dyn Outlet + Send> as Outlet>⟧.faults pair.inlet pair.outlet) lanes.new.items)
-              (C.told clock.new) (C.faults clock.new) (P.faults crew.new)
-              (O.taken out.new) (O.faults out.new);
-        }) result }
+    ensures outcome { let seen = all_seen F.Files ⟦<Box<dyn Inlet + Send> as Inlet>⟧
+        ⟦<Box<dyn Outlet + Send> as Outlet>⟧ C.Clock P.Crew O.Sink in
+        CommandOutcome (Ok command.now)
+        (seen files.old lanes.old.items clock.old crew.old out.old)
+        (seen files.new lanes.new.items clock.new crew.new out.new) result }
     ensures asks { Asks (F.held files.old) (files_of (Ok command.now))
         (F.asked files.old) (F.asked files.new) result }
     ensures file_rose { result ≡ Err Fault.File → Rose (F.faults files.old) (F.faults files.new) }

@@ -9,7 +9,7 @@ use Rattle.tb_sim.specs.declared.ends.SimEnd.{SimEnd}
 use Rattle.tb_sim.specs.declared.ends.SimEnd.TheVariants as sim
 use Rattle.tb_gen.specs.Ring.{ring_text}
 use Rattle.tb_top.specs.Loading.{HasProgram, IsRefused}
-use Rattle.tb_run.specs.Outcomes.{OutsideView}
+use Rattle.tb_run.specs.Views.{OutsideView}
 use Rattle.tb_run.specs.declared.ends.RunWhy.{RunWhy}
 use Rattle.tb_run.specs.declared.ends.RunWhy.TheVariants as why
 use Rattle.tb_top.specs.Ring.{RingOutcome}

@@ -9,6 +9,6 @@ returns-in_default-clause-runs g c = unbegun c.args.ticks _ c.args.core c.requir
 pub returns-clause-runs : goal.returns-clause-runs
 returns-clause-runs g c =
     runs_lanes c.args.ticks _ _ _ _ _ _ _
-    (views_of _ _ _ (λ pair. pair.inlet) (λ pair. pair.outlet) c.args.lanes.now.items _ _ (search rules) (search rules))
-    (views_of _ _ _ (λ pair. pair.inlet) (λ pair. pair.outlet) c.pair_lanes.new.lanes.items _ _ (search rules) (search rules))
+    (views_of _ _ _ _ (λ pair. pair.inlet) (λ pair. pair.outlet) c.args.lanes.now.items _ _ (search rules) (search rules))
+    (views_of _ _ _ _ (λ pair. pair.inlet) (λ pair. pair.outlet) c.pair_lanes.new.lanes.items _ _ (search rules) (search rules))
     c.run_ends-answer.ensures.runs

@@ -41,7 +41,7 @@ gather-requires-clause-workers g c =
     let ins : length c.args.inlets.now.items ≡ 16 = (let k = c.args.inlets.now.ok.0 in let n = c.requires.inlets in omega arith) in
     let outs : length c.args.outlets.now.items ≡ 16 = (let k = c.args.outlets.now.ok.0 in let n = c.requires.outlets in omega arith) in
     let can =
-    can_gather (λ (it : Worker g.row.W.Denot g.row.I.Denot g.row.O.Denot g.row.W-Plan.Denot g.row.W-Taken.Denot). it.seat) (λ (it : Worker g.row.W.Denot g.row.I.Denot g.row.O.Denot g.row.W-Plan.Denot g.row.W-Taken.Denot). it.end) (λ (it : Worker g.row.W.Denot g.row.I.Denot g.row.O.Denot g.row.W-Plan.Denot g.row.W-Taken.Denot). it.work) g.I.Inlet.told g.O.Outlet.told g.O.Outlet.faults c.args.ticks c.args.seat.now c.args.inlets.now.items c.args.outlets.now.items
+    can_gather (λ (it : Worker g.row.W.Denot g.row.I.Denot g.row.O.Denot g.row.W-Plan.Denot g.row.W-Taken.Denot). it.seat) (λ (it : Worker g.row.W.Denot g.row.I.Denot g.row.O.Denot g.row.W-Plan.Denot g.row.W-Taken.Denot). it.end) (λ (it : Worker g.row.W.Denot g.row.I.Denot g.row.O.Denot g.row.W-Plan.Denot g.row.W-Taken.Denot). it.work) g.I.Inlet.told g.I.Inlet.faults g.O.Outlet.told g.O.Outlet.faults c.args.ticks c.args.seat.now c.args.inlets.now.items c.args.outlets.now.items
     c.begin-team.result.workers.items c.work-back.result.workers.items c.begin-team.result.tick_seat c.work-back.result.tick_seat c.begin-team.result.log_seat c.work-back.result.log_seat c.work-back.result.tick_end c.work-back.result.log_end
     _ _ _ _ _ _ _ _ c.work-back.result.writer _ _ first c.begin-team.ensures.seats c.begin-team.ensures.works c.begin-team.ensures.tick c.begin-team.ensures.log ins outs c.work-back.result.failed c.work-back.ensures.worked in
     subst (λ b. All (λ (it : Worker g.row.W.Denot g.row.I.Denot g.row.O.Denot g.row.W-Plan.Denot g.row.W-Taken.Denot). it.seat.bus ≡ b) c.work-back.result.workers.items) bus can.buses
@@ -53,7 +53,7 @@ gather-requires-clause-tick g c =
     let ins : length c.args.inlets.now.items ≡ 16 = (let k = c.args.inlets.now.ok.0 in let n = c.requires.inlets in omega arith) in
     let outs : length c.args.outlets.now.items ≡ 16 = (let k = c.args.outlets.now.ok.0 in let n = c.requires.outlets in omega arith) in
     let can =
-    can_gather (λ (it : Worker g.row.W.Denot g.row.I.Denot g.row.O.Denot g.row.W-Plan.Denot g.row.W-Taken.Denot). it.seat) (λ (it : Worker g.row.W.Denot g.row.I.Denot g.row.O.Denot g.row.W-Plan.Denot g.row.W-Taken.Denot). it.end) (λ (it : Worker g.row.W.Denot g.row.I.Denot g.row.O.Denot g.row.W-Plan.Denot g.row.W-Taken.Denot). it.work) g.I.Inlet.told g.O.Outlet.told g.O.Outlet.faults c.args.ticks c.args.seat.now c.args.inlets.now.items c.args.outlets.now.items
+    can_gather (λ (it : Worker g.row.W.Denot g.row.I.Denot g.row.O.Denot g.row.W-Plan.Denot g.row.W-Taken.Denot). it.seat) (λ (it : Worker g.row.W.Denot g.row.I.Denot g.row.O.Denot g.row.W-Plan.Denot g.row.W-Taken.Denot). it.end) (λ (it : Worker g.row.W.Denot g.row.I.Denot g.row.O.Denot g.row.W-Plan.Denot g.row.W-Taken.Denot). it.work) g.I.Inlet.told g.I.Inlet.faults g.O.Outlet.told g.O.Outlet.faults c.args.ticks c.args.seat.now c.args.inlets.now.items c.args.outlets.now.items
     c.begin-team.result.workers.items c.work-back.result.workers.items c.begin-team.result.tick_seat c.work-back.result.tick_seat c.begin-team.result.log_seat c.work-back.result.log_seat c.work-back.result.tick_end c.work-back.result.log_end
     _ _ _ _ _ _ _ _ c.work-back.result.writer _ _ first c.begin-team.ensures.seats c.begin-team.ensures.works c.begin-team.ensures.tick c.begin-team.ensures.log ins outs c.work-back.result.failed c.work-back.ensures.worked in
     can.tick_bus ∙ bus
@@ -65,7 +65,7 @@ gather-requires-clause-log g c =
     let ins : length c.args.inlets.now.items ≡ 16 = (let k = c.args.inlets.now.ok.0 in let n = c.requires.inlets in omega arith) in
     let outs : length c.args.outlets.now.items ≡ 16 = (let k = c.args.outlets.now.ok.0 in let n = c.requires.outlets in omega arith) in
     let can =
-    can_gather (λ (it : Worker g.row.W.Denot g.row.I.Denot g.row.O.Denot g.row.W-Plan.Denot g.row.W-Taken.Denot). it.seat) (λ (it : Worker g.row.W.Denot g.row.I.Denot g.row.O.Denot g.row.W-Plan.Denot g.row.W-Taken.Denot). it.end) (λ (it : Worker g.row.W.Denot g.row.I.Denot g.row.O.Denot g.row.W-Plan.Denot g.row.W-Taken.Denot). it.work) g.I.Inlet.told g.O.Outlet.told g.O.Outlet.faults c.args.ticks c.args.seat.now c.args.inlets.now.items c.args.outlets.now.items
+    can_gather (λ (it : Worker g.row.W.Denot g.row.I.Denot g.row.O.Denot g.row.W-Plan.Denot g.row.W-Taken.Denot). it.seat) (λ (it : Worker g.row.W.Denot g.row.I.Denot g.row.O.Denot g.row.W-Plan.Denot g.row.W-Taken.Denot). it.end) (λ (it : Worker g.row.W.Denot g.row.I.Denot g.row.O.Denot g.row.W-Plan.Denot g.row.W-Taken.Denot). it.work) g.I.Inlet.told g.I.Inlet.faults g.O.Outlet.told g.O.Outlet.faults c.args.ticks c.args.seat.now c.args.inlets.now.items c.args.outlets.now.items
     c.begin-team.result.workers.items c.work-back.result.workers.items c.begin-team.result.tick_seat c.work-back.result.tick_seat c.begin-team.result.log_seat c.work-back.result.log_seat c.work-back.result.tick_end c.work-back.result.log_end
     _ _ _ _ _ _ _ _ c.work-back.result.writer _ _ first c.begin-team.ensures.seats c.begin-team.ensures.works c.begin-team.ensures.tick c.begin-team.ensures.log ins outs c.work-back.result.failed c.work-back.ensures.worked in
     can.log_bus ∙ bus
@@ -77,7 +77,7 @@ gather-requires-clause-ended g c =
     let ins : length c.args.inlets.now.items ≡ 16 = (let k = c.args.inlets.now.ok.0 in let n = c.requires.inlets in omega arith) in
     let outs : length c.args.outlets.now.items ≡ 16 = (let k = c.args.outlets.now.ok.0 in let n = c.requires.outlets in omega arith) in
     let can =
-    can_gather (λ (it : Worker g.row.W.Denot g.row.I.Denot g.row.O.Denot g.row.W-Plan.Denot g.row.W-Taken.Denot). it.seat) (λ (it : Worker g.row.W.Denot g.row.I.Denot g.row.O.Denot g.row.W-Plan.Denot g.row.W-Taken.Denot). it.end) (λ (it : Worker g.row.W.Denot g.row.I.Denot g.row.O.Denot g.row.W-Plan.Denot g.row.W-Taken.Denot). it.work) g.I.Inlet.told g.O.Outlet.told g.O.Outlet.faults c.args.ticks c.args.seat.now c.args.inlets.now.items c.args.outlets.now.items
+    can_gather (λ (it : Worker g.row.W.Denot g.row.I.Denot g.row.O.Denot g.row.W-Plan.Denot g.row.W-Taken.Denot). it.seat) (λ (it : Worker g.row.W.Denot g.row.I.Denot g.row.O.Denot g.row.W-Plan.Denot g.row.W-Taken.Denot). it.end) (λ (it : Worker g.row.W.Denot g.row.I.Denot g.row.O.Denot g.row.W-Plan.Denot g.row.W-Taken.Denot). it.work) g.I.Inlet.told g.I.Inlet.faults g.O.Outlet.told g.O.Outlet.faults c.args.ticks c.args.seat.now c.args.inlets.now.items c.args.outlets.now.items
     c.begin-team.result.workers.items c.work-back.result.workers.items c.begin-team.result.tick_seat c.work-back.result.tick_seat c.begin-team.result.log_seat c.work-back.result.log_seat c.work-back.result.tick_end c.work-back.result.log_end
     _ _ _ _ _ _ _ _ c.work-back.result.writer _ _ first c.begin-team.ensures.seats c.begin-team.ensures.works c.begin-team.ensures.tick c.begin-team.ensures.log ins outs c.work-back.result.failed c.work-back.ensures.worked in
     (c.args.room.for_ended.0, let n = can.count in let k = c.work-back.result.workers.ok.0 in let r = c.args.room.for_ended.1 in omega arith)
@@ -89,7 +89,7 @@ gather-requires-clause-inlets g c =
     let ins : length c.args.inlets.now.items ≡ 16 = (let k = c.args.inlets.now.ok.0 in let n = c.requires.inlets in omega arith) in
     let outs : length c.args.outlets.now.items ≡ 16 = (let k = c.args.outlets.now.ok.0 in let n = c.requires.outlets in omega arith) in
     let can =
-    can_gather (λ (it : Worker g.row.W.Denot g.row.I.Denot g.row.O.Denot g.row.W-Plan.Denot g.row.W-Taken.Denot). it.seat) (λ (it : Worker g.row.W.Denot g.row.I.Denot g.row.O.Denot g.row.W-Plan.Denot g.row.W-Taken.Denot). it.end) (λ (it : Worker g.row.W.Denot g.row.I.Denot g.row.O.Denot g.row.W-Plan.Denot g.row.W-Taken.Denot). it.work) g.I.Inlet.told g.O.Outlet.told g.O.Outlet.faults c.args.ticks c.args.seat.now c.args.inlets.now.items c.args.outlets.now.items
+    can_gather (λ (it : Worker g.row.W.Denot g.row.I.Denot g.row.O.Denot g.row.W-Plan.Denot g.row.W-Taken.Denot). it.seat) (λ (it : Worker g.row.W.Denot g.row.I.Denot g.row.O.Denot g.row.W-Plan.Denot g.row.W-Taken.Denot). it.end) (λ (it : Worker g.row.W.Denot g.row.I.Denot g.row.O.Denot g.row.W-Plan.Denot g.row.W-Taken.Denot). it.work) g.I.Inlet.told g.I.Inlet.faults g.O.Outlet.told g.O.Outlet.faults c.args.ticks c.args.seat.now c.args.inlets.now.items c.args.outlets.now.items
     c.begin-team.result.workers.items c.work-back.result.workers.items c.begin-team.result.tick_seat c.work-back.result.tick_seat c.begin-team.result.log_seat c.work-back.result.log_seat c.work-back.result.tick_end c.work-back.result.log_end
     _ _ _ _ _ _ _ _ c.work-back.result.writer _ _ first c.begin-team.ensures.seats c.begin-team.ensures.works c.begin-team.ensures.tick c.begin-team.ensures.log ins outs c.work-back.result.failed c.work-back.ensures.worked in
     (c.begin-team.ensures.inlets.0 ∙ c.args.room.for_inlets.0, let n = can.inlets in let k = c.begin-team.ensures.inlets.1 in let r = c.args.room.for_inlets.1 in omega arith)
@@ -101,7 +101,7 @@ gather-requires-clause-outlets g c =
     let ins : length c.args.inlets.now.items ≡ 16 = (let k = c.args.inlets.now.ok.0 in let n = c.requires.inlets in omega arith) in
     let outs : length c.args.outlets.now.items ≡ 16 = (let k = c.args.outlets.now.ok.0 in let n = c.requires.outlets in omega arith) in
     let can =
-    can_gather (λ (it : Worker g.row.W.Denot g.row.I.Denot g.row.O.Denot g.row.W-Plan.Denot g.row.W-Taken.Denot). it.seat) (λ (it : Worker g.row.W.Denot g.row.I.Denot g.row.O.Denot g.row.W-Plan.Denot g.row.W-Taken.Denot). it.end) (λ (it : Worker g.row.W.Denot g.row.I.Denot g.row.O.Denot g.row.W-Plan.Denot g.row.W-Taken.Denot). it.work) g.I.Inlet.told g.O.Outlet.told g.O.Outlet.faults c.args.ticks c.args.seat.now c.args.inlets.now.items c.args.outlets.now.items
+    can_gather (λ (it : Worker g.row.W.Denot g.row.I.Denot g.row.O.Denot g.row.W-Plan.Denot g.row.W-Taken.Denot). it.seat) (λ (it : Worker g.row.W.Denot g.row.I.Denot g.row.O.Denot g.row.W-Plan.Denot g.row.W-Taken.Denot). it.end) (λ (it : Worker g.row.W.Denot g.row.I.Denot g.row.O.Denot g.row.W-Plan.Denot g.row.W-Taken.Denot). it.work) g.I.Inlet.told g.I.Inlet.faults g.O.Outlet.told g.O.Outlet.faults c.args.ticks c.args.seat.now c.args.inlets.now.items c.args.outlets.now.items
     c.begin-team.result.workers.items c.work-back.result.workers.items c.begin-team.result.tick_seat c.work-back.result.tick_seat c.begin-team.result.log_seat c.work-back.result.log_seat c.work-back.result.tick_end c.work-back.result.log_end
     _ _ _ _ _ _ _ _ c.work-back.result.writer _ _ first c.begin-team.ensures.seats c.begin-team.ensures.works c.begin-team.ensures.tick c.begin-team.ensures.log ins outs c.work-back.result.failed c.work-back.ensures.worked in
     (c.begin-team.ensures.outlets.0 ∙ c.args.room.for_outlets.0, let n = can.outlets in let k = c.begin-team.ensures.outlets.1 in let r = c.args.room.for_outlets.1 in omega arith)
@@ -113,7 +113,7 @@ gather-requires-clause-ends g c =
     let ins : length c.args.inlets.now.items ≡ 16 = (let k = c.args.inlets.now.ok.0 in let n = c.requires.inlets in omega arith) in
     let outs : length c.args.outlets.now.items ≡ 16 = (let k = c.args.outlets.now.ok.0 in let n = c.requires.outlets in omega arith) in
     let can =
-    can_gather (λ (it : Worker g.row.W.Denot g.row.I.Denot g.row.O.Denot g.row.W-Plan.Denot g.row.W-Taken.Denot). it.seat) (λ (it : Worker g.row.W.Denot g.row.I.Denot g.row.O.Denot g.row.W-Plan.Denot g.row.W-Taken.Denot). it.end) (λ (it : Worker g.row.W.Denot g.row.I.Denot g.row.O.Denot g.row.W-Plan.Denot g.row.W-Taken.Denot). it.work) g.I.Inlet.told g.O.Outlet.told g.O.Outlet.faults c.args.ticks c.args.seat.now c.args.inlets.now.items c.args.outlets.now.items
+    can_gather (λ (it : Worker g.row.W.Denot g.row.I.Denot g.row.O.Denot g.row.W-Plan.Denot g.row.W-Taken.Denot). it.seat) (λ (it : Worker g.row.W.Denot g.row.I.Denot g.row.O.Denot g.row.W-Plan.Denot g.row.W-Taken.Denot). it.end) (λ (it : Worker g.row.W.Denot g.row.I.Denot g.row.O.Denot g.row.W-Plan.Denot g.row.W-Taken.Denot). it.work) g.I.Inlet.told g.I.Inlet.faults g.O.Outlet.told g.O.Outlet.faults c.args.ticks c.args.seat.now c.args.inlets.now.items c.args.outlets.now.items
     c.begin-team.result.workers.items c.work-back.result.workers.items c.begin-team.result.tick_seat c.work-back.result.tick_seat c.begin-team.result.log_seat c.work-back.result.log_seat c.work-back.result.tick_end c.work-back.result.log_end
     _ _ _ _ _ _ _ _ c.work-back.result.writer _ _ first c.begin-team.ensures.seats c.begin-team.ensures.works c.begin-team.ensures.tick c.begin-team.ensures.log ins outs c.work-back.result.failed c.work-back.ensures.worked in
     (c.args.room.for_ends.0, let n = can.count in let k = c.work-back.result.workers.ok.0 in let r = c.args.room.for_ends.1 in omega arith)
@@ -125,7 +125,7 @@ returns-clause-inlets g c =
     let ins : length c.args.inlets.now.items ≡ 16 = (let k = c.args.inlets.now.ok.0 in let n = c.requires.inlets in omega arith) in
     let outs : length c.args.outlets.now.items ≡ 16 = (let k = c.args.outlets.now.ok.0 in let n = c.requires.outlets in omega arith) in
     let can =
-    can_gather (λ (it : Worker g.row.W.Denot g.row.I.Denot g.row.O.Denot g.row.W-Plan.Denot g.row.W-Taken.Denot). it.seat) (λ (it : Worker g.row.W.Denot g.row.I.Denot g.row.O.Denot g.row.W-Plan.Denot g.row.W-Taken.Denot). it.end) (λ (it : Worker g.row.W.Denot g.row.I.Denot g.row.O.Denot g.row.W-Plan.Denot g.row.W-Taken.Denot). it.work) g.I.Inlet.told g.O.Outlet.told g.O.Outlet.faults c.args.ticks c.args.seat.now c.args.inlets.now.items c.args.outlets.now.items
+    can_gather (λ (it : Worker g.row.W.Denot g.row.I.Denot g.row.O.Denot g.row.W-Plan.Denot g.row.W-Taken.Denot). it.seat) (λ (it : Worker g.row.W.Denot g.row.I.Denot g.row.O.Denot g.row.W-Plan.Denot g.row.W-Taken.Denot). it.end) (λ (it : Worker g.row.W.Denot g.row.I.Denot g.row.O.Denot g.row.W-Plan.Denot g.row.W-Taken.Denot). it.work) g.I.Inlet.told g.I.Inlet.faults g.O.Outlet.told g.O.Outlet.faults c.args.ticks c.args.seat.now c.args.inlets.now.items c.args.outlets.now.items
     c.begin-team.result.workers.items c.work-back.result.workers.items c.begin-team.result.tick_seat c.work-back.result.tick_seat c.begin-team.result.log_seat c.work-back.result.log_seat c.work-back.result.tick_end c.work-back.result.log_end
     _ _ _ _ _ _ _ _ c.work-back.result.writer _ _ first c.begin-team.ensures.seats c.begin-team.ensures.works c.begin-team.ensures.tick c.begin-team.ensures.log ins outs c.work-back.result.failed c.work-back.ensures.worked in
     let n = can.inlets in let e = ap length c.gather.ensures.inlets in let k = c.gather.new.inlets.ok.0 in omega arith
@@ -137,7 +137,7 @@ returns-clause-outlets g c =
     let ins : length c.args.inlets.now.items ≡ 16 = (let k = c.args.inlets.now.ok.0 in let n = c.requires.inlets in omega arith) in
     let outs : length c.args.outlets.now.items ≡ 16 = (let k = c.args.outlets.now.ok.0 in let n = c.requires.outlets in omega arith) in
     let can =
-    can_gather (λ (it : Worker g.row.W.Denot g.row.I.Denot g.row.O.Denot g.row.W-Plan.Denot g.row.W-Taken.Denot). it.seat) (λ (it : Worker g.row.W.Denot g.row.I.Denot g.row.O.Denot g.row.W-Plan.Denot g.row.W-Taken.Denot). it.end) (λ (it : Worker g.row.W.Denot g.row.I.Denot g.row.O.Denot g.row.W-Plan.Denot g.row.W-Taken.Denot). it.work) g.I.Inlet.told g.O.Outlet.told g.O.Outlet.faults c.args.ticks c.args.seat.now c.args.inlets.now.items c.args.outlets.now.items
+    can_gather (λ (it : Worker g.row.W.Denot g.row.I.Denot g.row.O.Denot g.row.W-Plan.Denot g.row.W-Taken.Denot). it.seat) (λ (it : Worker g.row.W.Denot g.row.I.Denot g.row.O.Denot g.row.W-Plan.Denot g.row.W-Taken.Denot). it.end) (λ (it : Worker g.row.W.Denot g.row.I.Denot g.row.O.Denot g.row.W-Plan.Denot g.row.W-Taken.Denot). it.work) g.I.Inlet.told g.I.Inlet.faults g.O.Outlet.told g.O.Outlet.faults c.args.ticks c.args.seat.now c.args.inlets.now.items c.args.outlets.now.items
     c.begin-team.result.workers.items c.work-back.result.workers.items c.begin-team.result.tick_seat c.work-back.result.tick_seat c.begin-team.result.log_seat c.work-back.result.log_seat c.work-back.result.tick_end c.work-back.result.log_end
     _ _ _ _ _ _ _ _ c.work-back.result.writer _ _ first c.begin-team.ensures.seats c.begin-team.ensures.works c.begin-team.ensures.tick c.begin-team.ensures.log ins outs c.work-back.result.failed c.work-back.ensures.worked in
     let n = can.outlets in let e = ap length c.gather.ensures.outlets in let k = c.gather.new.outlets.ok.0 in omega arith
@@ -153,7 +153,7 @@ returns-clause-come g c =
     let ends : c.as_slice.result.now ≡ map (λ (it : Worker g.row.W.Denot g.row.I.Denot g.row.O.Denot g.row.W-Plan.Denot g.row.W-Taken.Denot). it.end) c.work-back.result.workers.items = c.as_slice.ensures.value ∙ c.gather.ensures.ends in
     let why =
     subst (λ (es : List WorkEnd). MatchOption c.work-back.result.failed (c.why_of.result ≡ reason_of c.work-back.result.tick_end es c.work-back.result.log_end) (λ (w : RunWhy). c.why_of.result ≡ w)) ends c.why_of.ensures in
-    has_come (λ (it : Worker g.row.W.Denot g.row.I.Denot g.row.O.Denot g.row.W-Plan.Denot g.row.W-Taken.Denot). it.seat) (λ (it : Worker g.row.W.Denot g.row.I.Denot g.row.O.Denot g.row.W-Plan.Denot g.row.W-Taken.Denot). it.end) (λ (it : Worker g.row.W.Denot g.row.I.Denot g.row.O.Denot g.row.W-Plan.Denot g.row.W-Taken.Denot). it.work) g.I.Inlet.told g.O.Outlet.told g.O.Outlet.faults c.args.ticks c.args.seat.now c.args.inlets.now.items c.args.outlets.now.items
+    has_come (λ (it : Worker g.row.W.Denot g.row.I.Denot g.row.O.Denot g.row.W-Plan.Denot g.row.W-Taken.Denot). it.seat) (λ (it : Worker g.row.W.Denot g.row.I.Denot g.row.O.Denot g.row.W-Plan.Denot g.row.W-Taken.Denot). it.end) (λ (it : Worker g.row.W.Denot g.row.I.Denot g.row.O.Denot g.row.W-Plan.Denot g.row.W-Taken.Denot). it.work) g.I.Inlet.told g.I.Inlet.faults g.O.Outlet.told g.O.Outlet.faults c.args.ticks c.args.seat.now c.args.inlets.now.items c.args.outlets.now.items
     c.begin-team.result.workers.items c.work-back.result.workers.items c.begin-team.result.tick_seat c.work-back.result.tick_seat c.begin-team.result.log_seat c.work-back.result.log_seat c.work-back.result.tick_end c.work-back.result.log_end
     _ _ _ _ _ _ _ _ c.work-back.result.writer _ _ first c.begin-team.ensures.seats c.begin-team.ensures.works c.begin-team.ensures.tick c.begin-team.ensures.log ins outs c.work-back.result.failed
     c.joins_keep_their_own.ensures.first c.joins_keep_their_own.ensures.second c.a_bus_that_is_down_stays_down.ensures.stays c.a_bus_that_is_down_stays_down.ensures.empty c.gather.new.seat c.gather.new.inlets.items c.gather.new.outlets.items c.why_of.result
