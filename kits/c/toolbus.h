@@ -407,6 +407,14 @@ static inline const char *tb_describe(tb_fault fault)
     return words[fault];
 }
 
+/* Ends the tool for an error in a text. */
+static inline void tb_fail_in(const char *what, tb_error error, const char *text)
+{
+    if (error.fault == TB_LARGE || error.fault == TB_DEEP)
+        tb_fail("%s: %s: %s", what, tb_describe(error.fault), text);
+    tb_fail("%s: %s %zu: %s", what, tb_describe(error.fault), error.at, text);
+}
+
 /* Writing */
 
 static inline void tb_add_number(tb_buffer *into, long long number)
@@ -551,7 +559,7 @@ static inline tb_term *tb_make(const char *format, ...)
     va_end(values);
     tb_term *term = tb_read(text.bytes, text.length, &error);
     if (term == NULL)
-        tb_fail("tb_make: %s %zu: %s", tb_describe(error.fault), error.at, text.bytes);
+        tb_fail_in("tb_make", error, text.bytes);
     free(text.bytes);
     return term;
 }
@@ -561,6 +569,13 @@ typedef struct {
     const char *left;
     va_list pointers;
 } tb_pattern;
+
+/* Skips whitespace. Returns the next byte of the format. */
+static inline char tb_pattern_next(tb_pattern *pattern)
+{
+    pattern->left += strspn(pattern->left, " \t\n\r");
+    return *pattern->left;
+}
 
 static inline bool tb_take_number(const tb_term *term, char kind, tb_pattern *pattern)
 {
@@ -602,14 +617,18 @@ static inline bool tb_match_term(const tb_term *term, tb_pattern *pattern);
 /* Matches all parts with the patterns between brackets. The opening bracket is the next byte. */
 static inline bool tb_match_parts(const tb_term *term, tb_pattern *pattern, char end)
 {
-    pattern->left++;
     for (size_t i = 0; i < term->count; i++) {
-        if (i > 0 && *pattern->left++ != ',')
+        if (i > 0 && tb_pattern_next(pattern) != ',')
             return false;
+        pattern->left++;
         if (!tb_match_term(term->parts[i], pattern))
             return false;
     }
-    return *pattern->left++ == end;
+    pattern->left += term->count == 0;
+    if (tb_pattern_next(pattern) != end)
+        return false;
+    pattern->left++;
+    return true;
 }
 
 static inline bool tb_match_name(const tb_term *term, tb_pattern *pattern)
@@ -620,7 +639,7 @@ static inline bool tb_match_name(const tb_term *term, tb_pattern *pattern)
     if (term->kind != TB_APPL || strlen(term->text) != length || strncmp(term->text, pattern->left, length) != 0)
         return false;
     pattern->left += length;
-    return *pattern->left == '(' ? tb_match_parts(term, pattern, ')') : term->count == 0;
+    return tb_pattern_next(pattern) == '(' ? tb_match_parts(term, pattern, ')') : term->count == 0;
 }
 
 /* Replaces each pair of percent signs by one. */
@@ -651,7 +670,7 @@ static inline bool tb_match_string(const tb_term *term, tb_pattern *pattern)
 
 static inline bool tb_match_term(const tb_term *term, tb_pattern *pattern)
 {
-    const char byte = *pattern->left;
+    const char byte = tb_pattern_next(pattern);
     if (byte == '%') {
         pattern->left++;
         return tb_take(term, pattern);
@@ -671,15 +690,15 @@ static inline bool tb_match_term(const tb_term *term, tb_pattern *pattern)
     return term->kind == TB_INT && term->number == number;
 }
 
-/* Returns whether a term matches a format, which has no whitespace between tokens. The terms and strings that it sets belong to
- * the term. If the term doesn't match, the values of the variables are unspecified. */
+/* Returns whether a term matches a format. The terms and strings to which it sets variables belong to the term. If the term
+ * doesn't match, the values of the variables are unspecified. */
 static inline bool tb_match(const tb_term *term, const char *format, ...)
 {
     tb_pattern pattern = {.left = format};
     va_start(pattern.pointers, format);
     const bool matches = tb_match_term(term, &pattern);
     va_end(pattern.pointers);
-    return matches && *pattern.left == '\0';
+    return matches && tb_pattern_next(&pattern) == '\0';
 }
 
 /* Lines to the bus */
@@ -689,7 +708,7 @@ static inline void tb_send(tb_buffer *line, size_t word_length)
 {
     tb_reader reader = {.text = line->bytes, .length = line->length};
     if (!tb_scan_within(&reader, 1 + word_length, 1))
-        tb_fail("not sent: %s %zu: %s", tb_describe(reader.error.fault), reader.error.at, line->bytes);
+        tb_fail_in("not sent", reader.error, line->bytes);
     if (line->length > TB_MOST_LINE_BYTES)
         tb_fail("not sent: the line has %zu bytes, the limit is %d", line->length, TB_MOST_LINE_BYTES);
     tb_add_byte(line, '\n');

@@ -61,6 +61,10 @@ class Appl:
 Term = Union[int, str, bool, List[Any], Appl]
 
 
+def _named(truth: bool) -> Appl:
+    return Appl("true" if truth else "false")
+
+
 class TermError(ValueError):
     """An error in the text of a term or of a line, or a value that has no text.
 
@@ -264,7 +268,7 @@ class _Writer:
             raise TermError("deep", f"the term is too deep: the limit is {MOST_DEPTH}")
         self.size += 1
         if isinstance(term, bool):
-            return self.name("true" if term else "false")
+            return self.name(_named(term).name)
         if isinstance(term, int):
             if not LEAST_NUMBER <= term <= MOST_NUMBER:
                 raise TermError("value", f"{term} is out of range: the range is {LEAST_NUMBER} to {MOST_NUMBER}")
@@ -382,7 +386,7 @@ class Handlers:
 
     def handle(self, terms: Tuple[Term, ...], otherwise: Callable[[], Any]) -> Any:
         """Calls the handler for the name of the first term, else the one for all terms, else `otherwise`."""
-        first = terms[0]
+        first = _named(terms[0]) if isinstance(terms[0], bool) else terms[0]
         if isinstance(first, Appl) and first.name in self._named:
             return self._named[first.name](*first.args, *terms[1:])
         return otherwise() if self._general is None else self._general(*terms)

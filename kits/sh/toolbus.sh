@@ -189,16 +189,16 @@ tb_call() {
 # Calls the handler in tb_function for the terms $1.
 tb_dispatch() {
   tb_handler=$tb_function
-  tb_split_terms "$1"
-  tb_others=
   case $tb_handler in
-    on_*) ;;
+    on_ack_event) tb_split_terms "$1"; tb_call "$tb_handler" "$tb_parts" '' ;;
+    on_*) "$tb_handler" "$1" ;;
     *)
+      tb_split_terms "$1"
       tb_first=${tb_parts%%"$tb_newline"*}
       tb_others=${tb_parts#"$tb_first"}
-      tb_split "$tb_first" ;;
+      tb_split "$tb_first"
+      tb_call "$tb_handler" "$tb_parts" "$tb_others" ;;
   esac
-  tb_call "$tb_handler" "$tb_parts" "$tb_others"
 }
 
 tb_without_handler() {

@@ -6,6 +6,8 @@ static tb_term *value(const tb_term *term)
     const tb_term *word, *place;
     if (tb_match(term, "look-up(%t,%t)", &word, &place))
         return tb_make("found(%t,%t)", word, place);
+    if (tb_match(term, "status"))
+        return tb_make("ready");
     return tb_make("%t", term);
 }
 

@@ -18,6 +18,11 @@ def look_up(word, place):
     return Appl("found", word, place)
 
 
+@tool.eval("status")
+def status():
+    return Appl("ready")
+
+
 @tool.do
 def did(term):
     tool.event(Appl("did", term))

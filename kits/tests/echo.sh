@@ -4,6 +4,7 @@
 
 on_eval() { tb_value "$1"; }
 eval_look_up() { tb_value "found($1,$2)"; }
+eval_status() { tb_value ready; }
 on_do() { tb_event "did($1)"; }
 do_say() {
   tb_unquote "$1"

@@ -73,6 +73,8 @@ static void match_shapes(void)
     const tb_term *any;
     CHECK(tb_match(term, "f([1,g(a-b)])"));
     CHECK(tb_match(term, "f([1,g(%t)])", &any));
+    CHECK(tb_match(term, " f ( [ 1 , g ( %t ) ] ) ", &any));
+    CHECK(!tb_match(term, "f([1,g(%t)]) 2", &any));
     CHECK(tb_match(term, "f([%t,%t])", &any, &any));
     CHECK(!tb_match(term, "f([%t])", &any));
     CHECK(!tb_match(term, "f([%t,%t,%t])", &any, &any, &any));

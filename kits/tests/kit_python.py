@@ -108,6 +108,14 @@ class Loop(unittest.TestCase):
             self.tool.step()
         self.assertEqual(self.said(), 'snd-value(0)\nsnd-value(2)\nsnd-value("general")\nsnd-value("general")\nsnd-value("general")\n')
 
+    def test_true_has_a_name_too(self):
+        self.tool.eval("true")(lambda: "yes")
+        self.tool.eval(lambda term: term)
+        self.tell("rec-eval(true)\nrec-eval(false)\n")
+        self.tool.step()
+        self.tool.step()
+        self.assertEqual(self.said(), 'snd-value("yes")\nsnd-value(false)\n')
+
     def test_an_answer_later(self):
         self.tool.eval(lambda term: LATER)
         self.tell("rec-eval(1)\n")
