@@ -3,13 +3,13 @@ use std::sync::atomic::{AtomicU32, Ordering};
 use std::thread::yield_now;
 
 /// A yield that takes so many nanoseconds is slow: another program had a slice of the processor meanwhile.
-const SLOW: u64 = 500_000;
+const SLOW: u64 = 1_000_000;
 
 /// After the first slow yield so many waits don't yield.
 const FEWEST: u32 = 64;
 
 /// After each further one so many times as many don't.
-const FACTOR: u32 = 8;
+const FACTOR: u32 = 2;
 
 /// So many don't at most.
 const MOST: u32 = 16_384;
@@ -51,16 +51,18 @@ impl Yields {
         is_quick
     }
 
-    /// A quick yield takes one from the waits that don't yield next. Where two threads do so at once, one count is lost, and
-    /// that does no harm.
+    /// Counts a yield. Of slow yields at the same time the first counts. Where two threads count at once, one count may be
+    /// lost, and that does no harm.
     fn note(&self, is_quick: bool) {
         let next = self.next.load(Ordering::SeqCst);
-        if !is_quick {
+        if is_quick {
+            if next > FEWEST {
+                self.next.store(next - 1, Ordering::SeqCst);
+            }
+        } else if self.left.load(Ordering::SeqCst) == 0 {
             self.left.store(next, Ordering::SeqCst);
             self.next
                 .store(next.saturating_mul(FACTOR).min(MOST), Ordering::SeqCst);
-        } else if next > FEWEST {
-            self.next.store(next - 1, Ordering::SeqCst);
         }
     }
 }
