@@ -1,4 +1,5 @@
 use crate::bell::Bell;
+use crate::yields::Yields;
 use std::sync::Wait;
 use std::sync::atomic::{AtomicU32, Ordering};
 use std::time::Duration;
@@ -29,6 +30,7 @@ pub struct Bells {
     log: Bell,
     pause: Bell,
     lookers: AtomicU32,
+    yields: Yields,
 }
 
 impl Bells {
@@ -40,6 +42,7 @@ impl Bells {
             log: Bell::new(),
             pause: Bell::new(),
             lookers: AtomicU32::new(0),
+            yields: Yields::new(),
         }
     }
 
@@ -75,14 +78,15 @@ impl Bells {
         bell.wait_past(rt, seen)
     }
 
-    /// Looks for a ring of this bell, where that is worth it and not too many look for theirs, and gives its count.
+    /// Looks for a ring of this bell, where that is worth it, yields are quick and not too many look for theirs, and gives its
+    /// count.
     fn look_past(&self, bell: &Bell, seen: u64) -> u64 {
-        if !bell.is_worth_a_look() {
+        if !self.yields.are_allowed() || !bell.is_worth_a_look() {
             return seen;
         }
         let mut rings = seen;
         if self.lookers.fetch_add(1, Ordering::SeqCst) < LOOKERS {
-            rings = bell.look_past(seen);
+            rings = bell.look_past(seen, &self.yields);
         }
         self.lookers.fetch_sub(1, Ordering::SeqCst);
         rings

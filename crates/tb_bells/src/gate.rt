@@ -1,11 +1,11 @@
+use crate::yields::Yields;
 use std::hint::spin_loop;
 use std::sync::{Mutex, MutexGuard, Wait};
-use std::thread::yield_now;
 
 /// How often one looks whether the gate is open before one sleeps.
-const LOOKS: u32 = 50;
+const LOOKS: u32 = 100;
 
-/// How many short pauses lie between two looks: a microsecond or two.
+/// How many short pauses lie between two looks.
 const PAUSES: u32 = 30;
 
 /// A gate that lets one thread in at a time. It keeps no order: who comes while it is open may go in, though others sleep before
@@ -13,6 +13,7 @@ const PAUSES: u32 = 30;
 #[derive(Drop)]
 pub struct Gate {
     inside: Mutex<()>,
+    yields: Yields,
 }
 
 impl Gate {
@@ -20,26 +21,33 @@ impl Gate {
     pub fn new() -> Gate {
         Gate {
             inside: Mutex::new(()),
+            yields: Yields::new(),
         }
     }
 
     /// Goes in, once nobody is inside. The gate is shut until the guard is dropped.
     pub fn enter<R: Wait>(&self, rt: &R) -> MutexGuard<'_, ()> {
+        if let Some(guard) = self.inside.try_lock() {
+            return guard;
+        }
+        let mut may_yield = self.yields.are_allowed();
         for _ in 0..LOOKS {
+            pause();
+            if may_yield {
+                may_yield = self.yields.let_others_run();
+            }
             if let Some(guard) = self.inside.try_lock() {
                 return guard;
             }
-            let_others_run();
         }
         self.inside.lock(rt)
     }
 }
 
-fn let_others_run() {
+fn pause() {
     for _ in 0..PAUSES {
         spin_loop();
     }
-    yield_now();
 }
 
 impl Default for Gate {

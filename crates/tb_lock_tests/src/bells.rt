@@ -1,7 +1,7 @@
 use std::sync::Wait;
 use std::sync::atomic::{AtomicU64, Ordering};
 use std::thread::{join, yield_now};
-use tb_bells::{Bell, Bells, Gate, Sleeper};
+use tb_bells::{Bell, Bells, Gate, Sleeper, Yields};
 
 /// How often two threads ring for each other.
 const ROUNDS: u64 = 1_000;
@@ -68,9 +68,10 @@ fn a_gate_lets_one_in(rt: HostRuntime) {
 #[test]
 fn looks_in_vain_are_made_once_in_a_while(rt: HostRuntime) {
     let bell = Bell::new();
+    let yields = Yields::default();
     let at_first = bell.is_worth_a_look();
-    bell.look_past(0);
-    bell.look_past(0);
+    bell.look_past(0, &yields);
+    bell.look_past(0, &yields);
     let mut looks = 0_u32;
     for _ in 0..64 {
         if bell.is_worth_a_look() {
@@ -78,9 +79,10 @@ fn looks_in_vain_are_made_once_in_a_while(rt: HostRuntime) {
         }
     }
     bell.ring();
-    let rings = bell.look_past(0);
+    let rings = bell.look_past(0, &yields);
     let at_last = bell.is_worth_a_look();
     drop(bell);
+    drop(yields);
     assert_eq!(rt; (at_first, looks, rings, at_last), (true, 1, 1, true));
 }
 
