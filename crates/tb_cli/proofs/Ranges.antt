@@ -1,5 +1,5 @@
 -- The numbers of a command that words ask for are within their ranges.
-use Rattle.std.proofs.Common.{◌≡◌, ℕ, List, [], ◌∷◌, Option, Some, None, Result, Ok, Err, slice_get, refl, subst, arith}
+use Rattle.std.proofs.Common.{◌≡◌, ℕ, List, [], ◌∷◌, Option, Some, None, Ok, Err, slice_get, refl, subst, arith}
 use Rattle.tb_cli.specs.declared.command.Command.{Command}
 use Rattle.tb_cli.specs.declared.table.Verb.{Verb}
 use Rattle.tb_cli.specs.declared.table.Verb.TheVariants as verb

@@ -2,9 +2,8 @@
 //! command line.
 #![tactic(auto)]
 
-ghost use Rattle.std.specs.Prelude.{◌≡◌, IfOk, vec_len};
+ghost use Rattle.std.specs.Prelude.{vec_len};
 
-use std::alloc::AllocError;
 use std::io::ErrorKind;
 use std::process::ExitCode;
 use std::{env, io};
@@ -19,9 +18,22 @@ fn main(rt: HostRuntime) -> ExitCode {
     let Ok(words) = words(&rt) else {
         return ExitCode::from(Status::NoMemory.number());
     };
-    let Ok(mut lanes) = lanes(rt) else {
+    let Ok(pairs) = child_lanes(rt.alloc(), rt, LANES) else {
         return ExitCode::from(Status::NoMemory.number());
     };
+    let Ok(mut lanes) = Vec::with_capacity(rt.alloc(), LANES) else {
+        return ExitCode::from(Status::NoMemory.number());
+    };
+    for pair in pairs {
+        let ChildPair { inlet, outlet } = pair;
+        let (Ok(inlet), Ok(outlet)) = (Box::new(rt.alloc(), inlet), Box::new(rt.alloc(), outlet))
+        else {
+            return ExitCode::from(Status::NoMemory.number());
+        };
+        if lanes.push(LanePair { inlet, outlet }).is_err() {
+            return ExitCode::from(Status::NoMemory.number());
+        }
+    }
     let mut files = RealFiles::new(&rt);
     let mut out = RealSink::new(rt.stdout());
     let mut err = RealSink::new(rt.stderr());
@@ -39,21 +51,6 @@ fn main(rt: HostRuntime) -> ExitCode {
         &mut crew,
     );
     ExitCode::from(status.number())
-}
-
-/// Makes the lanes, without a program on any.
-fn lanes(rt: HostRuntime) -> Result<Vec<LanePair>, AllocError>
-    ensures { IfOk result (λ lanes. vec_len lanes ≡ 16) }
-{
-    let mut lanes = Vec::with_capacity(rt.alloc(), LANES)?;
-    for pair in child_lanes(rt.alloc(), rt, LANES)? {
-        let ChildPair { inlet, outlet } = pair;
-        lanes.push(LanePair {
-            inlet: Box::new(rt.alloc(), inlet)?,
-            outlet: Box::new(rt.alloc(), outlet)?,
-        })?;
-    }
-    Ok(lanes)
 }
 
 /// The words of the command line, without the program's name. Where one isn't UTF-8, a word that
