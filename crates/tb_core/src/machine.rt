@@ -269,10 +269,6 @@ impl<W: Walker> Core<W> {
         ensures full { IsErrOf result CoreFault.Full → IsCrowded self.old Entry.Quiet }
         ensures err { OnErr result (Stays self.old self.new) }
     {
-        if says_quiet(&self.log) {
-            put_quiet(&mut self.log)?;
-            return Ok(true);
-        }
         if self.is_down() {
             return Ok(false);
         }
