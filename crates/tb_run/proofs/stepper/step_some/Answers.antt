@@ -28,7 +28,7 @@ returns-in-Ok-Down g c =
 pub returns-in-Err : goal.returns-in-Err
 returns-in-Err g c =
     let laws = c.calls_add_their_own.ensures in
-    row_refused laws.seen laws.added c.args.seat.now c.make_steps.new.seat c.requires.right c.refused.new.seat c.in-Err.fault c.refused.result c.in-Err.ensures c.refused.ensures
+    row_refused laws.seen laws.added c.args.seat.now c.make_steps.new.seat c.requires.right c.in-Err.fault c.refused.new.seat c.refused.result c.in-Err.ensures c.refused.ensures
 
 pub refused-requires : goal.refused-requires
 refused-requires g c =
