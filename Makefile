@@ -1,6 +1,6 @@
 # The commands for developers. hello, build, and test need rt of the Rattle kit. The others need the built program and Python 3.
 # bench and faults also need a C compiler. faults, hostile, and soak need Linux.
-.PHONY: hello build test pages examples kits bench faults hostile soak
+.PHONY: hello build test pages order examples kits bench faults hostile soak
 
 SCRIPT := $(CURDIR)/examples/hello.tb
 PROGRAM := $(CURDIR)/crates/toolbus/out/toolbus
@@ -22,6 +22,10 @@ test:
 # Compares what README.md and docs/RULES.md show with what the built program does. Some seconds. This and all targets below aren't part of the gate.
 pages:
 	tests/pages
+
+# Checks docs/ARCHITECTURE.md against the definitions and crates.txt. Some seconds. It needs no program.
+order:
+	tests/order
 
 # Runs all scripts of examples/ and docs/GUIDE.md with their tools, and compares the output. Half a minute.
 examples:
