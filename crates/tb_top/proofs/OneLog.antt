@@ -21,7 +21,7 @@ use Rattle.tb_run.specs.declared.ends.RunWhy.TheVariants as why
 use Rattle.tb_sim.specs.declared.ends.SimEnd.{SimEnd}
 use Rattle.tb_top.specs.OneLog.{HasPut, PutsAll}
 use Rattle.tb_top.specs.Run.{IsRun, RunRequest}
-use Rattle.tb_top.specs.Sim.{IsSimOf, Request}
+use Rattle.tb_top.specs.Sim.{IsSimOf, Request, origin_for}
 
 abbrev taken-in : Option (List ℕ) → List ℕ
 taken-in None = []
@@ -45,7 +45,7 @@ one-log bytes log other old new other_old other_new is other_is writes other_wri
 -- of two simulations
 sim-log : (held : List ℕ → Option (List ℕ)) (request : Request) (log : List Entry) (last : SimEnd) → request.events < 2 ^ 64 → IsSimOf held request log last → IsLog log
 sim-log held request log last few s =
-    is-log _ log s.trace s.proper (let within = s.within in omega (arith, within, few))
+    is-log (origin_for request s.program) log s.trace s.proper (let within = s.within in omega (arith, within, few))
 
 pub sim-one_log : (held other_held : List ℕ → Option (List ℕ)) (request other_request : Request) (log other : List Entry) (last other_last : SimEnd) (old new other_old other_new : Option (List ℕ)) (bytes : List ℕ) →
     request.events < 2 ^ 64 → other_request.events < 2 ^ 64 → IsSimOf held request log last → IsSimOf other_held other_request other other_last → Writes old new (log_text log) → Writes other_old other_new (log_text other) →
