@@ -69,6 +69,8 @@ pub enum Proc {
     Star(Boxed<Proc>, Boxed<Proc>),
     /// Both, their steps mixed.
     Par(Boxed<Proc>, Boxed<Proc>),
+    /// The first, until it ends or the second takes its place.
+    Disrupt(Boxed<Proc>, Boxed<Proc>),
     If(Ast, Boxed<Proc>, Option<Boxed<Proc>>),
     Let(Vars, Boxed<Proc>),
 }
