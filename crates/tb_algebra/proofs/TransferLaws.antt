@@ -1,16 +1,17 @@
 -- What comes of a disrupt while only its left side makes steps, and once its right side has made one.
-use Rattle.std.proofs.Common.{◌≡◌, ℕ, zero, suc, ◌+◌, List, [], ◌++◌, map, Option, Some, None, IfSome, Contains, refl, ap, sym, subst, ◌∙◌, arith, rules}
-use Rattle.std.proofs.lemmas.Option.{same_Some}
+use Rattle.std.proofs.Common.{◌≡◌, ℕ, zero, suc, ◌+◌, ◌<◌, ◌≤◌, ◌⊎◌, inl, inr, List, [], ◌∷◌, ◌++◌, map, length, slice_get, Option, Some, None, IfSome, Contains, refl, ap, sym, subst, ◌∙◌, arith, rules}
+use Rattle.std.proofs.lemmas.List.{length-map}
+use Rattle.std.proofs.lemmas.Option.{same_Some, slice_get_within}
 use Rattle.std.proofs.lemmas.List.Elements.{All-nil, All-cons, All-append, All-weaker, All-map, All-contains, All-contains_itself, Contains-append_left, Contains-append_right}
 use Rattle.std.specs.List.{All}
 use Rattle.tb_func.specs.declared.slot.Slot.{Slot}
 use Rattle.tb_algebra.specs.Processes.{Process, At, Seq, Alt, Star, Par, Disrupt, If, When, Let, aged}
 use Rattle.tb_algebra.specs.Settings.{tested, with_settings}
 use Rattle.tb_algebra.specs.Offers.{Offered, followed, left_of, right_of, until, before, on_the_left, on_the_right, in_wait, offers}
-use Rattle.tb_algebra.specs.Transfers.{Comes, here, goes_on, grows_older, OnlyLeft, begins, steps, waits, RightWent, went, atoms_of, AreApart}
+use Rattle.tb_algebra.specs.Transfers.{Comes, here, goes_on, grows_older, OnlyLeft, begins, steps, waits, RightWent, went, goes_further, grows, atoms_of, AreApart}
 use Rattle.tb_algebra.specs.Helpers.Runnings.{waited}
 use Rattle.tb_algebra.proofs.Ages.{left-is}
-use Rattle.tb_algebra.proofs.Offering.{if-all, after-all}
+use Rattle.tb_algebra.proofs.Offering.{contains-at, if-all, after-all}
 
 -- the right side has waited as long as the whole
 
@@ -31,23 +32,54 @@ steps-held x r y ticks store k =
           let h = held y o.residual left e in
           (h.0, goes_on store o k c h.1, h.2)
 
-pub only_left : {x y : Process} {ticks : ℕ} {term : Process} → OnlyLeft x y ticks term → (r : Process) × Comes x ticks r × (term ≡ Disrupt r (waited ticks y))
+-- which side an offer of a disrupt is of
+
+split_offer : (xs ys : List Offered) (k : ℕ) (o : Offered) → slice_get (xs ++ ys) k ≡ Some o → (slice_get xs k ≡ Some o) ⊎ ((i : ℕ) × ((k ≡ length xs + i) × (slice_get ys i ≡ Some o)))
+split_offer [] ys k o e = inr (k, (omega arith, e))
+split_offer (x ∷ xs) ys zero o e = inl e
+split_offer (x ∷ xs) ys (suc k) o e = later (split_offer xs ys k o e)
+  where
+    later : (slice_get xs k ≡ Some o) ⊎ ((i : ℕ) × ((k ≡ length xs + i) × (slice_get ys i ≡ Some o))) → (slice_get (x ∷ xs) (suc k) ≡ Some o) ⊎ ((i : ℕ) × ((suc k ≡ suc (length xs) + i) × (slice_get ys i ≡ Some o)))
+    later (inl h) = inl h
+    later (inr h) = inr (h.0, (let m = h.1.0 in omega arith, h.1.1))
+
+of_left : (r s : Process) (store : List Slot) (k : ℕ) (o : Offered) → slice_get (offers (Disrupt r s) store) k ≡ Some o → k < length (offers r store) → Contains (map (in_wait s) (offers r store)) o
+of_left r s store k o e h = side (split_offer (map (in_wait s) (offers r store)) (offers s store) k o e)
+  where
+    many : length (map (in_wait s) (offers r store)) ≡ length (offers r store)
+    many = length-map (offers r store) (in_wait s)
+
+    side : (slice_get (map (in_wait s) (offers r store)) k ≡ Some o) ⊎ ((i : ℕ) × ((k ≡ length (map (in_wait s) (offers r store)) + i) × (slice_get (offers s store) i ≡ Some o))) → Contains (map (in_wait s) (offers r store)) o
+    side (inl g) = contains-at (map (in_wait s) (offers r store)) k o g
+    side (inr g) = absurd (let m = g.1.0 in omega (arith, many))
+
+of_right : (r s : Process) (store : List Slot) (k : ℕ) (o : Offered) → slice_get (offers (Disrupt r s) store) k ≡ Some o → length (offers r store) ≤ k → Contains (offers s store) o
+of_right r s store k o e h = side (split_offer (map (in_wait s) (offers r store)) (offers s store) k o e)
+  where
+    many : length (map (in_wait s) (offers r store)) ≡ length (offers r store)
+    many = length-map (offers r store) (in_wait s)
+
+    side : (slice_get (map (in_wait s) (offers r store)) k ≡ Some o) ⊎ ((i : ℕ) × ((k ≡ length (map (in_wait s) (offers r store)) + i) × (slice_get (offers s store) i ≡ Some o))) → Contains (offers s store) o
+    side (inl g) = absurd (let m = slice_get_within (map (in_wait s) (offers r store)) k o g in omega (arith, many))
+    side (inr g) = contains-at (offers s store) g.0 o g.1.1
+
+only_left : {x y : Process} {ticks : ℕ} {term : Process} → OnlyLeft x y ticks term → (r : Process) × Comes x ticks r × (term ≡ Disrupt r (waited ticks y))
 only_left {x = x} begins = (x, here, refl)
-only_left {x = x} {y = y} (steps {ticks = ticks} {r = r} {s = s} {left = left} store offered k c e) =
-    let h = only_left k in
+only_left {x = x} {y = y} (steps {ticks = ticks} {k = k} {r = r} {s = s} {left = left} store offered only e less c) =
+    let h = only_left only in
     let same : Disrupt r s ≡ Disrupt h.0 (waited ticks y) = h.2 in
     let first : h.0 ≡ r = cc in
     let second : s ≡ waited ticks y = cc in
     let comes : Comes x ticks r = subst (Comes x ticks) first h.1 in
-    let found = All-contains (LeavesHeld x ticks s) (map (in_wait s) (offers r store)) offered (steps-held x r s ticks store comes) c left e in
+    let found = All-contains (LeavesHeld x ticks s) (map (in_wait s) (offers r store)) offered (steps-held x r s ticks store comes) (of_left r s store k offered e less) left c in
     (found.0, found.1, found.2 ∙ ap (Disrupt found.0) second)
 only_left {y = y} (waits {ticks = ticks} {term = term} k) =
     let h = only_left k in
     let e : suc ticks ≡ ticks + 1 = omega arith in
     (aged h.0, grows_older h.1, ap aged h.2 ∙ ap (λ (n : ℕ). Disrupt (aged h.0) (waited n y)) e)
 
-pub right_waits : (x y term : Process) (ticks : ℕ) (store : List Slot) → OnlyLeft x y ticks term → (r : Process) × Comes x ticks r × (offers term store ≡ map (in_wait (waited ticks y)) (offers r store) ++ offers (waited ticks y) store)
-right_waits x y term ticks store k = (let h = only_left k in (h.0, h.1, ap (λ (p : Process). offers p store) h.2))
+pub right_waits : (x y term : Process) (ticks : ℕ) → OnlyLeft x y ticks term → (r : Process) × Comes x ticks r × (term ≡ Disrupt r (waited ticks y)) × ((store : List Slot) → offers term store ≡ map (in_wait (waited ticks y)) (offers r store) ++ offers (waited ticks y) store)
+right_waits x y term ticks k = (let h = only_left k in (h.0, h.1, h.2, λ store. ap (λ (p : Process). offers p store) h.2))
 
 -- the atoms of what comes of a term are the term's
 
@@ -161,22 +193,32 @@ own (If test x y) = both-own x y (own x) (own y)
 own (When test x) = own x
 own (Let settings x) = own x
 
--- what comes once a step of the right side was made is the right side's alone
+-- what comes after a step of the right side is what the right side alone comes to
 
-waited-own : {x y r s : Process} {ticks : ℕ} → OnlyLeft x y ticks (Disrupt r s) → IsWithin (atoms_of y) s
-waited-own {y = y} {r = r} {s = s} {ticks = ticks} k =
+waits-alone : (y : Process) (ticks : ℕ) → Comes y ticks (waited ticks y)
+waits-alone y zero = here
+waits-alone y (suc ticks) = subst (λ (n : ℕ). Comes y n (waited (suc ticks) y)) (omega arith) (grows_older (waits-alone y ticks))
+
+right_side : {x y r s : Process} {ticks : ℕ} → OnlyLeft x y ticks (Disrupt r s) → Comes y ticks s
+right_side {y = y} {r = r} {s = s} {ticks = ticks} k =
     let h = only_left k in
     let same : Disrupt r s ≡ Disrupt h.0 (waited ticks y) = h.2 in
     let is : waited ticks y ≡ s = cc in
-    subst (IsWithin (atoms_of y)) is (within-waited (atoms_of y) ticks y (own y))
+    subst (Comes y ticks) is (waits-alone y ticks)
 
-right-own : {x y term : Process} → RightWent x y term → IsWithin (atoms_of y) term
-right-own {y = y} (went {s = s} {left = left} store offered k c e comes) =
-    comes-within (atoms_of y) left comes
-    (left-is (IsWithin (atoms_of y)) offered.residual left (offer-within (atoms_of y) s store offered (waited-own k) c).left e)
+alone : {x y : Process} {ticks : ℕ} {term : Process} → RightWent x y ticks term → Comes y ticks term
+alone (went {k = k} {r = r} {s = s} store offered only e more c) = goes_on store offered (right_side only) (of_right r s store k offered e more) c
+alone (goes_further store offered h c e) = goes_on store offered (alone h) c e
+alone (grows h) = grows_older (alone h)
 
-pub right_alone : (x y term : Process) (store : List Slot) (offered : Offered) → RightWent x y term → Contains (offers term store) offered → Contains (atoms_of y) offered.atom
-right_alone x y term store offered k c = (offer-within (atoms_of y) term store offered (right-own k) c).atom
+pub is_alone : (x y term : Process) (ticks : ℕ) → RightWent x y ticks term → Comes y ticks term
+is_alone x y term ticks h = alone h
 
-pub left_gone : (x y term : Process) (store : List Slot) (offered : Offered) → AreApart x y → RightWent x y term → Contains (offers term store) offered → Contains (atoms_of x) offered.atom → ⊥
-left_gone x y term store offered apart k c there = apart offered.atom there (right_alone x y term store offered k c)
+right-own : {x y : Process} {ticks : ℕ} {term : Process} → RightWent x y ticks term → IsWithin (atoms_of y) term
+right-own {y = y} h = comes-within (atoms_of y) y (alone h) (own y)
+
+pub right_alone : (x y term : Process) (ticks : ℕ) (store : List Slot) (offered : Offered) → RightWent x y ticks term → Contains (offers term store) offered → Contains (atoms_of y) offered.atom
+right_alone x y term ticks store offered k c = (offer-within (atoms_of y) term store offered (right-own k) c).atom
+
+pub left_gone : (x y term : Process) (ticks : ℕ) (store : List Slot) (offered : Offered) → AreApart x y → RightWent x y ticks term → Contains (offers term store) offered → Contains (atoms_of x) offered.atom → ⊥
+left_gone x y term ticks store offered apart k c there = apart offered.atom there (right_alone x y term ticks store offered k c)

@@ -15,7 +15,7 @@ pub data IsLeftLater : Process → Process → Type 0 where
   -- it stands behind what is left, or before it
   goes_beside : {left later other : Process} → IsLeftLater left later → IsLeftLater (Par left other) (Par later (aged other))
   goes_along : {left later other : Process} → IsLeftLater left later → IsLeftLater (Par other left) (Par (aged other) later)
-  -- a right side waits beside it
+  -- it is a left side, whose right side waits and ages
   goes_until : {left later other : Process} → IsLeftLater left later → IsLeftLater (Disrupt left other) (Disrupt later (aged other))
 
 -- an offer that leaves nothing still leaves nothing

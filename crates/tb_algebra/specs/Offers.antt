@@ -26,7 +26,7 @@ abbrev pub right_of : Process → Option Process → Process
 right_of x None = x
 right_of x (Some y) = Par x y
 
--- what is left of a term, while another waits beside it; with the first the whole has ended
+-- what a step of a left side leaves: its rest and the waiting right side, or nothing where the left side has ended
 abbrev pub until : Process → Option Process → Option Process
 until y None = None
 until y (Some x) = Some (Disrupt x y)
@@ -64,7 +64,7 @@ offers (Alt x y) store = offers x store ++ offers y store
 offers (Star x y) store = map (before (Star x y)) (offers x store) ++ offers y store
 -- a merge offers what either term does, with the other beside it
 offers (Par x y) store = map (on_the_left y) (offers x store) ++ map (on_the_right x) (offers y store)
--- a disrupt offers what its first term does, with the second in wait as it is, and what the second does, and drops the first
+-- a disrupt offers what its left side does, and the right side keeps waiting as it is; then what its right side does, and the left side is dropped
 offers (Disrupt x y) store = map (in_wait y) (offers x store) ++ offers y store
 -- a test offers one of its sides, by what it says now
 offers (If test x y) store = offers_if (tested store test) (offers x store) (offers y store)

@@ -18,7 +18,7 @@ pub data Process : Type 0 where
   Star : Process → Process → Process
   -- both, their atoms in any order
   Par : Process → Process → Process
-  -- the one until the other begins; where the one has ended, the whole has
+  -- the left side, until the right side takes a step; where the left side has ended, the whole has
   Disrupt : Process → Process → Process
   -- the one where the test is true, and the other where it is false
   If : Expr → Process → Process → Process

@@ -1,8 +1,8 @@
--- What comes of a disrupt while only its left side makes steps, and what comes of it once its right side has made one.
-use Rattle.std.specs.Prelude.{◌≡◌, ◌+◌, ℕ, List, [], ◌∷◌, ◌++◌, map, Some, Contains}
+-- What a disrupt becomes while only its left side takes steps, and after a step of its right side.
+use Rattle.std.specs.Prelude.{◌≡◌, ◌<◌, ◌≤◌, ◌+◌, ℕ, List, [], ◌∷◌, ◌++◌, length, slice_get, Some, Contains}
 use Rattle.tb_func.specs.declared.slot.Slot.{Slot}
 use Rattle.tb_algebra.specs.Processes.{Process, At, Seq, Alt, Star, Par, Disrupt, If, When, Let, aged}
-use Rattle.tb_algebra.specs.Offers.{Offered, in_wait, offers}
+use Rattle.tb_algebra.specs.Offers.{Offered, offers}
 
 -- after so many ticks, a term comes of another by offers that are taken, each in whatever store
 pub data Comes (term : Process) : ℕ → Process → Type 0 where
@@ -13,19 +13,27 @@ pub data Comes (term : Process) : ℕ → Process → Type 0 where
   -- by a tick
   grows_older : {ticks : ℕ} {later : Process} → Comes term ticks later → Comes term (ticks + 1) (aged later)
 
--- after so many ticks, what `x >> y` has come to, where each step was one of its left side
+-- After so many ticks, what `x >> y` has come to while only its left side took steps. The offers of a disrupt are those of its left side,
+-- as many as that has, and then those of its right side.
 pub data OnlyLeft (x y : Process) : ℕ → Process → Type 0 where
   -- as it is entered
   begins : OnlyLeft x y 0 (Disrupt x y)
   -- by an offer of the left side
-  steps : {ticks : ℕ} {r s left : Process} (store : List Slot) (offered : Offered) → OnlyLeft x y ticks (Disrupt r s) → Contains (map (in_wait s) (offers r store)) offered → offered.residual ≡ Some left → OnlyLeft x y ticks left
+  steps : {ticks k : ℕ} {r s left : Process} (store : List Slot) (offered : Offered) → OnlyLeft x y ticks (Disrupt r s)
+      → slice_get (offers (Disrupt r s) store) k ≡ Some offered → k < length (offers r store) → offered.residual ≡ Some left → OnlyLeft x y ticks left
   -- by a tick
   waits : {ticks : ℕ} {term : Process} → OnlyLeft x y ticks term → OnlyLeft x y (ticks + 1) (aged term)
 
--- what `x >> y` has come to once its right side has made a step
-pub data RightWent (x y : Process) : Process → Type 0 where
-  -- by the first step of the right side, and by what came then
-  went : {ticks more : ℕ} {r s left later : Process} (store : List Slot) (offered : Offered) → OnlyLeft x y ticks (Disrupt r s) → Contains (offers s store) offered → offered.residual ≡ Some left → Comes left more later → RightWent x y later
+-- after so many ticks, what `x >> y` has come to once its right side has taken a step
+pub data RightWent (x y : Process) : ℕ → Process → Type 0 where
+  -- by the first step of the right side
+  went : {ticks k : ℕ} {r s left : Process} (store : List Slot) (offered : Offered) → OnlyLeft x y ticks (Disrupt r s)
+      → slice_get (offers (Disrupt r s) store) k ≡ Some offered → length (offers r store) ≤ k → offered.residual ≡ Some left → RightWent x y ticks left
+  -- by any later step
+  goes_further : {ticks : ℕ} {later left : Process} (store : List Slot) (offered : Offered) → RightWent x y ticks later
+      → Contains (offers later store) offered → offered.residual ≡ Some left → RightWent x y ticks left
+  -- by a tick
+  grows : {ticks : ℕ} {later : Process} → RightWent x y ticks later → RightWent x y (ticks + 1) (aged later)
 
 -- the atoms of a term in text order
 abbrev pub atoms_of : Process → List ℕ
@@ -39,6 +47,6 @@ atoms_of (If test x y) = atoms_of x ++ atoms_of y
 atoms_of (When test x) = atoms_of x
 atoms_of (Let settings x) = atoms_of x
 
--- no atom is one of both
+-- The two terms have no atom in common.
 abbrev pub AreApart : Process → Process → Type 0
 AreApart x y = (atom : ℕ) → Contains (atoms_of x) atom → Contains (atoms_of y) atom → ⊥

@@ -114,23 +114,24 @@ pub fn ageing_keeps_terms()
         ≡ is_ready offered.store offered.age now (times_of atoms offered.atom) }
 {}
 
-/// While only the left side of a disrupt makes steps, its right side waits. The offers of the whole are those of what
-/// the left side has come to, and behind them the right side's own, aged by as many ticks as the whole has seen.
+/// While only the left side of a disrupt takes steps, its right side waits and ages with the whole. The whole offers
+/// what its left side has come to offers, and then what its right side offers, aged by all ticks of the whole.
 pub fn right_sides_wait()
-    ensures term { (x y term : Process) (ticks : ℕ) → OnlyLeft x y ticks term
-        → (r : Process) × Comes x ticks r × (term ≡ Disrupt r (waited ticks y)) }
-    ensures offers { (x y term : Process) (ticks : ℕ) (store : List Slot)
-        → OnlyLeft x y ticks term → (r : Process) × Comes x ticks r × (offers term store
+    ensures { (x y term : Process) (ticks : ℕ) → OnlyLeft x y ticks term
+        → (r : Process) × Comes x ticks r × (term ≡ Disrupt r (waited ticks y))
+        × ((store : List Slot) → offers term store
         ≡ map (in_wait (waited ticks y)) (offers r store) ++ offers (waited ticks y) store) }
 {}
 
-/// Once the right side of a disrupt has made a step, each offer is of an atom of the right side. So no offer of the left
-/// side comes again.
+/// Once the right side of a disrupt has taken a step, the whole is what the right side alone comes to. So each offer is
+/// of an atom of the right side, and no offer of the left side comes again.
 pub fn right_sides_are_alone()
-    ensures atoms { (x y term : Process) (store : List Slot) (offered : Offered)
-        → RightWent x y term → Contains (offers term store) offered
+    ensures alone { (x y term : Process) (ticks : ℕ) → RightWent x y ticks term
+        → Comes y ticks term }
+    ensures atoms { (x y term : Process) (ticks : ℕ) (store : List Slot) (offered : Offered)
+        → RightWent x y ticks term → Contains (offers term store) offered
         → Contains (atoms_of y) offered.atom }
-    ensures gone { (x y term : Process) (store : List Slot) (offered : Offered) → AreApart x y
-        → RightWent x y term → Contains (offers term store) offered
+    ensures gone { (x y term : Process) (ticks : ℕ) (store : List Slot) (offered : Offered)
+        → AreApart x y → RightWent x y ticks term → Contains (offers term store) offered
         → Contains (atoms_of x) offered.atom → ⊥ }
 {}

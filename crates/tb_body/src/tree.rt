@@ -16,7 +16,7 @@ pub enum Tree {
     Star(Boxed<Tree>, Boxed<Tree>),
     /// Both, their atoms in any order.
     Par(Boxed<Tree>, Boxed<Tree>),
-    /// The one, until the other begins.
+    /// The left side, until the right side takes a step. If the left side ends, the whole ends.
     Disrupt(Boxed<Tree>, Boxed<Tree>),
     /// The one where the test is true, and the other, where there is one, where it is false.
     If(Expr, Boxed<Tree>, Option<Boxed<Tree>>),

@@ -61,8 +61,8 @@ entries_of atoms at (If test x y) = gate at ∷ []
 entries_of atoms at (When test x) = gate at ∷ []
 entries_of atoms at (Let settings x) = gate at ∷ []
 
--- What comes once the part has ended that stands at a position with this operator. A right side in wait parts its disrupt with each of
--- its atoms.
+-- What comes once the part of a position with this operator has ended. Where a right side waits there, each of its steps makes a new
+-- row, so it isn't said.
 abbrev pub outset : Op → Behind
 outset (op.Waits disrupt) = behind.Parted
 outset _ = behind.Ended

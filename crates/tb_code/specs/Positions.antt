@@ -21,8 +21,8 @@ abbrev pub node : Op → Option ℕ → Node
 node op frame = record { op = op; frame = frame }
 
 -- The positions of a term whose first is this one, in text order: an operator before its parts. The frame of the first
--- part of a sequence, of a star or of a disrupt is that operator; every other part has the frame of the whole. The right side of a
--- disrupt waits at the position before its own first, which also has the frame of the whole.
+-- part of a sequence, of a star or of a disrupt is that operator; every other part has the frame of the whole. A disrupt has one
+-- position between its parts. There its right side waits. It has the frame of the whole.
 abbrev pub table : Process → ℕ → Option ℕ → List Node
 table (At atom age) at frame = node (op.At atom) frame ∷ []
 table (Seq x y) at frame = node (op.Seq (suc at + size x)) frame ∷ (table x (suc at) (Some at) ++ table y (suc at + size x) frame)
@@ -68,12 +68,12 @@ abbrev pub is_wait : Op → Bool
 is_wait (op.Waits disrupt) = true
 is_wait _ = false
 
--- The first position of the part that stands at a position with this operator. Only that of a right side in wait is not the position itself.
+-- Where the part begins for which a position with this operator stands: at the next position if a right side waits here, else here.
 abbrev pub root : Op → ℕ → ℕ
 root (op.Waits disrupt) at = suc at
 root _ at = at
 
--- a part begins at this position, and none waits there
+-- no right side waits at this position
 abbrev pub Begins : Process → ℕ → Type 0
 Begins whole at = is_wait (op_at whole at) ≡ false
 
@@ -95,7 +95,7 @@ pub record IsUntil (whole : Process) (at waits : ℕ) : Type 0 where
   pub first_begins : Begins whole (suc at)
   pub second_begins : Begins whole (suc waits)
 
--- The part at a position waits there for a disrupt before it, and is the part at the next position.
+-- A right side waits here. Its part is that of the next position, and its disrupt is at an earlier one.
 pub record IsWait (whole : Process) (at disrupt : ℕ) : Type 0 where
   pub here : part whole at ≡ part whole (suc at)
   pub first : suc at < size whole

@@ -15,9 +15,10 @@ pub enum Op {
     Star(usize),
     /// Both parts beside each other.
     Par(usize),
-    /// One part, until the other begins. The other waits at this position, and stands at the next one.
+    /// The left side, until the right side begins. The right side waits at the given position and begins at
+    /// the next one.
     Disrupt(usize),
-    /// The other part of this disrupt, while it waits.
+    /// The right side of the disrupt at the given position, while it waits.
     Waits(usize),
     /// The first part where the test is true, the other where it is false.
     If(Expr, usize),

@@ -58,8 +58,8 @@ abbrev pub frame_above : Process → Option ℕ → Option ℕ
 frame_above whole None = None
 frame_above whole (Some at) = frame_in (slice_get (positions whole) at)
 
--- What stands behind where a branch has ended whose position has this frame. Where all of a left side has ended with it, the
--- right side goes that waits behind, and the frame of their disrupt decides.
+-- What follows where a branch ends whose position has this frame. Where a left side ends with it, the waiting right side leaves the row
+-- too, and the frame of their disrupt decides.
 abbrev pub rest_behind : Process → ℕ → Option ℕ → List Branch → List Branch → List Branch
 rest_behind whole ticks frame pre [] = entered_behind whole ticks frame pre []
 rest_behind whole ticks frame pre (b ∷ post) =

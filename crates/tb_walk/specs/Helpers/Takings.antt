@@ -54,8 +54,7 @@ IsWithin row (step.Part new) = ⊤
 abbrev pub EndsTo : Process → ℕ → List Branch → ℕ → List Branch → Type 0
 EndsTo whole ticks row at new = (b : Branch) → (n : Node) → slice_get row at ≡ Some b → slice_get (positions whole) b.position ≡ Some n → new ≡ take at row ++ rest_behind whole ticks n.frame (take at row) (drop (suc at) row)
 
--- The new row has these branches, or where there are none what stands behind then, in the place of the one at this index and
--- behind those that stay.
+-- The new row: the branches before this one that stay, then these and all behind it, or, where there are none, what follows the end.
 abbrev pub SettlesTo : Process → ℕ → List Branch → ℕ → List Branch → List Branch → Type 0
 SettlesTo whole ticks row at inside new =
     (b : Branch) → (n : Node) → slice_get row at ≡ Some b → slice_get (positions whole) b.position ≡ Some n →
