@@ -1,14 +1,20 @@
-# The commands for developers. hello, build, and test need rt of the Rattle kit. The others need the built program and Python 3.
-# bench and faults also need a C compiler. faults, hostile, and soak need Linux.
-.PHONY: hello build test pages order examples kits bench faults hostile soak
+# The commands for developers. hello, quick, build, and test need rt of the Rattle kit. The others need the built program. All but hello,
+# build, test, and install need Python 3. bench and faults also need a C compiler. quick, faults, hostile, and soak need Linux.
+.PHONY: hello quick build test install uninstall pages order examples kits installed bench faults hostile soak
 
 SCRIPT := $(CURDIR)/examples/hello.tb
 PROGRAM := $(CURDIR)/crates/toolbus/out/toolbus
+PREFIX := /usr/local
+SHARE := $(DESTDIR)$(PREFIX)/share
 
 # Simulates examples/hello.tb with the unproved program, and prints the log.
 hello:
 	@echo "This proves nothing: it runs the unproved program. make build proves the program, make test proves all crates."
 	@cd crates/toolbus && rt try -- sim "$(SCRIPT)"
+
+# Runs all scenarios, calls, and examples with unproved programs.
+quick:
+	tests/quick
 
 # Proves the program with all crates that it depends on, and builds it.
 build:
@@ -19,9 +25,34 @@ build:
 test:
 	.ci/run
 
-# Compares what README.md and docs/RULES.md show with what the built program does. Some seconds. This and all targets below aren't part of the gate.
+# Installs the built program, its pages for man, the completion for bash, and the syntax files for editors. PREFIX=DIR installs in DIR.
+# It builds nothing. DESTDIR=DIR puts all files below DIR.
+install:
+	@test -x "$(PROGRAM)" || { echo "There is no $(PROGRAM). make build makes it."; exit 1; }
+	install -D -m 755 "$(PROGRAM)" "$(DESTDIR)$(PREFIX)/bin/toolbus"
+	install -D -m 644 man/toolbus.1 "$(SHARE)/man/man1/toolbus.1"
+	install -D -m 644 man/toolbus.5 "$(SHARE)/man/man5/toolbus.5"
+	install -D -m 644 completion/toolbus "$(SHARE)/bash-completion/completions/toolbus"
+	install -D -m 644 editors/vim/ftdetect/toolbus.vim "$(SHARE)/vim/vimfiles/ftdetect/toolbus.vim"
+	install -D -m 644 editors/vim/syntax/toolbus.vim "$(SHARE)/vim/vimfiles/syntax/toolbus.vim"
+	install -D -m 644 editors/textmate/toolbus.tmLanguage.json "$(SHARE)/toolbus/toolbus.tmLanguage.json"
+	install -D -m 644 -t "$(SHARE)/doc/toolbus" README.md docs/GUIDE.md docs/RULES.md
+
+# Removes what make install has installed, with the same PREFIX and DESTDIR.
+uninstall:
+	rm -f "$(DESTDIR)$(PREFIX)/bin/toolbus" "$(SHARE)/man/man1/toolbus.1" "$(SHARE)/man/man5/toolbus.5"
+	rm -f "$(SHARE)/bash-completion/completions/toolbus"
+	rm -f "$(SHARE)/vim/vimfiles/ftdetect/toolbus.vim" "$(SHARE)/vim/vimfiles/syntax/toolbus.vim"
+	rm -rf "$(SHARE)/toolbus" "$(SHARE)/doc/toolbus"
+
+# Compares what README.md, docs/RULES.md, and man/ show with what the built program does. Some seconds. This and all targets below aren't
+# part of the gate.
 pages:
 	tests/pages
+
+# Tests make install, the completion for bash, and the syntax files for editors. Some seconds.
+installed:
+	tests/install
 
 # Checks docs/ARCHITECTURE.md against the definitions and crates.txt. Some seconds. It needs no program.
 order:
