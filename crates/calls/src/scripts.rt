@@ -47,6 +47,7 @@ fn symbol_text(symbol: Symbol) -> &'static [u8] {
         Symbol::Plus => b"+",
         Symbol::Star => b"*",
         Symbol::Bars => b"||",
+        Symbol::Angles => b">>",
         Symbol::Less => b"<",
         Symbol::Greater => b">",
     }

@@ -3,10 +3,10 @@ use Rattle.std.proofs.Common.{◌≡◌, ℕ, zero, suc, ◌<◌, arith, Bool, t
 use Rattle.tb_terms.specs.declared.term.Term.{Term}
 use Rattle.tb_func.specs.declared.slot.Slot.{Slot}
 use Rattle.tb_body.specs.declared.atom.Atom.{Atom}
-use Rattle.tb_algebra.specs.Ageing.{IsLeftLater, follows, goes_before, stays, goes_beside, goes_along, LeavesLater, IsAged, AreAged}
+use Rattle.tb_algebra.specs.Ageing.{IsLeftLater, follows, goes_before, stays, goes_beside, goes_along, goes_until, LeavesLater, IsAged, AreAged}
 use Rattle.tb_algebra.specs.Atoms.{act_of, times_of, sent_exprs, matched_exprs, values_together, patterns_of, accepted, is_ready}
-use Rattle.tb_algebra.specs.Offers.{Offered, followed, left_of, right_of, before, on_the_left, on_the_right, offers_if, offers_after, offers}
-use Rattle.tb_algebra.specs.Processes.{Process, At, Seq, Alt, Star, Par, If, When, Let, aged}
+use Rattle.tb_algebra.specs.Offers.{until, in_wait, Offered, followed, left_of, right_of, before, on_the_left, on_the_right, offers_if, offers_after, offers}
+use Rattle.tb_algebra.specs.Processes.{Process, At, Seq, Alt, Star, Par, Disrupt, If, When, Let, aged}
 use Rattle.tb_algebra.specs.Settings.{tested, with_settings}
 use Rattle.tb_algebra.specs.Walks.{Walking, offers_of, offers_of_term, sent_by, patterns_by, accepted_by, ticked, is_end}
 
@@ -30,6 +30,12 @@ right_of-later other None (Some y) h = absurd h
 right_of-later other (Some x) None h = absurd h
 right_of-later other (Some x) (Some y) h = goes_along h
 
+until-later : (other : Process) (left later : Option Process) → LeavesLater left later → LeavesLater (until other left) (until (aged other) later)
+until-later other None None h = tt
+until-later other None (Some y) h = h
+until-later other (Some x) None h = h
+until-later other (Some x) (Some y) h = goes_until h
+
 -- one offer
 
 before-aged : (next : Process) (offered later : Offered) → IsAged offered later → IsAged (before next offered) (before next later)
@@ -40,6 +46,9 @@ on_the_left-aged other offered later h = record { atom = h.atom; age = h.age; st
 
 on_the_right-aged : (other : Process) (offered later : Offered) → IsAged offered later → IsAged (on_the_right other offered) (on_the_right (aged other) later)
 on_the_right-aged other offered later h = record { atom = h.atom; age = h.age; store = h.store; left = right_of-later other offered.residual later.residual h.left }
+
+in_wait-aged : (other : Process) (offered later : Offered) → IsAged offered later → IsAged (in_wait other offered) (in_wait (aged other) later)
+in_wait-aged other offered later h = record { atom = h.atom; age = h.age; store = h.store; left = until-later other offered.residual later.residual h.left }
 
 -- lists of offers
 
@@ -77,6 +86,9 @@ offers-age (Par x y) store =
     (map (on_the_right x) (offers y store)) (map (on_the_right (aged x)) (offers (aged y) store))
     (map-aged (on_the_left y) (on_the_left (aged y)) (offers x store) (offers (aged x) store) (on_the_left-aged y) (offers-age x store))
     (map-aged (on_the_right x) (on_the_right (aged x)) (offers y store) (offers (aged y) store) (on_the_right-aged x) (offers-age y store))
+offers-age (Disrupt x y) store =
+    append-aged (map (in_wait y) (offers x store)) (map (in_wait (aged y)) (offers (aged x) store)) (offers y store) (offers (aged y) store)
+    (map-aged (in_wait y) (in_wait (aged y)) (offers x store) (offers (aged x) store) (in_wait-aged y) (offers-age x store)) (offers-age y store)
 offers-age (If test x y) store = if-aged (tested store test) (offers x store) (offers (aged x) store) (offers y store) (offers (aged y) store) (offers-age x store) (offers-age y store)
 offers-age (When test x) store = if-aged (tested store test) (offers x store) (offers (aged x) store) [] [] (offers-age x store) tt
 offers-age (Let settings x) store = after-aged (with_settings store settings) (offers x) (offers (aged x)) (offers-age x)

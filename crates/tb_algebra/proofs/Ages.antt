@@ -6,9 +6,9 @@ use Rattle.std.specs.List.{All}
 use Rattle.tb_func.specs.declared.slot.Slot.{Slot}
 use Rattle.tb_body.specs.declared.tree.Tree.{Tree, Tree-F, map-Tree, fold-roll-Tree, ind-Tree, roll-Tree}
 use Rattle.tb_body.specs.declared.tree.Tree.TheOpen as layer
-use Rattle.tb_algebra.specs.Processes.{Process, At, Seq, Alt, Star, Par, If, When, Let, fresh, fresh_step, aged}
+use Rattle.tb_algebra.specs.Processes.{Process, At, Seq, Alt, Star, Par, Disrupt, If, When, Let, fresh, fresh_step, aged}
 use Rattle.tb_algebra.specs.Settings.{tested, with_settings}
-use Rattle.tb_algebra.specs.Offers.{Offered, followed, left_of, right_of, before, on_the_left, on_the_right, offers}
+use Rattle.tb_algebra.specs.Offers.{until, in_wait, Offered, followed, left_of, right_of, before, on_the_left, on_the_right, offers}
 use Rattle.tb_algebra.specs.Reached.{Reaches, entered, went_on, grew_older, IsAgedUpTo, IsNew}
 use Rattle.tb_algebra.proofs.Offering.{if-all, after-all}
 
@@ -23,6 +23,7 @@ layer-new (layer.Seq x y) = (x.1, y.1)
 layer-new (layer.Alt x y) = (x.1, y.1)
 layer-new (layer.Star x y) = (x.1, y.1)
 layer-new (layer.Par x y) = (x.1, y.1)
+layer-new (layer.Disrupt x y) = (x.1, y.1)
 layer-new (layer.If test x None) = x.1
 layer-new (layer.If test x (Some y)) = (x.1, y.1)
 layer-new (layer.Let settings x) = x.1
@@ -40,6 +41,7 @@ up_to-more few many (Seq x y) le h = (up_to-more few many x le h.0, up_to-more f
 up_to-more few many (Alt x y) le h = (up_to-more few many x le h.0, up_to-more few many y le h.1)
 up_to-more few many (Star x y) le h = (up_to-more few many x le h.0, up_to-more few many y le h.1)
 up_to-more few many (Par x y) le h = (up_to-more few many x le h.0, up_to-more few many y le h.1)
+up_to-more few many (Disrupt x y) le h = (up_to-more few many x le h.0, up_to-more few many y le h.1)
 up_to-more few many (If test x y) le h = (up_to-more few many x le h.0, up_to-more few many y le h.1)
 up_to-more few many (When test x) le h = up_to-more few many x le h
 up_to-more few many (Let settings x) le h = up_to-more few many x le h
@@ -52,6 +54,7 @@ up_to-aged ticks (Star x y) h =
     let later : IsAgedUpTo (ticks + 1) (Star x y) = (up_to-more ticks (ticks + 1) x (omega arith) h.0, up_to-more ticks (ticks + 1) y (omega arith) h.1) in
     ((up_to-aged ticks x h.0, later), up_to-aged ticks y h.1)
 up_to-aged ticks (Par x y) h = (up_to-aged ticks x h.0, up_to-aged ticks y h.1)
+up_to-aged ticks (Disrupt x y) h = (up_to-aged ticks x h.0, up_to-aged ticks y h.1)
 up_to-aged ticks (If test x y) h = (up_to-aged ticks x h.0, up_to-aged ticks y h.1)
 up_to-aged ticks (When test x) h = up_to-aged ticks x h
 up_to-aged ticks (Let settings x) h = up_to-aged ticks x h
@@ -73,6 +76,10 @@ right_of-up_to : (ticks : ℕ) (x : Process) (r : Option Process) → IsAgedUpTo
 right_of-up_to ticks x None h k = h
 right_of-up_to ticks x (Some y) h k = (h, k)
 
+until-up_to : (ticks : ℕ) (y : Process) (r : Option Process) → IsAgedUpTo ticks y → IfSome r (IsAgedUpTo ticks) → IfSome (until y r) (IsAgedUpTo ticks)
+until-up_to ticks y None h k = tt
+until-up_to ticks y (Some x) h k = (k, h)
+
 before-up_to : (ticks : ℕ) (y : Process) (os : List Offered) → IsAgedUpTo ticks y → All (OfferUpTo ticks) os → All (OfferUpTo ticks) (map (before y) os)
 before-up_to ticks y os k h =
     All-map (OfferUpTo ticks) (before y) os
@@ -88,6 +95,11 @@ on_the_right-up_to ticks x os k h =
     All-map (OfferUpTo ticks) (on_the_right x) os
     (All-weaker (OfferUpTo ticks) (λ o. OfferUpTo ticks (on_the_right x o)) (λ o g. record { age = g.age; left = right_of-up_to ticks x o.residual k g.left }) os h)
 
+in_wait-up_to : (ticks : ℕ) (y : Process) (os : List Offered) → IsAgedUpTo ticks y → All (OfferUpTo ticks) os → All (OfferUpTo ticks) (map (in_wait y) os)
+in_wait-up_to ticks y os k h =
+    All-map (OfferUpTo ticks) (in_wait y) os
+    (All-weaker (OfferUpTo ticks) (λ o. OfferUpTo ticks (in_wait y o)) (λ o g. record { age = g.age; left = until-up_to ticks y o.residual k g.left }) os h)
+
 pub offers-up_to : (ticks : ℕ) (term : Process) (store : List Slot) → IsAgedUpTo ticks term → All (OfferUpTo ticks) (offers term store)
 offers-up_to ticks (At atom age) store h = All-cons (OfferUpTo ticks) _ [] (record { age = h; left = tt }) (All-nil (OfferUpTo ticks))
 offers-up_to ticks (Seq x y) store h = before-up_to ticks y (offers x store) h.1 (offers-up_to ticks x store h.0)
@@ -99,6 +111,9 @@ offers-up_to ticks (Par x y) store h =
     All-append (OfferUpTo ticks) (map (on_the_left y) (offers x store)) (map (on_the_right x) (offers y store))
     (on_the_left-up_to ticks y (offers x store) h.1 (offers-up_to ticks x store h.0))
     (on_the_right-up_to ticks x (offers y store) h.0 (offers-up_to ticks y store h.1))
+offers-up_to ticks (Disrupt x y) store h =
+    All-append (OfferUpTo ticks) (map (in_wait y) (offers x store)) (offers y store)
+    (in_wait-up_to ticks y (offers x store) h.1 (offers-up_to ticks x store h.0)) (offers-up_to ticks y store h.1)
 offers-up_to ticks (If test x y) store h = if-all (OfferUpTo ticks) (tested store test) (offers x store) (offers y store) (offers-up_to ticks x store h.0) (offers-up_to ticks y store h.1)
 offers-up_to ticks (When test x) store h = if-all (OfferUpTo ticks) (tested store test) (offers x store) [] (offers-up_to ticks x store h) (All-nil (OfferUpTo ticks))
 offers-up_to ticks (Let settings x) store h = after-all (OfferUpTo ticks) (with_settings store settings) (offers x) (let-up_to (with_settings store settings) (λ s. offers-up_to ticks x s h)) where

@@ -14,9 +14,9 @@ use Rattle.tb_body.specs.declared.tree.Tree.{Tree, Tree-F, map-Tree, fold-roll-T
 use Rattle.tb_body.specs.declared.tree.Tree.TheOpen as layer
 use Rattle.tb_body.specs.Trees.{tree_atoms, atoms_step}
 use Rattle.tb_body.specs.InRange.{ascends_by_one, is_body_in_range}
-use Rattle.tb_algebra.specs.Processes.{Process, At, Seq, Alt, Star, Par, If, When, Let, fresh, fresh_step, aged}
+use Rattle.tb_algebra.specs.Processes.{Process, At, Seq, Alt, Star, Par, Disrupt, If, When, Let, fresh, fresh_step, aged}
 use Rattle.tb_algebra.specs.Settings.{tested, with_settings}
-use Rattle.tb_algebra.specs.Offers.{Offered, followed, left_of, right_of, before, on_the_left, on_the_right, offers_if, offers_after, offers}
+use Rattle.tb_algebra.specs.Offers.{until, in_wait, Offered, followed, left_of, right_of, before, on_the_left, on_the_right, offers_if, offers_after, offers}
 use Rattle.tb_algebra.specs.Reached.{Reaches, entered, went_on, grew_older}
 use Rattle.tb_algebra.proofs.Ages.{left-is}
 use Rattle.tb_algebra.proofs.Offering.{if-all, after-all}
@@ -28,6 +28,7 @@ Begins lo hi (Seq x y) = Begins lo hi x
 Begins lo hi (Alt x y) = (mid : ℕ) × Begins lo mid x × Begins mid hi y
 Begins lo hi (Star x y) = (mid : ℕ) × Begins lo mid x × Begins mid hi y
 Begins lo hi (Par x y) = (mid : ℕ) × Begins lo mid x × Begins mid hi y
+Begins lo hi (Disrupt x y) = (mid : ℕ) × Begins lo mid x × Begins mid hi y
 Begins lo hi (If test x y) = (mid : ℕ) × Begins lo mid x × Begins mid hi y
 Begins lo hi (When test x) = Begins lo hi x
 Begins lo hi (Let settings x) = Begins lo hi x
@@ -40,6 +41,7 @@ Within lo hi (Seq x y) = Within lo hi x × Within lo hi y
 Within lo hi (Alt x y) = Within lo hi x × Within lo hi y × Begins lo hi (Alt x y)
 Within lo hi (Star x y) = Within lo hi x × Within lo hi y × Begins lo hi (Alt x y)
 Within lo hi (Par x y) = (mid : ℕ) × Within lo mid x × Within mid hi y
+Within lo hi (Disrupt x y) = (mid : ℕ) × Within lo mid x × Within mid hi y
 Within lo hi (If test x y) = Within lo hi x × Within lo hi y × Begins lo hi (Alt x y)
 Within lo hi (When test x) = Within lo hi x
 Within lo hi (Let settings x) = Within lo hi x
@@ -50,6 +52,7 @@ begins-bounds lo hi (Seq x y) h = begins-bounds lo hi x h
 begins-bounds lo hi (Alt x y) h = omega (arith, begins-bounds lo h.0 x h.1, begins-bounds h.0 hi y h.2)
 begins-bounds lo hi (Star x y) h = omega (arith, begins-bounds lo h.0 x h.1, begins-bounds h.0 hi y h.2)
 begins-bounds lo hi (Par x y) h = omega (arith, begins-bounds lo h.0 x h.1, begins-bounds h.0 hi y h.2)
+begins-bounds lo hi (Disrupt x y) h = omega (arith, begins-bounds lo h.0 x h.1, begins-bounds h.0 hi y h.2)
 begins-bounds lo hi (If test x y) h = omega (arith, begins-bounds lo h.0 x h.1, begins-bounds h.0 hi y h.2)
 begins-bounds lo hi (When test x) h = begins-bounds lo hi x h
 begins-bounds lo hi (Let settings x) h = begins-bounds lo hi x h
@@ -60,6 +63,7 @@ begins-wider lo hi low high (Seq x y) l m h = begins-wider lo hi low high x l m 
 begins-wider lo hi low high (Alt x y) l m h = (h.0, begins-wider lo h.0 low h.0 x l (omega arith) h.1, begins-wider h.0 hi h.0 high y (omega arith) m h.2)
 begins-wider lo hi low high (Star x y) l m h = (h.0, begins-wider lo h.0 low h.0 x l (omega arith) h.1, begins-wider h.0 hi h.0 high y (omega arith) m h.2)
 begins-wider lo hi low high (Par x y) l m h = (h.0, begins-wider lo h.0 low h.0 x l (omega arith) h.1, begins-wider h.0 hi h.0 high y (omega arith) m h.2)
+begins-wider lo hi low high (Disrupt x y) l m h = (h.0, begins-wider lo h.0 low h.0 x l (omega arith) h.1, begins-wider h.0 hi h.0 high y (omega arith) m h.2)
 begins-wider lo hi low high (If test x y) l m h = (h.0, begins-wider lo h.0 low h.0 x l (omega arith) h.1, begins-wider h.0 hi h.0 high y (omega arith) m h.2)
 begins-wider lo hi low high (When test x) l m h = begins-wider lo hi low high x l m h
 begins-wider lo hi low high (Let settings x) l m h = begins-wider lo hi low high x l m h
@@ -70,6 +74,7 @@ within-begins lo hi (Seq x y) h = within-begins lo hi x h.0
 within-begins lo hi (Alt x y) h = h.2
 within-begins lo hi (Star x y) h = h.2
 within-begins lo hi (Par x y) h = (h.0, within-begins lo h.0 x h.1, within-begins h.0 hi y h.2)
+within-begins lo hi (Disrupt x y) h = (h.0, within-begins lo h.0 x h.1, within-begins h.0 hi y h.2)
 within-begins lo hi (If test x y) h = h.2
 within-begins lo hi (When test x) h = within-begins lo hi x h
 within-begins lo hi (Let settings x) h = within-begins lo hi x h
@@ -83,6 +88,7 @@ within-wider lo hi low high (Seq x y) l m h = (within-wider lo hi low high x l m
 within-wider lo hi low high (Alt x y) l m h = (within-wider lo hi low high x l m h.0, within-wider lo hi low high y l m h.1, begins-wider lo hi low high (Alt x y) l m h.2)
 within-wider lo hi low high (Star x y) l m h = (within-wider lo hi low high x l m h.0, within-wider lo hi low high y l m h.1, begins-wider lo hi low high (Alt x y) l m h.2)
 within-wider lo hi low high (Par x y) l m h = (h.0, within-wider lo h.0 low h.0 x l (omega arith) h.1, within-wider h.0 hi h.0 high y (omega arith) m h.2)
+within-wider lo hi low high (Disrupt x y) l m h = (h.0, within-wider lo h.0 low h.0 x l (omega arith) h.1, within-wider h.0 hi h.0 high y (omega arith) m h.2)
 within-wider lo hi low high (If test x y) l m h = (within-wider lo hi low high x l m h.0, within-wider lo hi low high y l m h.1, begins-wider lo hi low high (Alt x y) l m h.2)
 within-wider lo hi low high (When test x) l m h = within-wider lo hi low high x l m h
 within-wider lo hi low high (Let settings x) l m h = within-wider lo hi low high x l m h
@@ -95,6 +101,7 @@ begins-aged lo hi (Seq x y) h = begins-aged lo hi x h
 begins-aged lo hi (Alt x y) h = (h.0, begins-aged lo h.0 x h.1, begins-aged h.0 hi y h.2)
 begins-aged lo hi (Star x y) h = (h.0, begins-aged lo h.0 x h.1, begins-aged h.0 hi y h.2)
 begins-aged lo hi (Par x y) h = (h.0, begins-aged lo h.0 x h.1, begins-aged h.0 hi y h.2)
+begins-aged lo hi (Disrupt x y) h = (h.0, begins-aged lo h.0 x h.1, begins-aged h.0 hi y h.2)
 begins-aged lo hi (If test x y) h = (h.0, begins-aged lo h.0 x h.1, begins-aged h.0 hi y h.2)
 begins-aged lo hi (When test x) h = begins-aged lo hi x h
 begins-aged lo hi (Let settings x) h = begins-aged lo hi x h
@@ -105,6 +112,7 @@ within-aged lo hi (Seq x y) h = (within-aged lo hi x h.0, h.1)
 within-aged lo hi (Alt x y) h = (within-aged lo hi x h.0, within-aged lo hi y h.1, begins-aged lo hi (Alt x y) h.2)
 within-aged lo hi (Star x y) h = ((within-aged lo hi x h.0, h), within-aged lo hi y h.1, begins-aged lo hi (Alt x y) h.2)
 within-aged lo hi (Par x y) h = (h.0, within-aged lo h.0 x h.1, within-aged h.0 hi y h.2)
+within-aged lo hi (Disrupt x y) h = (h.0, within-aged lo h.0 x h.1, within-aged h.0 hi y h.2)
 within-aged lo hi (If test x y) h = (within-aged lo hi x h.0, within-aged lo hi y h.1, begins-aged lo hi (Alt x y) h.2)
 within-aged lo hi (When test x) h = within-aged lo hi x h
 within-aged lo hi (Let settings x) h = within-aged lo hi x h
@@ -129,6 +137,14 @@ right_of-within : (lo mid hi : ℕ) (x : Process) (r : Option Process) → mid �
 right_of-within lo mid hi x None l k h = within-wider lo mid lo hi x (omega arith) l k
 right_of-within lo mid hi x (Some y) l k h = (mid, k, h)
 
+until-within : (lo mid hi : ℕ) (y : Process) (r : Option Process) → Within mid hi y → IfSome r (Within lo mid) → IfSome (until y r) (Within lo hi)
+until-within lo mid hi y None k h = tt
+until-within lo mid hi y (Some x) k h = (mid, h, k)
+
+within-later : (lo mid hi : ℕ) (r : Option Process) → lo ≤ mid → IfSome r (Within mid hi) → IfSome r (Within lo hi)
+within-later lo mid hi None l h = tt
+within-later lo mid hi (Some x) l h = within-wider mid hi lo hi x l (omega arith) h
+
 below : (lo hi : ℕ) (term : Process) → Within lo hi term → lo ≤ hi
 below lo hi term h = omega (arith, within-bounds lo hi term h)
 
@@ -144,6 +160,10 @@ leaves-within lo hi (Par x y) store h =
     All-append (LeavesWithin lo hi) (map (on_the_left y) (offers x store)) (map (on_the_right x) (offers y store))
     (leaves-by lo h.0 lo hi (on_the_left y) (offers x store) (λ o g. left_of-within lo h.0 hi o.residual y (below lo h.0 x h.1) h.2 g) (leaves-within lo h.0 x store h.1))
     (leaves-by h.0 hi lo hi (on_the_right x) (offers y store) (λ o g. right_of-within lo h.0 hi x o.residual (below h.0 hi y h.2) h.1 g) (leaves-within h.0 hi y store h.2))
+leaves-within lo hi (Disrupt x y) store h =
+    All-append (LeavesWithin lo hi) (map (in_wait y) (offers x store)) (offers y store)
+    (leaves-by lo h.0 lo hi (in_wait y) (offers x store) (λ o g. until-within lo h.0 hi y o.residual h.2 g) (leaves-within lo h.0 x store h.1))
+    (All-weaker (LeavesWithin h.0 hi) (LeavesWithin lo hi) (λ o g. within-later lo h.0 hi o.residual (below lo h.0 x h.1) g) (offers y store) (leaves-within h.0 hi y store h.2))
 leaves-within lo hi (If test x y) store h = if-all (LeavesWithin lo hi) (tested store test) (offers x store) (offers y store) (leaves-within lo hi x store h.0) (leaves-within lo hi y store h.1)
 leaves-within lo hi (When test x) store h = if-all (LeavesWithin lo hi) (tested store test) (offers x store) [] (leaves-within lo hi x store h) (All-nil (LeavesWithin lo hi))
 leaves-within lo hi (Let settings x) store h = after-all (LeavesWithin lo hi) (with_settings store settings) (offers x) (let-leaves (with_settings store settings) (λ s. leaves-within lo hi x s h)) where
@@ -177,6 +197,10 @@ rises-on_the_right : (lo hi : ℕ) (x : Process) (os : List Offered) → Rises l
 rises-on_the_right lo hi x [] h = tt
 rises-on_the_right lo hi x (o ∷ os) h = (h.0, h.1, rises-on_the_right (suc o.atom) hi x os h.2)
 
+rises-in_wait : (lo hi : ℕ) (y : Process) (os : List Offered) → Rises lo hi os → Rises lo hi (map (in_wait y) os)
+rises-in_wait lo hi y [] h = tt
+rises-in_wait lo hi y (o ∷ os) h = (h.0, h.1, rises-in_wait (suc o.atom) hi y os h.2)
+
 rises-if : (lo mid hi : ℕ) (o : Option Bool) (xs ys : List Offered) → lo ≤ mid → mid ≤ hi → Rises lo mid xs → Rises mid hi ys → Rises lo hi (offers_if o xs ys)
 rises-if lo mid hi None xs ys l m h k = tt
 rises-if lo mid hi (Some true) xs ys l m h k = rises-wider lo mid lo hi xs (omega arith) m h
@@ -207,6 +231,9 @@ offers-rise lo hi (Par x y) store h =
     rises-append lo h.0 hi (map (on_the_left y) (offers x store)) (map (on_the_right x) (offers y store)) (first-bounds lo h.0 x h.1) (first-bounds h.0 hi y h.2)
     (rises-on_the_left lo h.0 y (offers x store) (offers-rise lo h.0 x store h.1))
     (rises-on_the_right h.0 hi x (offers y store) (offers-rise h.0 hi y store h.2))
+offers-rise lo hi (Disrupt x y) store h =
+    rises-append lo h.0 hi (map (in_wait y) (offers x store)) (offers y store) (first-bounds lo h.0 x h.1) (first-bounds h.0 hi y h.2)
+    (rises-in_wait lo h.0 y (offers x store) (offers-rise lo h.0 x store h.1)) (offers-rise h.0 hi y store h.2)
 offers-rise lo hi (If test x y) store h =
     rises-if lo h.0 hi (tested store test) (offers x store) (offers y store) (first-bounds lo h.0 x h.1) (first-bounds h.0 hi y h.2)
     (offers-rise lo h.0 x store h.1) (offers-rise h.0 hi y store h.2)
@@ -279,6 +306,7 @@ layer-enters (layer.Seq x y) = λ from h. let p = all-enter (tree_atoms x.0) (tr
 layer-enters (layer.Alt x y) = λ from h. all-enter (tree_atoms x.0) (tree_atoms y.0) (fresh x.0) (fresh y.0) x.1 y.1 from h
 layer-enters (layer.Star x y) = λ from h. all-enter (tree_atoms x.0) (tree_atoms y.0) (fresh x.0) (fresh y.0) x.1 y.1 from h
 layer-enters (layer.Par x y) = λ from h. both-enter (tree_atoms x.0) (tree_atoms y.0) (fresh x.0) (fresh y.0) x.1 y.1 from h
+layer-enters (layer.Disrupt x y) = λ from h. both-enter (tree_atoms x.0) (tree_atoms y.0) (fresh x.0) (fresh y.0) x.1 y.1 from h
 layer-enters (layer.If test x None) = subst (λ (atoms : List ℕ). Enters atoms (fresh x.0)) (sym (append-nil (tree_atoms x.0))) x.1
 layer-enters (layer.If test x (Some y)) = λ from h. all-enter (tree_atoms x.0) (tree_atoms y.0) (fresh x.0) (fresh y.0) x.1 y.1 from h
 layer-enters (layer.Let settings x) = λ from h. x.1 from h

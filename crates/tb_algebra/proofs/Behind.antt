@@ -4,9 +4,9 @@ use Rattle.std.proofs.lemmas.List.Elements.{All-nil, All-cons, All-append, All-w
 use Rattle.std.specs.List.{All}
 use Rattle.tb_func.specs.declared.slot.Slot.{Slot}
 use Rattle.tb_body.specs.declared.tree.Tree.{Tree}
-use Rattle.tb_algebra.specs.Processes.{Process, At, Seq, Alt, Star, Par, If, When, Let, fresh, aged}
+use Rattle.tb_algebra.specs.Processes.{Process, At, Seq, Alt, Star, Par, Disrupt, If, When, Let, fresh, aged}
 use Rattle.tb_algebra.specs.Settings.{tested, with_settings}
-use Rattle.tb_algebra.specs.Offers.{Offered, followed, left_of, right_of, before, on_the_left, on_the_right, offers}
+use Rattle.tb_algebra.specs.Offers.{until, in_wait, Offered, followed, left_of, right_of, before, on_the_left, on_the_right, offers}
 use Rattle.tb_algebra.specs.Reached.{Reaches, entered, went_on, grew_older, IsNew, IsNewBehind}
 use Rattle.tb_algebra.proofs.Ages.{fresh-new, left-is}
 use Rattle.tb_algebra.proofs.Offering.{if-all, after-all}
@@ -17,6 +17,7 @@ new-behind (Seq x y) h = (new-behind x h.0, h.1)
 new-behind (Alt x y) h = (new-behind x h.0, new-behind y h.1)
 new-behind (Star x y) h = h
 new-behind (Par x y) h = (new-behind x h.0, new-behind y h.1)
+new-behind (Disrupt x y) h = (new-behind x h.0, new-behind y h.1)
 new-behind (If test x y) h = (new-behind x h.0, new-behind y h.1)
 new-behind (When test x) h = new-behind x h
 new-behind (Let settings x) h = new-behind x h
@@ -27,6 +28,7 @@ behind-aged (Seq x y) h = (behind-aged x h.0, h.1)
 behind-aged (Alt x y) h = (behind-aged x h.0, behind-aged y h.1)
 behind-aged (Star x y) h = ((behind-aged x (new-behind x h.0), h), behind-aged y (new-behind y h.1))
 behind-aged (Par x y) h = (behind-aged x h.0, behind-aged y h.1)
+behind-aged (Disrupt x y) h = (behind-aged x h.0, behind-aged y h.1)
 behind-aged (If test x y) h = (behind-aged x h.0, behind-aged y h.1)
 behind-aged (When test x) h = behind-aged x h
 behind-aged (Let settings x) h = behind-aged x h
@@ -48,6 +50,10 @@ right_of-new : (x : Process) (r : Option Process) → IsNewBehind x → IfSome r
 right_of-new x None h k = h
 right_of-new x (Some y) h k = (h, k)
 
+until-new : (y : Process) (r : Option Process) → IsNewBehind y → IfSome r IsNewBehind → IfSome (until y r) IsNewBehind
+until-new y None h k = tt
+until-new y (Some x) h k = (k, h)
+
 before-new : (y : Process) (os : List Offered) → IsNew y → All LeavesNew os → All LeavesNew (map (before y) os)
 before-new y os k h = All-map LeavesNew (before y) os (All-weaker LeavesNew (λ o. LeavesNew (before y o)) (λ o g. followed-new o.residual y g k) os h)
 
@@ -56,6 +62,9 @@ on_the_left-new y os k h = All-map LeavesNew (on_the_left y) os (All-weaker Leav
 
 on_the_right-new : (x : Process) (os : List Offered) → IsNewBehind x → All LeavesNew os → All LeavesNew (map (on_the_right x) os)
 on_the_right-new x os k h = All-map LeavesNew (on_the_right x) os (All-weaker LeavesNew (λ o. LeavesNew (on_the_right x o)) (λ o g. right_of-new x o.residual k g) os h)
+
+in_wait-new : (y : Process) (os : List Offered) → IsNewBehind y → All LeavesNew os → All LeavesNew (map (in_wait y) os)
+in_wait-new y os k h = All-map LeavesNew (in_wait y) os (All-weaker LeavesNew (λ o. LeavesNew (in_wait y o)) (λ o g. until-new y o.residual k g) os h)
 
 pub offers-leave_new : (term : Process) (store : List Slot) → IsNewBehind term → All (λ offered. IfSome offered.residual IsNewBehind) (offers term store)
 offers-leave_new (At atom age) store h = All-cons LeavesNew _ [] tt (All-nil LeavesNew)
@@ -68,6 +77,9 @@ offers-leave_new (Par x y) store h =
     All-append LeavesNew (map (on_the_left y) (offers x store)) (map (on_the_right x) (offers y store))
     (on_the_left-new y (offers x store) h.1 (offers-leave_new x store h.0))
     (on_the_right-new x (offers y store) h.0 (offers-leave_new y store h.1))
+offers-leave_new (Disrupt x y) store h =
+    All-append LeavesNew (map (in_wait y) (offers x store)) (offers y store)
+    (in_wait-new y (offers x store) h.1 (offers-leave_new x store h.0)) (offers-leave_new y store h.1)
 offers-leave_new (If test x y) store h = if-all LeavesNew (tested store test) (offers x store) (offers y store) (offers-leave_new x store h.0) (offers-leave_new y store h.1)
 offers-leave_new (When test x) store h = if-all LeavesNew (tested store test) (offers x store) [] (offers-leave_new x store h) (All-nil LeavesNew)
 offers-leave_new (Let settings x) store h = after-all LeavesNew (with_settings store settings) (offers x) (let-leaves (with_settings store settings) (λ s. offers-leave_new x s h)) where

@@ -6,14 +6,14 @@ use Rattle.tb_body.specs.declared.tree.Setting.{Setting}
 use Rattle.tb_body.specs.declared.tree.Tree.{Tree, Tree-F, map-Tree, fold_out-Tree, out-Tree}
 use Rattle.tb_body.specs.declared.tree.Tree.TheOpen as layer
 use Rattle.tb_body.specs.declared.tree.Tree.TheVariants as tree
-use Rattle.tb_body.specs.declared.tree.Tree.TheVariants.{outs-At, outs-Seq, outs-Alt, outs-Star, outs-Par, outs-If, outs-Let}
+use Rattle.tb_body.specs.declared.tree.Tree.TheVariants.{outs-At, outs-Seq, outs-Alt, outs-Star, outs-Par, outs-Disrupt, outs-If, outs-Let}
 use Rattle.tb_algebra.specs.Processes as process
 use Rattle.tb_algebra.specs.Processes.{Process, fresh, fresh_step, aged}
 use Rattle.tb_algebra.specs.Offers.{offers, before}
 use Rattle.tb_algebra.specs.Helpers.Plans.{built, trees, tree_at, process_at, AreBehind}
 use Rattle.tb_algebra.specs.Helpers.Runnings.{waited, entered_term}
 use Rattle.tb_algebra.specs.declared.node.Node.{Node}
-use Rattle.tb_algebra.specs.declared.node.Node.TheVariants.{At, Seq, Alt, Star, Par, If, Let}
+use Rattle.tb_algebra.specs.declared.node.Node.TheVariants.{At, Seq, Alt, Star, Par, Disrupt, If, Let}
 use Rattle.tb_algebra.specs.declared.running.Entry.{Entry}
 use Rattle.tb_algebra.proofs.PlanLemmas.{tree_at-node}
 
@@ -36,6 +36,9 @@ fresh-Star x y = opened (tree.Star x y) (layer.Star x y) (outs-Star x y)
 
 pub fresh-Par : (x y : Tree) → fresh (tree.Par x y) ≡ process.Par (fresh x) (fresh y)
 fresh-Par x y = opened (tree.Par x y) (layer.Par x y) (outs-Par x y)
+
+pub fresh-Disrupt : (x y : Tree) → fresh (tree.Disrupt x y) ≡ process.Disrupt (fresh x) (fresh y)
+fresh-Disrupt x y = opened (tree.Disrupt x y) (layer.Disrupt x y) (outs-Disrupt x y)
 
 pub fresh-When : (test : Expr) (x : Tree) → fresh (tree.If test x None) ≡ process.When test (fresh x)
 fresh-When test x = opened (tree.If test x None) (layer.If test x None) (outs-If test x None)
@@ -65,6 +68,10 @@ waited-Alt (suc n) x y = ap aged (waited-Alt n x y)
 pub waited-Par : (n : ℕ) (x y : Process) → waited n (process.Par x y) ≡ process.Par (waited n x) (waited n y)
 waited-Par zero x y = refl
 waited-Par (suc n) x y = ap aged (waited-Par n x y)
+
+pub waited-Disrupt : (n : ℕ) (x y : Process) → waited n (process.Disrupt x y) ≡ process.Disrupt (waited n x) (waited n y)
+waited-Disrupt zero x y = refl
+waited-Disrupt (suc n) x y = ap aged (waited-Disrupt n x y)
 
 pub waited-When : (n : ℕ) (test : Expr) (x : Process) → waited n (process.When test x) ≡ process.When test (waited n x)
 waited-When zero test x = refl
@@ -124,6 +131,12 @@ module _ (nodes : List Node) (ticks : ℕ) (entry : Entry) (all : AreBehind node
   entered-Par x y e =
       ap (waited age) (node-built nodes entry.node (Par x y) all e ∙ fresh-Par (tree_at nodes x) (tree_at nodes y))
       ∙ waited-Par age (fresh (tree_at nodes x)) (fresh (tree_at nodes y))
+
+  pub entered-Disrupt : (x y : ℕ) → here (Disrupt x y) → entered_term nodes ticks entry ≡ process.Disrupt (entered_term nodes ticks (part entry x)) (entered_term nodes ticks (part entry y))
+  unfolding entered_term process_at
+  entered-Disrupt x y e =
+      ap (waited age) (node-built nodes entry.node (Disrupt x y) all e ∙ fresh-Disrupt (tree_at nodes x) (tree_at nodes y))
+      ∙ waited-Disrupt age (fresh (tree_at nodes x)) (fresh (tree_at nodes y))
 
   pub entered-When : (test : Expr) (x : ℕ) → here (If test x None) → entered_term nodes ticks entry ≡ process.When test (entered_term nodes ticks (part entry x))
   unfolding entered_term process_at

@@ -17,3 +17,4 @@ pub mod TermLemmas
 pub mod WalkerLemmas
 pub mod TickLemmas
 pub mod SendLemmas
+pub mod TransferLaws

@@ -8,16 +8,16 @@ use Rattle.tb_body.specs.declared.tree.Setting.{Setting}
 use Rattle.tb_algebra.specs.Atoms.{is_ready, times_of}
 use Rattle.tb_algebra.specs.Processes as process
 use Rattle.tb_algebra.specs.Processes.{Process}
-use Rattle.tb_algebra.specs.Offers.{Offered, offers, before, on_the_left, on_the_right, offers_if, offers_after}
+use Rattle.tb_algebra.specs.Offers.{in_wait, Offered, offers, before, on_the_left, on_the_right, offers_if, offers_after}
 use Rattle.tb_algebra.specs.Helpers.Plans.{process_at, AreBehind}
 use Rattle.tb_algebra.specs.Helpers.Runnings.{entered_term}
 use Rattle.tb_algebra.specs.Settings.{tested, with_settings}
 use Rattle.tb_algebra.specs.Helpers.OfferViews.{OfferView, offer_view, offer_views}
 use Rattle.tb_algebra.specs.declared.node.Node.{Node}
-use Rattle.tb_algebra.specs.declared.node.Node.TheVariants.{At, Seq, Alt, Star, Par, If, Let}
+use Rattle.tb_algebra.specs.declared.node.Node.TheVariants.{At, Seq, Alt, Star, Par, Disrupt, If, Let}
 use Rattle.tb_algebra.specs.declared.running.Entry.{Entry}
 use Rattle.tb_algebra.proofs.PlanLemmas.{IsTwoSided}
-use Rattle.tb_algebra.proofs.EntryLemmas.{part, entered-At, entered-Seq, entered-Alt, entered-Star, entered-Par, entered-When, entered-If, entered-Let}
+use Rattle.tb_algebra.proofs.EntryLemmas.{part, entered-At, entered-Seq, entered-Alt, entered-Star, entered-Par, entered-Disrupt, entered-When, entered-If, entered-Let}
 
 module _ (atoms : List Atom) (now : ℕ) where
   abbrev seen : List Offered → List OfferView
@@ -35,6 +35,10 @@ module _ (atoms : List Atom) (now : ℕ) where
   seen-right : (x : Process) (os : List Offered) → seen (map (on_the_right x) os) ≡ seen os
   seen-right x [] = refl
   seen-right x (o ∷ os) = ap (λ rest. offer_view atoms now o ∷ rest) (seen-right x os)
+
+  seen-wait : (y : Process) (os : List Offered) → seen (map (in_wait y) os) ≡ seen os
+  seen-wait y [] = refl
+  seen-wait y (o ∷ os) = ap (λ rest. offer_view atoms now o ∷ rest) (seen-wait y os)
 
   seen-append : (xs ys : List Offered) → seen (xs ++ ys) ≡ seen xs ++ seen ys
   seen-append [] ys = refl
@@ -54,6 +58,11 @@ module _ (atoms : List Atom) (now : ℕ) where
       seen-append (map (on_the_left y) (offers x store)) (map (on_the_right x) (offers y store))
       ∙ ap (λ (first : List OfferView). first ++ seen (map (on_the_right x) (offers y store))) (seen-left y (offers x store))
       ∙ ap (λ (second : List OfferView). seen (offers x store) ++ second) (seen-right x (offers y store))
+
+  pub offer_views-Disrupt : (x y : Process) (store : List Slot) → offer_views atoms now (process.Disrupt x y) store ≡ offer_views atoms now x store ++ offer_views atoms now y store
+  unfolding offer_views
+  offer_views-Disrupt x y store =
+      seen-append (map (in_wait y) (offers x store)) (offers y store) ∙ ap (λ (first : List OfferView). first ++ seen (offers y store)) (seen-wait y (offers x store))
 
   module _ (nodes : List Node) (ticks : ℕ) (entry : Entry) (all : AreBehind nodes) where
     abbrev of_entry : Entry → List Slot → List OfferView
@@ -90,6 +99,11 @@ module _ (atoms : List Atom) (now : ℕ) where
     offer_views_par x y store e =
         ap (λ (p : Process). offer_views atoms now p store) (entered-Par nodes ticks entry all x y e)
         ∙ offer_views-Par (entered_term nodes ticks (part entry x)) (entered_term nodes ticks (part entry y)) store
+
+    pub offer_views_disrupt : (x y : ℕ) (store : List Slot) → here (Disrupt x y) → of_entry entry store ≡ of_entry (part entry x) store ++ of_entry (part entry y) store
+    offer_views_disrupt x y store e =
+        ap (λ (p : Process). offer_views atoms now p store) (entered-Disrupt nodes ticks entry all x y e)
+        ∙ offer_views-Disrupt (entered_term nodes ticks (part entry x)) (entered_term nodes ticks (part entry y)) store
 
     abbrev if_offer_views : Option Bool → List OfferView → List OfferView → List OfferView
     if_offer_views (Some true) first second = first
@@ -153,7 +167,8 @@ module _ (atoms : List Atom) (now : ℕ) where
     pub offer_views_sides : (node : Node) (x y : ℕ) (store : List Slot) → here node → IsTwoSided node x y → of_entry entry store ≡ of_entry (part entry x) store ++ of_entry (part entry y) store
     offer_views_sides node x y store e (inl k) = offer_views_alt x y store (e ∙ ap Some k)
     offer_views_sides node x y store e (inr (inl k)) = offer_views_star x y store (e ∙ ap Some k)
-    offer_views_sides node x y store e (inr (inr k)) = offer_views_par x y store (e ∙ ap Some k)
+    offer_views_sides node x y store e (inr (inr (inl k))) = offer_views_par x y store (e ∙ ap Some k)
+    offer_views_sides node x y store e (inr (inr (inr k))) = offer_views_disrupt x y store (e ∙ ap Some k)
 
 pub nothing_more : (xs ys : List OfferView) → ys ≡ [] → xs ≡ xs ++ ys
 nothing_more xs ys e = sym (append-nil xs) ∙ ap (λ (l : List OfferView). xs ++ l) (sym e)

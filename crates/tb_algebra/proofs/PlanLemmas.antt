@@ -9,7 +9,7 @@ use Rattle.tb_terms.specs.declared.expr.Expr.{Expr}
 use Rattle.tb_body.specs.declared.tree.Tree.{Tree}
 use Rattle.tb_body.specs.declared.tree.Tree.TheVariants as tree
 use Rattle.tb_algebra.specs.declared.node.Node.{Node}
-use Rattle.tb_algebra.specs.declared.node.Node.TheVariants.{At, Seq, Alt, Star, Par, If, Let}
+use Rattle.tb_algebra.specs.declared.node.Node.TheVariants.{At, Seq, Alt, Star, Par, Disrupt, If, Let}
 use Rattle.tb_algebra.specs.Helpers.Selections.{chosen}
 use Rattle.tb_algebra.specs.Helpers.Plans.{made_at, built, with_node, trees, tree_at, is_behind, AreBehind, HasAdded}
 
@@ -84,6 +84,7 @@ built-agree a b bound (Seq x y) agree h = both_agree (λ s t. tree.Seq s t) a b 
 built-agree a b bound (Alt x y) agree h = both_agree (λ s t. tree.Alt s t) a b bound x y agree h
 built-agree a b bound (Star x y) agree h = both_agree (λ s t. tree.Star s t) a b bound x y agree h
 built-agree a b bound (Par x y) agree h = both_agree (λ s t. tree.Par s t) a b bound x y agree h
+built-agree a b bound (Disrupt x y) agree h = both_agree (λ s t. tree.Disrupt s t) a b bound x y agree h
 built-agree a b bound (If test x None) agree h = ap (λ (t : Tree). tree.If test t None) (agree x (ltb-true x bound h))
 built-agree a b bound (If test x (Some y)) agree h = both_agree (λ s t. tree.If test s (Some t)) a b bound x y agree h
 built-agree a b bound (Let settings x) agree h = ap (λ (t : Tree). tree.Let settings t) (agree x (ltb-true x bound h))
@@ -134,9 +135,10 @@ chosen_before None test x y at h = tt
 
 -- a choice, a star or a merge
 abbrev pub IsTwoSided : Node → ℕ → ℕ → Type 0
-IsTwoSided node x y = (node ≡ Alt x y) ⊎ ((node ≡ Star x y) ⊎ (node ≡ Par x y))
+IsTwoSided node x y = (node ≡ Alt x y) ⊎ ((node ≡ Star x y) ⊎ ((node ≡ Par x y) ⊎ (node ≡ Disrupt x y)))
 
 pub sides_before : (node : Node) (x y at : ℕ) → IsTwoSided node x y → is_behind at node ≡ true → (x < at) × (y < at)
 sides_before node x y at (inl e) h = both_before x y at (subst (λ (n : Node). is_behind at n ≡ true) e h)
 sides_before node x y at (inr (inl e)) h = both_before x y at (subst (λ (n : Node). is_behind at n ≡ true) e h)
-sides_before node x y at (inr (inr e)) h = both_before x y at (subst (λ (n : Node). is_behind at n ≡ true) e h)
+sides_before node x y at (inr (inr (inl e))) h = both_before x y at (subst (λ (n : Node). is_behind at n ≡ true) e h)
+sides_before node x y at (inr (inr (inr e))) h = both_before x y at (subst (λ (n : Node). is_behind at n ≡ true) e h)

@@ -1,7 +1,7 @@
 -- Worked terms, computed from the definitions alone.
 use Rattle.std.proofs.Common.{◌≡◌, ℕ, pos, negsuc, Bool, true, false, ◌&&◌, List, [], ◌∷◌, map, Option, Some, None, option_map, option_and_then, slice_get, refl}
 use Rattle.tb_body.specs.declared.atom.TimeKind.TheVariants.{Delay, Timeout, AbsDelay, AbsTimeout}
-use Rattle.tb_algebra.specs.Processes.{Process, At, Seq, Alt, Star, Par, aged}
+use Rattle.tb_algebra.specs.Processes.{Process, At, Seq, Alt, Star, Par, Disrupt, aged}
 use Rattle.tb_algebra.specs.Offers.{Offered, offers}
 use Rattle.tb_algebra.specs.Atoms.{holds_for}
 use Rattle.tb_algebra.specs.Walks.{Walking, ticked}
@@ -34,6 +34,24 @@ pub nested : offers (Par (Alt (At 1 0) (At 2 0)) (Star (Seq (At 3 0) (At 4 0)) (
     ∷ record { atom = 3; age = 0; store = []; residual = Some (Par (Alt (At 1 0) (At 2 0)) (Seq (At 4 0) (Star (Seq (At 3 0) (At 4 0)) (At 5 0)))) }
     ∷ record { atom = 5; age = 0; store = []; residual = Some (Alt (At 1 0) (At 2 0)) } ∷ []
 nested = refl
+
+-- the right side of a disrupt stays where its left side makes a step, as old as it is, and a step of its own drops the left
+pub disrupt_waits : offers (aged (Disrupt (Seq (At 1 0) (At 2 0)) (Seq (At 3 0) (At 4 0)))) [] ≡
+    record { atom = 1; age = 1; store = []; residual = Some (Disrupt (At 2 0) (Seq (At 3 1) (At 4 0))) }
+    ∷ record { atom = 3; age = 1; store = []; residual = Some (At 4 0) } ∷ []
+disrupt_waits = refl
+
+-- with its left side the disrupt has ended
+pub disrupt_ends : offers (Disrupt (At 1 0) (At 2 0)) [] ≡
+    record { atom = 1; age = 0; store = []; residual = None } ∷ record { atom = 2; age = 0; store = []; residual = None } ∷ []
+disrupt_ends = refl
+
+-- a disrupt on the left of another
+pub disrupts_within : offers (Disrupt (Disrupt (Seq (At 1 0) (At 2 0)) (Seq (At 3 0) (At 4 0))) (At 5 0)) [] ≡
+    record { atom = 1; age = 0; store = []; residual = Some (Disrupt (Disrupt (At 2 0) (Seq (At 3 0) (At 4 0))) (At 5 0)) }
+    ∷ record { atom = 3; age = 0; store = []; residual = Some (Disrupt (At 4 0) (At 5 0)) }
+    ∷ record { atom = 5; age = 0; store = []; residual = None } ∷ []
+disrupts_within = refl
 
 -- what is left where the offer at a position is taken
 abbrev pub left_at : ℕ → Process → Option Process
@@ -118,3 +136,14 @@ greatest_timeout = refl
 -- a process that has ended sees ticks too
 pub end_waits : ◌≡◌ {A = Walking} (ticked (record { term = None; store = []; ticks = 3 })) (record { term = None; store = []; ticks = 4 })
 end_waits = refl
+
+-- a disrupt over three ticks, whose left side makes a step after the first: the right side has waited for all three
+pub disrupt_continues : option_map (λ left. ages_of (aged (aged left))) (left_at 0 (aged (Disrupt (Seq (At 1 0) (At 2 0)) (At 3 0)))) ≡ Some (2 ∷ 3 ∷ [])
+disrupt_continues = refl
+
+-- where a disrupt ends, what follows it in a sequence or a star is entered
+pub disrupt_then : left_at 0 (Seq (Disrupt (At 1 0) (At 2 0)) (At 3 0)) ≡ Some (At 3 0)
+disrupt_then = refl
+
+pub disrupt_turns : left_at 1 (aged (Star (Disrupt (At 1 0) (At 2 0)) (At 3 0))) ≡ Some (Star (Disrupt (At 1 0) (At 2 0)) (At 3 0))
+disrupt_turns = refl

@@ -6,14 +6,14 @@ use Rattle.tb_body.specs.declared.tree.Setting.{Setting}
 use Rattle.tb_algebra.specs.Helpers.Selections.{Selected, Past, On, chosen, selected, selected_at, selected_with, or_past}
 use Rattle.tb_algebra.specs.Processes as process
 use Rattle.tb_algebra.specs.Processes.{Process}
-use Rattle.tb_algebra.specs.Offers.{Offered, offers, before, on_the_left, on_the_right, offers_if, offers_after, followed, left_of, right_of}
+use Rattle.tb_algebra.specs.Offers.{until, in_wait, Offered, offers, before, on_the_left, on_the_right, offers_if, offers_after, followed, left_of, right_of}
 use Rattle.tb_algebra.specs.Helpers.Plans.{process_at, AreBehind}
 use Rattle.tb_algebra.specs.Helpers.Runnings.{entered_term}
 use Rattle.tb_algebra.specs.Settings.{tested, with_settings}
 use Rattle.tb_algebra.specs.declared.node.Node.{Node}
-use Rattle.tb_algebra.specs.declared.node.Node.TheVariants.{At, Seq, Alt, Star, Par, If, Let}
+use Rattle.tb_algebra.specs.declared.node.Node.TheVariants.{At, Seq, Alt, Star, Par, Disrupt, If, Let}
 use Rattle.tb_algebra.specs.declared.running.Entry.{Entry}
-use Rattle.tb_algebra.proofs.EntryLemmas.{part, entered-At, entered-Seq, entered-Alt, entered-Star, entered-Par, entered-When, entered-If, entered-Let}
+use Rattle.tb_algebra.proofs.EntryLemmas.{part, entered-At, entered-Seq, entered-Alt, entered-Star, entered-Par, entered-Disrupt, entered-When, entered-If, entered-Let}
 
 pub at-append : (k : ℕ) (xs ys : List Offered) → selected_at k (xs ++ ys) ≡ or_past (selected_at k xs) (λ rest. selected_at rest ys)
 at-append k [] ys = refl
@@ -39,6 +39,9 @@ beside y left = Some (left_of left y)
 abbrev pub along : Process → Option Process → Option Process
 along x right = Some (right_of x right)
 
+abbrev pub held : Process → Option Process → Option Process
+held y left = until y left
+
 pub selected-Seq : (x y : Process) (store : List Slot) (k : ℕ) → selected (process.Seq x y) store k ≡ selected_with (then y) (selected x store k)
 unfolding selected
 selected-Seq x y store k = at-map (then y) k (offers x store)
@@ -53,6 +56,12 @@ selected-Par x y store k =
     second : (h : Selected) → or_past h (λ rest. selected_at rest (map (on_the_right x) (offers y store))) ≡ or_past h (λ rest. selected_with (along x) (selected_at rest (offers y store)))
     second (Past rest) = at-map (along x) rest (offers y store)
     second (On left own) = refl
+
+pub selected-Disrupt : (x y : Process) (store : List Slot) (k : ℕ) → selected (process.Disrupt x y) store k ≡ or_past (selected_with (held y) (selected x store k)) (λ rest. selected y store rest)
+unfolding selected
+selected-Disrupt x y store k =
+    at-append k (map (in_wait y) (offers x store)) (offers y store)
+    ∙ ap (λ (h : Selected). or_past h (λ rest. selected_at rest (offers y store))) (at-map (held y) k (offers x store))
 
 module _ (nodes : List Node) (ticks : ℕ) (entry : Entry) (all : AreBehind nodes) where
   abbrev of_entry : Entry → List Slot → ℕ → Selected
@@ -89,6 +98,11 @@ module _ (nodes : List Node) (ticks : ℕ) (entry : Entry) (all : AreBehind node
   hit_par x y store k e =
       ap (λ (p : Process). selected p store k) (entered-Par nodes ticks entry all x y e)
       ∙ selected-Par (entered_term nodes ticks (part entry x)) (entered_term nodes ticks (part entry y)) store k
+
+  pub hit_disrupt : (x y : ℕ) (store : List Slot) (k : ℕ) → here (Disrupt x y) → of_entry entry store k ≡ or_past (selected_with (held (entered_term nodes ticks (part entry y))) (of_entry (part entry x) store k)) (λ rest. of_entry (part entry y) store rest)
+  hit_disrupt x y store k e =
+      ap (λ (p : Process). selected p store k) (entered-Disrupt nodes ticks entry all x y e)
+      ∙ selected-Disrupt (entered_term nodes ticks (part entry x)) (entered_term nodes ticks (part entry y)) store k
 
   pub hit_true : (test : Expr) (x : ℕ) (y : Option ℕ) (store : List Slot) (k : ℕ) → here (If test x y) → tested store test ≡ Some true → of_entry entry store k ≡ of_entry (part entry x) store k
   unfolding selected

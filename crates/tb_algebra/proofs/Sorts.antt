@@ -14,8 +14,8 @@ use Rattle.tb_match.specs.declared.bind.Bind.{Bind}
 use Rattle.tb_body.specs.declared.tree.Setting.{Setting}
 use Rattle.tb_algebra.specs.Binds.{with_binds, has_slot_sort, takes_bind, takes_binds}
 use Rattle.tb_algebra.specs.Settings.{well_sorted, start_value, given_by, with_settings, tested}
-use Rattle.tb_algebra.specs.Processes.{Process, At, Seq, Alt, Star, Par, If, When, Let}
-use Rattle.tb_algebra.specs.Offers.{Offered, before, on_the_left, on_the_right, offers}
+use Rattle.tb_algebra.specs.Processes.{Process, At, Seq, Alt, Star, Par, Disrupt, If, When, Let}
+use Rattle.tb_algebra.specs.Offers.{in_wait, Offered, before, on_the_left, on_the_right, offers}
 use Rattle.tb_algebra.specs.Walks.{Walking, offers_of, offers_of_term, fired, sorts_of}
 use Rattle.tb_algebra.proofs.Offering.{if-all, after-all, contains-at}
 
@@ -136,6 +136,9 @@ offers-keep (Par x y) store =
     All-append (KeepsIn store) (map (on_the_left y) (offers x store)) (map (on_the_right x) (offers y store))
     (All-map (KeepsIn store) (on_the_left y) (offers x store) (offers-keep x store))
     (All-map (KeepsIn store) (on_the_right x) (offers y store) (offers-keep y store))
+offers-keep (Disrupt x y) store =
+    All-append (KeepsIn store) (map (in_wait y) (offers x store)) (offers y store)
+    (All-map (KeepsIn store) (in_wait y) (offers x store) (offers-keep x store)) (offers-keep y store)
 offers-keep (If test x y) store = if-all (KeepsIn store) (tested store test) (offers x store) (offers y store) (offers-keep x store) (offers-keep y store)
 offers-keep (When test x) store = if-all (KeepsIn store) (tested store test) (offers x store) [] (offers-keep x store) (All-nil (KeepsIn store))
 offers-keep (Let settings x) store = after-all (KeepsIn store) (with_settings store settings) (offers x) (let-keep store (with_settings store settings) (offers x) (settings-keep store settings) (offers-keep x))

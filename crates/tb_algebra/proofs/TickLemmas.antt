@@ -47,6 +47,9 @@ module _ (nodes : List Node) (ticks later : ℕ) (le : ticks ≤ later) where
   layer-later (layer.Par x y) h =
       let parts = and_parts (is_on nodes ticks x.0) (is_on nodes ticks y.0) h in
       and_from (is_on nodes later x.0) (is_on nodes later y.0) (x.1 parts.0) (y.1 parts.1)
+  layer-later (layer.Disrupt x entry) h =
+      let parts = and_parts (is_on nodes ticks x.0) (is_entry nodes ticks entry) h in
+      and_from (is_on nodes later x.0) (is_entry nodes later entry) (x.1 parts.0) (entry-later entry parts.1)
 
   pub on-later : (r : Running) → is_on nodes ticks r ≡ true → is_on nodes later r ≡ true
   on-later = ind-Running StaysOn step where
@@ -82,6 +85,10 @@ module _ (nodes : List Node) (ticks : ℕ) where
   layer-aged (layer.Par x y) h =
       let parts = and_parts (is_on nodes ticks x.0) (is_on nodes ticks y.0) h in
       ap (λ (p : Process). process.Par p (term_of nodes (ticks + 1) y.0)) (x.1 parts.0) ∙ ap (process.Par (aged (term_of nodes ticks x.0))) (y.1 parts.1)
+  layer-aged (layer.Disrupt x entry) h =
+      let parts = and_parts (is_on nodes ticks x.0) (is_entry nodes ticks entry) h in
+      let there = and_parts (nat_lt entry.node (length nodes)) (nat_le entry.entered ticks) parts.1 in
+      ap (λ (p : Process). process.Disrupt p (entered_term nodes (ticks + 1) entry)) (x.1 parts.0) ∙ ap (process.Disrupt (aged (term_of nodes ticks x.0))) (entered-aged nodes ticks entry (leb-true entry.entered ticks there.1))
 
   pub term-aged : (r : Running) → is_on nodes ticks r ≡ true → term_of nodes (ticks + 1) r ≡ aged (term_of nodes ticks r)
   term-aged = ind-Running Ages step where

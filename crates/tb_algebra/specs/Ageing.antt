@@ -1,6 +1,6 @@
 -- How the offers of a term change in a tick: each is there still, one tick older.
 use Rattle.std.specs.Prelude.{◌≡◌, ◌+◌, List, [], ◌∷◌, Option, Some, None, ⊤}
-use Rattle.tb_algebra.specs.Processes.{Process, Seq, Par, aged}
+use Rattle.tb_algebra.specs.Processes.{Process, Seq, Par, Disrupt, aged}
 use Rattle.tb_algebra.specs.Offers.{Offered}
 
 -- What is left of a term where an offer is taken, and what is left where a tick has passed before: what is entered as
@@ -15,6 +15,8 @@ pub data IsLeftLater : Process → Process → Type 0 where
   -- it stands behind what is left, or before it
   goes_beside : {left later other : Process} → IsLeftLater left later → IsLeftLater (Par left other) (Par later (aged other))
   goes_along : {left later other : Process} → IsLeftLater left later → IsLeftLater (Par other left) (Par (aged other) later)
+  -- it is a left side, whose right side waits and ages
+  goes_until : {left later other : Process} → IsLeftLater left later → IsLeftLater (Disrupt left other) (Disrupt later (aged other))
 
 -- an offer that leaves nothing still leaves nothing
 abbrev pub LeavesLater : Option Process → Option Process → Type 0

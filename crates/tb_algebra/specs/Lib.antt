@@ -5,6 +5,7 @@ pub mod Offers
 pub mod Processes
 pub mod Reached
 pub mod Settings
+pub mod Transfers
 pub mod WalkerViews
 pub mod Walks
 pub mod Helpers

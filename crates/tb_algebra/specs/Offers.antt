@@ -1,7 +1,7 @@
 -- What a process term may do next, by one rule for each operator.
 use Rattle.std.specs.Prelude.{ℕ, Bool, true, false, List, [], ◌∷◌, ◌++◌, map, Option, Some, None}
 use Rattle.tb_func.specs.declared.slot.Slot.{Slot}
-use Rattle.tb_algebra.specs.Processes.{Process, At, Seq, Alt, Star, Par, If, When, Let}
+use Rattle.tb_algebra.specs.Processes.{Process, At, Seq, Alt, Star, Par, Disrupt, If, When, Let}
 use Rattle.tb_algebra.specs.Settings.{tested, with_settings}
 
 -- An atom that may be next: its age, the store in which it happens, and what is left of the term then.
@@ -26,6 +26,11 @@ abbrev pub right_of : Process → Option Process → Process
 right_of x None = x
 right_of x (Some y) = Par x y
 
+-- what a step of a left side leaves: its rest and the waiting right side, or nothing where the left side has ended
+abbrev pub until : Process → Option Process → Option Process
+until y None = None
+until y (Some x) = Some (Disrupt x y)
+
 abbrev pub before : Process → Offered → Offered
 before y offered = record offered { residual = Some (followed offered.residual y) }
 
@@ -34,6 +39,9 @@ on_the_left y offered = record offered { residual = Some (left_of offered.residu
 
 abbrev pub on_the_right : Process → Offered → Offered
 on_the_right x offered = record offered { residual = Some (right_of x offered.residual) }
+
+abbrev pub in_wait : Process → Offered → Offered
+in_wait y offered = record offered { residual = until y offered.residual }
 
 abbrev pub offers_if : Option Bool → List Offered → List Offered → List Offered
 offers_if (Some true) then_side else_side = then_side
@@ -56,6 +64,8 @@ offers (Alt x y) store = offers x store ++ offers y store
 offers (Star x y) store = map (before (Star x y)) (offers x store) ++ offers y store
 -- a merge offers what either term does, with the other beside it
 offers (Par x y) store = map (on_the_left y) (offers x store) ++ map (on_the_right x) (offers y store)
+-- a disrupt offers what its left side does, and the right side keeps waiting as it is; then what its right side does, and the left side is dropped
+offers (Disrupt x y) store = map (in_wait y) (offers x store) ++ offers y store
 -- a test offers one of its sides, by what it says now
 offers (If test x y) store = offers_if (tested store test) (offers x store) (offers y store)
 offers (When test x) store = offers_if (tested store test) (offers x store) []

@@ -18,6 +18,8 @@ pub data Process : Type 0 where
   Star : Process → Process → Process
   -- both, their atoms in any order
   Par : Process → Process → Process
+  -- the left side, until the right side takes a step; where the left side has ended, the whole has
+  Disrupt : Process → Process → Process
   -- the one where the test is true, and the other where it is false
   If : Expr → Process → Process → Process
   -- the one where the test is true
@@ -31,6 +33,7 @@ fresh_step (tree.Seq x y) = Seq x y
 fresh_step (tree.Alt x y) = Alt x y
 fresh_step (tree.Star x y) = Star x y
 fresh_step (tree.Par x y) = Par x y
+fresh_step (tree.Disrupt x y) = Disrupt x y
 fresh_step (tree.If test x None) = When test x
 fresh_step (tree.If test x (Some y)) = If test x y
 fresh_step (tree.Let settings x) = Let settings x
@@ -47,6 +50,7 @@ aged (Seq x y) = Seq (aged x) y
 aged (Alt x y) = Alt (aged x) (aged y)
 aged (Star x y) = Alt (Seq (aged x) (Star x y)) (aged y)
 aged (Par x y) = Par (aged x) (aged y)
+aged (Disrupt x y) = Disrupt (aged x) (aged y)
 aged (If test x y) = If test (aged x) (aged y)
 aged (When test x) = When test (aged x)
 aged (Let settings x) = Let settings (aged x)

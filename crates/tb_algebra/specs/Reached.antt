@@ -3,7 +3,7 @@ use Rattle.std.specs.Prelude.{◌≡◌, ◌≤◌, ◌+◌, ℕ, List, Some, If
 use Rattle.tb_func.specs.declared.slot.Slot.{Slot}
 use Rattle.tb_body.specs.declared.body.Body.{Body}
 use Rattle.tb_body.specs.declared.tree.Tree.{Tree}
-use Rattle.tb_algebra.specs.Processes.{Process, At, Seq, Alt, Star, Par, If, When, Let, fresh, aged}
+use Rattle.tb_algebra.specs.Processes.{Process, At, Seq, Alt, Star, Par, Disrupt, If, When, Let, fresh, aged}
 use Rattle.tb_algebra.specs.Offers.{Offered, offers}
 use Rattle.tb_algebra.specs.Walks.{Walking}
 
@@ -27,6 +27,7 @@ IsAgedUpTo ticks (Seq x y) = IsAgedUpTo ticks x × IsAgedUpTo ticks y
 IsAgedUpTo ticks (Alt x y) = IsAgedUpTo ticks x × IsAgedUpTo ticks y
 IsAgedUpTo ticks (Star x y) = IsAgedUpTo ticks x × IsAgedUpTo ticks y
 IsAgedUpTo ticks (Par x y) = IsAgedUpTo ticks x × IsAgedUpTo ticks y
+IsAgedUpTo ticks (Disrupt x y) = IsAgedUpTo ticks x × IsAgedUpTo ticks y
 IsAgedUpTo ticks (If test x y) = IsAgedUpTo ticks x × IsAgedUpTo ticks y
 IsAgedUpTo ticks (When test x) = IsAgedUpTo ticks x
 IsAgedUpTo ticks (Let settings x) = IsAgedUpTo ticks x
@@ -42,6 +43,7 @@ IsNewBehind (Seq x y) = IsNewBehind x × IsNew y
 IsNewBehind (Alt x y) = IsNewBehind x × IsNewBehind y
 IsNewBehind (Star x y) = IsNew x × IsNew y
 IsNewBehind (Par x y) = IsNewBehind x × IsNewBehind y
+IsNewBehind (Disrupt x y) = IsNewBehind x × IsNewBehind y
 IsNewBehind (If test x y) = IsNewBehind x × IsNewBehind y
 IsNewBehind (When test x) = IsNewBehind x
 IsNewBehind (Let settings x) = IsNewBehind x

@@ -3,10 +3,10 @@ ghost use Rattle.tb_func.specs.declared.slot.Slot.{Slot};
 ghost use Rattle.tb_algebra.specs.declared.node.Node.{Node as PlanNode};
 ghost use Rattle.tb_algebra.specs.declared.running.Running.TheVariants.{Whole};
 ghost use Rattle.tb_algebra.specs.Helpers.Selections.{Past, On, chosen, selected, selected_with, selected_of, is_fired_on, is_left_on};
-ghost use Rattle.tb_algebra.specs.Offers.{followed, left_of, right_of};
+ghost use Rattle.tb_algebra.specs.Offers.{followed, left_of, right_of, until};
 ghost use Rattle.tb_algebra.specs.Helpers.Plans.{process_at};
 ghost use Rattle.tb_algebra.specs.Processes.{At};
-ghost use Rattle.tb_algebra.specs.Helpers.Runnings.{entered_term, term_of, is_on};
+ghost use Rattle.tb_algebra.specs.Helpers.Runnings.{entered_term, is_entry, term_of, is_on};
 ghost use Rattle.tb_algebra.specs.Settings.{tested};
 ghost use Rattle.tb_algebra.specs.Helpers.OfferViews.{or_own};
 
@@ -35,6 +35,15 @@ impl Since {
     {
         let entered = self.entered;
         Running::Whole(Entry { node, entered })
+    }
+}
+
+impl Since {
+    fn entry(self, node: usize) -> Entry
+        ensures { result ≡ record { node = node; entered = self.entered } }
+    {
+        let entered = self.entered;
+        Entry { node, entered }
     }
 }
 
@@ -69,6 +78,14 @@ pub(crate) fn fire_term(
                 on_the_right(alloc, x.get(), fired)
             }
             Fired::Taken(left, own) => taken_beside(alloc, left, own, y.get()),
+        },
+        Running::Disrupt(x, entry) => match fire_term(alloc, plan, x.get(), ticks, store, k)? {
+            Fired::Past(rest) => {
+                let entered = entry.entered;
+                let since = Since { entered, ticks };
+                fire_node(alloc, plan, entry.node, since, store, &None, rest)
+            }
+            Fired::Taken(left, own) => taken_until(alloc, left, own, *entry),
         },
     }
 }
@@ -111,6 +128,10 @@ fn fire_node(
                 on_the_right(alloc, &since.whole(*x), fired)
             }
             Fired::Taken(left, own) => taken_beside(alloc, left, own, &since.whole(*y)),
+        },
+        Node::Disrupt(x, y) => match fire_node(alloc, plan, *x, since, base, own, k)? {
+            Fired::Past(rest) => fire_node(alloc, plan, *y, since, base, own, rest),
+            Fired::Taken(left, own) => taken_until(alloc, left, own, since.entry(*y)),
         },
         Node::If(test, x, y) => match chosen(alloc, store_of(base, own), test, *x, *y)? {
             Some(part) => fire_node(alloc, plan, part, since, base, own, k),
@@ -247,6 +268,31 @@ fn taken_beside(
 {
     let whole = left_beside(alloc, left, right)?;
     Ok(Fired::Taken(Some(whole), own))
+}
+
+/// What is left of a left side whose offer was taken, while its right side waits; nothing where it has ended.
+fn taken_until(
+    alloc: Global,
+    left: Option<Running>,
+    own: Option<Store>,
+    entry: Entry,
+) -> Result<Fired, NoMemory>
+    ensures selected { IfOk result
+        (λ whole. (nodes : List PlanNode) → (ticks : ℕ) → (base : List Slot)
+        → selected_of nodes ticks base whole
+        ≡ On (until (entered_term nodes ticks entry) (option_map (term_of nodes ticks) left))
+        (or_own own base)) }
+    ensures on { IfOk result
+        (λ whole. (nodes : List PlanNode) → (ticks : ℕ) → IsTrue (is_entry nodes ticks entry)
+        → IsTrue (is_left_on nodes ticks left) → IsTrue (is_fired_on nodes ticks whole)) }
+{
+    match left {
+        Some(x) => {
+            let x = Boxed::new(alloc, x)?;
+            Ok(Fired::Taken(Some(Running::Disrupt(x, entry)), own))
+        }
+        None => Ok(Fired::Taken(None, own)),
+    }
 }
 
 /// The other side, beside what is left.

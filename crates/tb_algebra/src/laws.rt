@@ -1,7 +1,7 @@
 //! What holds of process terms, their offers and their stores. The calls change nothing: their
 //! contracts are the laws.
 
-ghost use Rattle.std.specs.Prelude.{◌≡◌, ◌≤◌, ℕ, List, [], Some, IsTrue, Contains, map, length, slice_get};
+ghost use Rattle.std.specs.Prelude.{◌≡◌, ◌≤◌, ◌++◌, ℕ, List, [], Some, IsTrue, Contains, map, length, slice_get};
 ghost use Rattle.std.specs.List.Sorted.{IsStrictlyIncreasing};
 ghost use Rattle.tb_terms.specs.declared.term.Term.{Term};
 ghost use Rattle.tb_terms.specs.declared.expr.Expr.{Expr};
@@ -14,9 +14,11 @@ ghost use Rattle.tb_match.specs.declared.bind.Bind.{Bind};
 ghost use Rattle.tb_algebra.specs.Binds.{takes_binds};
 ghost use Rattle.tb_algebra.specs.Ageing.{IsAged, AreAged};
 ghost use Rattle.tb_algebra.specs.Atoms.{accepted, is_ready, times_of};
-ghost use Rattle.tb_algebra.specs.Processes.{Process, aged};
-ghost use Rattle.tb_algebra.specs.Offers.{Offered, offers};
+ghost use Rattle.tb_algebra.specs.Processes.{Process, Disrupt, aged};
+ghost use Rattle.tb_algebra.specs.Offers.{Offered, in_wait, offers};
 ghost use Rattle.tb_algebra.specs.Reached.{Reaches, IsReached, IsAgedUpTo, IsNewBehind};
+ghost use Rattle.tb_algebra.specs.Transfers.{AreApart, Comes, OnlyLeft, RightWent, atoms_of};
+ghost use Rattle.tb_algebra.specs.Helpers.Runnings.{waited};
 ghost use Rattle.tb_algebra.specs.Walks.{Walking, entering, offers_of, sent_by, patterns_by, accepted_by, fired, ticked, sorts_of};
 
 /// What an atom binds where it is given terms, its store takes: each slot is there, and its value has
@@ -110,4 +112,26 @@ pub fn ageing_keeps_terms()
         → IsAged offered later → times_of atoms offered.atom ≡ []
         → is_ready later.store later.age next (times_of atoms later.atom)
         ≡ is_ready offered.store offered.age now (times_of atoms offered.atom) }
+{}
+
+/// While only the left side of a disrupt takes steps, its right side waits and ages with the whole. The whole offers
+/// what its left side has come to offers, and then what its right side offers, aged by all ticks of the whole.
+pub fn right_sides_wait()
+    ensures { (x y term : Process) (ticks : ℕ) → OnlyLeft x y ticks term
+        → (r : Process) × Comes x ticks r × (term ≡ Disrupt r (waited ticks y))
+        × ((store : List Slot) → offers term store
+        ≡ map (in_wait (waited ticks y)) (offers r store) ++ offers (waited ticks y) store) }
+{}
+
+/// Once the right side of a disrupt has taken a step, the whole is what the right side alone comes to. So each offer is
+/// of an atom of the right side, and no offer of the left side comes again.
+pub fn right_sides_are_alone()
+    ensures alone { (x y term : Process) (ticks : ℕ) → RightWent x y ticks term
+        → Comes y ticks term }
+    ensures atoms { (x y term : Process) (ticks : ℕ) (store : List Slot) (offered : Offered)
+        → RightWent x y ticks term → Contains (offers term store) offered
+        → Contains (atoms_of y) offered.atom }
+    ensures gone { (x y term : Process) (ticks : ℕ) (store : List Slot) (offered : Offered)
+        → AreApart x y → RightWent x y ticks term → Contains (offers term store) offered
+        → Contains (atoms_of x) offered.atom → ⊥ }
 {}

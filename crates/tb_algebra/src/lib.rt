@@ -19,7 +19,8 @@ mod walker;
 pub use found::{Found, copy_candidates, copy_own};
 pub use laws::{
     accepted_binds_are_taken, ageing_keeps_terms, ages_are_within_the_ticks, ages_behind_are_new,
-    offers_age, offers_ascend, offers_keep_sorts, walks_stay_reached,
+    offers_age, offers_ascend, offers_keep_sorts, right_sides_are_alone, right_sides_wait,
+    walks_stay_reached,
 };
 pub use look::store_of;
 pub use offer::Offer;

@@ -52,6 +52,16 @@ pub(crate) fn look_term(
             look_term(alloc, plan, x.get(), ticks, now, store, found)?;
             look_term(alloc, plan, y.get(), ticks, now, store, found)
         }
+        Running::Disrupt(x, entry) => {
+            look_term(alloc, plan, x.get(), ticks, now, store, found)?;
+            let entered = entry.entered;
+            let clock = Clock {
+                entered,
+                ticks,
+                now,
+            };
+            look_node(alloc, plan, entry.node, clock, store, &None, found)
+        }
     }
 }
 
@@ -75,7 +85,7 @@ fn look_node(
     match plan.node(node) {
         Node::At(atom) => look_atom(alloc, plan, *atom, clock, base, own, found),
         Node::Seq(x, _) => look_node(alloc, plan, *x, clock, base, own, found),
-        Node::Alt(x, y) | Node::Star(x, y) | Node::Par(x, y) => {
+        Node::Alt(x, y) | Node::Star(x, y) | Node::Par(x, y) | Node::Disrupt(x, y) => {
             look_node(alloc, plan, *x, clock, base, own, found)?;
             look_node(alloc, plan, *y, clock, base, own, found)
         }

@@ -9,6 +9,7 @@ pub enum Node {
     Alt(usize, usize),
     Star(usize, usize),
     Par(usize, usize),
+    Disrupt(usize, usize),
     If(Expr, usize, Option<usize>),
     Let(Settings, usize),
 }

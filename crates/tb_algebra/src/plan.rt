@@ -75,6 +75,11 @@ fn add_tree(alloc: Global, nodes: &mut Items<Node>, tree: &Tree) -> Result<usize
             let y = add_tree(alloc, nodes, y.get())?;
             push_node(nodes, Node::Par(x, y))
         }
+        Tree::Disrupt(x, y) => {
+            let x = add_tree(alloc, nodes, x.get())?;
+            let y = add_tree(alloc, nodes, y.get())?;
+            push_node(nodes, Node::Disrupt(x, y))
+        }
         Tree::If(test, x, Some(y)) => {
             let x = add_tree(alloc, nodes, x.get())?;
             let y = add_tree(alloc, nodes, y.get())?;

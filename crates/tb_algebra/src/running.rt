@@ -19,6 +19,8 @@ pub enum Running {
     Seq(Boxed<Running>, usize),
     /// Both, their atoms in any order.
     Par(Boxed<Running>, Boxed<Running>),
+    /// The one, until this part begins, which has waited since it was entered.
+    Disrupt(Boxed<Running>, Entry),
 }
 
 impl Running {
@@ -31,6 +33,7 @@ impl Running {
             Running::Whole(entry) => Ok(Running::Whole(*entry)),
             Running::Seq(x, y) => Ok(Running::Seq(copy_part(alloc, x)?, *y)),
             Running::Par(x, y) => Ok(Running::Par(copy_part(alloc, x)?, copy_part(alloc, y)?)),
+            Running::Disrupt(x, entry) => Ok(Running::Disrupt(copy_part(alloc, x)?, *entry)),
         }
     }
 }

@@ -7,7 +7,7 @@ use Rattle.tb_body.specs.Exprs.{is_value}
 use Rattle.tb_body.specs.Acts.{is_atom_in_body}
 use Rattle.tb_body.specs.Trees.{tree_atoms, tree_levels}
 use Rattle.tb_body.specs.declared.tree.Tree.{Tree}
-use Rattle.tb_body.specs.declared.tree.Tree.TheOpen.{Tree-F, At, Seq, Alt, Star, Par, If, Let}
+use Rattle.tb_body.specs.declared.tree.Tree.TheOpen.{Tree-F, At, Seq, Alt, Star, Par, Disrupt, If, Let}
 use Rattle.tb_body.specs.declared.tree.Tree.TheFolds.{fold-Tree}
 use Rattle.tb_body.specs.declared.tree.Setting.{Setting}
 use Rattle.tb_body.specs.declared.atom.Atom.{Atom}
@@ -37,6 +37,7 @@ tree_step slots (Seq x y) = x && y
 tree_step slots (Alt x y) = x && y
 tree_step slots (Star x y) = x && y
 tree_step slots (Par x y) = x && y
+tree_step slots (Disrupt x y) = x && y
 tree_step slots (If test x y) = is_value slots test && x && is_side y
 tree_step slots (Let settings x) = list_all (is_setting_in_range slots) settings && x
 

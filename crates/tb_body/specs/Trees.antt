@@ -1,7 +1,7 @@
 -- The atoms of a tree in text order, and how many levels it has.
 use Rattle.std.specs.Prelude.{ℕ, ◌+◌, List, [], ◌∷◌, ◌++◌, max, Option, Some, None}
 use Rattle.tb_body.specs.declared.tree.Tree.{Tree}
-use Rattle.tb_body.specs.declared.tree.Tree.TheOpen.{Tree-F, At, Seq, Alt, Star, Par, If, Let}
+use Rattle.tb_body.specs.declared.tree.Tree.TheOpen.{Tree-F, At, Seq, Alt, Star, Par, Disrupt, If, Let}
 use Rattle.tb_body.specs.declared.tree.Tree.TheFolds.{fold-Tree}
 
 -- the atoms of the side that may lack
@@ -15,6 +15,7 @@ atoms_step (Seq x y) = x ++ y
 atoms_step (Alt x y) = x ++ y
 atoms_step (Star x y) = x ++ y
 atoms_step (Par x y) = x ++ y
+atoms_step (Disrupt x y) = x ++ y
 atoms_step (If test x y) = x ++ or_no_atoms y
 atoms_step (Let settings x) = x
 
@@ -33,6 +34,7 @@ levels_step (Seq x y) = 1 + max x y
 levels_step (Alt x y) = 1 + max x y
 levels_step (Star x y) = 1 + max x y
 levels_step (Par x y) = 1 + max x y
+levels_step (Disrupt x y) = 1 + max x y
 levels_step (If test x y) = 1 + max x (or_no_levels y)
 levels_step (Let settings x) = 1 + x
 

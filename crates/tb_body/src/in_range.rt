@@ -18,7 +18,11 @@ pub(crate) fn add_atoms(tree: &Tree, into: &mut Items<u32>) -> Result<(), NoMemo
 {
     match tree {
         Tree::At(atom) => Ok(into.push(*atom)?),
-        Tree::Seq(x, y) | Tree::Alt(x, y) | Tree::Star(x, y) | Tree::Par(x, y) => {
+        Tree::Seq(x, y)
+        | Tree::Alt(x, y)
+        | Tree::Star(x, y)
+        | Tree::Par(x, y)
+        | Tree::Disrupt(x, y) => {
             add_atoms(x.get(), into)?;
             add_atoms(y.get(), into)?;
             Ok(())
@@ -55,10 +59,11 @@ pub(crate) fn has_levels(tree: &Tree, most: usize) -> bool
     }
     match tree {
         Tree::At(_) => true,
-        Tree::Seq(x, y) => has_levels(x.get(), most - 1) && has_levels(y.get(), most - 1),
-        Tree::Alt(x, y) => has_levels(x.get(), most - 1) && has_levels(y.get(), most - 1),
-        Tree::Star(x, y) => has_levels(x.get(), most - 1) && has_levels(y.get(), most - 1),
-        Tree::Par(x, y) => has_levels(x.get(), most - 1) && has_levels(y.get(), most - 1),
+        Tree::Seq(x, y)
+        | Tree::Alt(x, y)
+        | Tree::Star(x, y)
+        | Tree::Par(x, y)
+        | Tree::Disrupt(x, y) => has_levels(x.get(), most - 1) && has_levels(y.get(), most - 1),
         Tree::If(_, x, Some(y)) => has_levels(x.get(), most - 1) && has_levels(y.get(), most - 1),
         Tree::If(_, x, None) => has_levels(x.get(), most - 1),
         Tree::Let(_, x) => has_levels(x.get(), most - 1),
@@ -72,10 +77,13 @@ pub(crate) fn is_tree_in_range(slots: usize, tree: &Tree) -> bool
 {
     match tree {
         Tree::At(_) => true,
-        Tree::Seq(x, y) => is_tree_in_range(slots, x.get()) && is_tree_in_range(slots, y.get()),
-        Tree::Alt(x, y) => is_tree_in_range(slots, x.get()) && is_tree_in_range(slots, y.get()),
-        Tree::Star(x, y) => is_tree_in_range(slots, x.get()) && is_tree_in_range(slots, y.get()),
-        Tree::Par(x, y) => is_tree_in_range(slots, x.get()) && is_tree_in_range(slots, y.get()),
+        Tree::Seq(x, y)
+        | Tree::Alt(x, y)
+        | Tree::Star(x, y)
+        | Tree::Par(x, y)
+        | Tree::Disrupt(x, y) => {
+            is_tree_in_range(slots, x.get()) && is_tree_in_range(slots, y.get())
+        }
         Tree::If(test, x, y) => {
             if !is_value(slots, test) || !is_tree_in_range(slots, x.get()) {
                 return false;

@@ -16,6 +16,8 @@ pub enum Tree {
     Star(Boxed<Tree>, Boxed<Tree>),
     /// Both, their atoms in any order.
     Par(Boxed<Tree>, Boxed<Tree>),
+    /// The left side, until the right side takes a step. If the left side ends, the whole ends.
+    Disrupt(Boxed<Tree>, Boxed<Tree>),
     /// The one where the test is true, and the other, where there is one, where it is false.
     If(Expr, Boxed<Tree>, Option<Boxed<Tree>>),
     /// All slots are set at once, and then comes the tree.
@@ -44,6 +46,7 @@ impl Tree {
             Tree::Alt(x, y) => Ok(Tree::Alt(copy_part(alloc, x)?, copy_part(alloc, y)?)),
             Tree::Star(x, y) => Ok(Tree::Star(copy_part(alloc, x)?, copy_part(alloc, y)?)),
             Tree::Par(x, y) => Ok(Tree::Par(copy_part(alloc, x)?, copy_part(alloc, y)?)),
+            Tree::Disrupt(x, y) => Ok(Tree::Disrupt(copy_part(alloc, x)?, copy_part(alloc, y)?)),
             Tree::If(test, x, y) => {
                 let test = test.copy(alloc)?;
                 let x = copy_part(alloc, x)?;

@@ -29,8 +29,8 @@ use Rattle.tb_match.specs.Joining.{bound, agreed, with_bind, joined, both}
 use Rattle.tb_match.specs.Matches.{Matching, match_all, match_appl, match_members, binds_if, match_step, match_term, match_list}
 use Rattle.tb_match.proofs.Grouping.{both_steps, agreed_same}
 use Rattle.tb_body.specs.declared.tree.Setting.{Setting}
-use Rattle.tb_algebra.specs.Processes.{Process, At, Seq, Alt, Star, Par, If, When, Let}
-use Rattle.tb_algebra.specs.Offers.{Offered, before, on_the_left, on_the_right, offers}
+use Rattle.tb_algebra.specs.Processes.{Process, At, Seq, Alt, Star, Par, Disrupt, If, When, Let}
+use Rattle.tb_algebra.specs.Offers.{Offered, before, on_the_left, on_the_right, in_wait, offers}
 use Rattle.tb_algebra.specs.Settings.{given_by, well_sorted, start_value, tested, with_settings}
 use Rattle.tb_algebra.specs.Binds.{with_binds}
 use Rattle.tb_algebra.proofs.Offering.{if-all, after-all}
@@ -189,6 +189,9 @@ offers-shallow (Par x y) store h =
     All-append IsShallowOffer (map (on_the_left y) (offers x store)) (map (on_the_right x) (offers y store))
     (All-map IsShallowOffer (on_the_left y) (offers x store) (offers-shallow x store h))
     (All-map IsShallowOffer (on_the_right x) (offers y store) (offers-shallow y store h))
+offers-shallow (Disrupt x y) store h =
+    All-append IsShallowOffer (map (in_wait y) (offers x store)) (offers y store)
+    (All-map IsShallowOffer (in_wait y) (offers x store) (offers-shallow x store h)) (offers-shallow y store h)
 offers-shallow (If test x y) store h = if-all IsShallowOffer (tested store test) (offers x store) (offers y store) (offers-shallow x store h) (offers-shallow y store h)
 offers-shallow (When test x) store h = if-all IsShallowOffer (tested store test) (offers x store) [] (offers-shallow x store h) (All-nil IsShallowOffer)
 offers-shallow (Let settings x) store h = after-all IsShallowOffer (with_settings store settings) (offers x) (let-shallow (with_settings store settings) (offers x) (settings-shallow store settings h) (offers-shallow x))

@@ -6,7 +6,7 @@ use tb_code::{Behind, Code, Entry, Node, Op, Span, What, compile};
 use tb_terms::NoMemory;
 
 /// A body, and what stands at each position, with its frame.
-static ROWS: [(&str, &str); 11] = [
+static ROWS: [(&str, &str); 13] = [
     ("tau", "1,"),
     ("tau . tau", "seq 2, 1 in 0, 2,"),
     ("tau + tau", "alt 2, 1, 2,"),
@@ -33,6 +33,11 @@ static ROWS: [(&str, &str); 11] = [
         "(let Z : int in tau . tau endlet) . tau",
         "seq 5, let in 0, seq 4 in 0, 1 in 2, 2 in 0, 3,",
     ),
+    ("tau >> tau", "disrupt 2, 1 in 0, waits 0, 2,"),
+    (
+        "(tau . tau >> tau) * tau",
+        "star 7, disrupt 5 in 0, seq 4 in 1, 1 in 2, 2 in 1, waits 1 in 0, 3 in 0, 4,",
+    ),
 ];
 
 fn op_text(alloc: Global, op: &Op) -> Result<String, NoMemory> {
@@ -42,6 +47,8 @@ fn op_text(alloc: Global, op: &Op) -> Result<String, NoMemory> {
         Op::Alt(right) => Ok(format!(in alloc; "alt {right}")?),
         Op::Star(right) => Ok(format!(in alloc; "star {right}")?),
         Op::Par(right) => Ok(format!(in alloc; "par {right}")?),
+        Op::Disrupt(waits) => Ok(format!(in alloc; "disrupt {waits}")?),
+        Op::Waits(at) => Ok(format!(in alloc; "waits {at}")?),
         Op::If(_, right) => Ok(format!(in alloc; "if {right}")?),
         Op::When(_) => Ok(String::from_str(alloc, "when")?),
         Op::Let(_) => Ok(String::from_str(alloc, "let")?),
@@ -93,8 +100,8 @@ fn positions_are_numbered_in_text_order(rt: HostRuntime) -> Result<(), Fail> {
 
 /// A body, and the list of each position: each atom's number and where it stands, with a bang where it has times, and a question
 /// mark where a test or settings stand. Behind it is the position that is entered where the atom happens, and behind a
-/// question mark where the part ends at which it stands; a bar where a merge is parted then, and nothing where the part has ended.
-static LISTS: [(&str, &str); 7] = [
+/// question mark where the part ends at which it stands; a bar where the part is parted then, and nothing where it has ended.
+static LISTS: [(&str, &str); 9] = [
     ("tau . tau", "1@1>2; 1@1; 2@2;"),
     ("tau * tau delay(1)", "1@1>0 2@2!; 1@1; 2@2!;"),
     (
@@ -116,6 +123,11 @@ static LISTS: [(&str, &str); 7] = [
     (
         "(let Z : int in tau . tau endlet) . tau",
         "?1>5; ?1; 1@3>4; 1@3; 2@4; 3@5;",
+    ),
+    ("tau >> tau", "1@1| 2@3; 1@1; 2@3|; 2@3;"),
+    (
+        "(tau . tau >> tau) * tau",
+        "1@3| 3@6>0 4@7; 1@3| 3@6; 1@3>4; 1@3; 2@4; 3@6|; 3@6; 4@7;",
     ),
 ];
 

@@ -1,21 +1,22 @@
 -- What spans have of all entries, and which lists parts have.
-use Rattle.std.proofs.Common.{◌≡◌, ℕ, zero, suc, ◌+◌, ◌<◌, ◌≤◌, List, [], ◌∷◌, ◌++◌, length, map, take, drop, slice_get, slice_set, Option, Some, None, option_map, refl, ap, sym, subst, ◌∙◌, arith, ◌⊎◌, inl, inr, append_assoc, length-append}
+use Rattle.std.proofs.Common.{◌≡◌, ℕ, true, false, zero, suc, ◌+◌, ◌<◌, ◌≤◌, List, [], ◌∷◌, ◌++◌, length, map, take, drop, slice_get, slice_set, Option, Some, None, option_map, refl, ap, sym, subst, ◌∙◌, arith, ◌⊎◌, inl, inr, append_assoc, length-append}
 use Rattle.std.proofs.lemmas.List.{append-nil, drop-append-le, drop_at, length-drop, length-take-le, take-append-le, take_all}
 use Rattle.std.proofs.lemmas.Option.{slice_get-map}
 use Rattle.tb_terms.specs.declared.expr.Expr.{Expr}
 use Rattle.tb_body.specs.declared.atom.Atom.{Atom}
 use Rattle.tb_body.specs.declared.tree.Setting.{Setting}
-use Rattle.tb_algebra.specs.Processes.{Process, At, Seq, Alt, Star, Par, If, When, Let}
-use Rattle.tb_code.specs.Entries.{AreLists, Grows, HasList, all_led, entries_of, entry, followed, gate, in_span, led}
+use Rattle.tb_algebra.specs.Processes.{Process, At, Seq, Alt, Star, Par, Disrupt, If, When, Let}
+use Rattle.tb_code.specs.Entries.{AreLists, Grows, HasList, all_led, entries_of, entry, followed, gate, in_span, led, list_of, outset}
 use Rattle.tb_code.specs.Helpers.Blanks.{blank}
-use Rattle.tb_code.specs.Positions.{HasParts, IsOne, IsTwo, part, positions, size}
+use Rattle.tb_code.specs.Positions.{Begins, HasParts, IsOne, IsTwo, IsUntil, IsWait, is_wait, op_at, part, positions, root, size}
 use Rattle.tb_code.specs.declared.behind.Behind.{Behind}
 use Rattle.tb_code.specs.declared.behind.Behind.TheVariants as behind
 use Rattle.tb_code.specs.declared.entry.Entry.{Entry}
 use Rattle.tb_code.specs.declared.entry.Span.{Span}
 use Rattle.tb_code.specs.declared.node.Node.{Node}
 use Rattle.tb_code.specs.declared.node.Op.{Op}
-use Rattle.tb_code.proofs.Parts.{has_parts, length-positions}
+use Rattle.tb_code.specs.declared.node.Op.TheVariants as op
+use Rattle.tb_code.proofs.Parts.{has_parts, length-positions, op_here, root_begins}
 
 abbrev pub span : ℕ → ℕ → Span
 span first count = record { first = first; count = count }
@@ -109,6 +110,26 @@ both_have old middle new x y a b count one other em en ec sx sy hx hy =
     let lists : all_led a one ++ all_led b other ≡ xs ++ ys = ap (λ (o : List Entry). all_led a o ++ all_led b other) (hx.1 sx) ∙ ap (λ (o : List Entry). xs ++ all_led b o) (hy.1 sy) in
     (omega arith, λ some. lists ∙ sym taken)
 
+-- the list of a position at which a part begins is the part's
+
+pub outset_begins : (o : Op) → is_wait o ≡ false → outset o ≡ behind.Ended
+outset_begins (op.At atom) h = refl
+outset_begins (op.Seq right) h = refl
+outset_begins (op.Alt right) h = refl
+outset_begins (op.Star right) h = refl
+outset_begins (op.Par right) h = refl
+outset_begins (op.Disrupt waits) h = refl
+outset_begins (op.Waits disrupt) h = (let t : true ≡ false = h in cc)
+outset_begins (op.If test right) h = refl
+outset_begins (op.When test) h = refl
+outset_begins (op.Let settings) h = refl
+
+pub list_begins : (atoms : List Atom) (whole : Process) (at : ℕ) → Begins whole at → list_of atoms whole at ≡ entries_of atoms at (part whole at)
+list_begins atoms whole at h =
+    ap (λ (b : Behind). all_led b (entries_of atoms (root (op_at whole at) at) (part whole at))) (outset_begins (op_at whole at) h)
+    ∙ ap (λ (n : ℕ). all_led behind.Ended (entries_of atoms n (part whole at))) (root_begins (op_at whole at) at h)
+    ∙ led-ended (entries_of atoms at (part whole at))
+
 -- before any list is kept
 
 from_blank : (o : Option Node) (s : Span) → option_map blank o ≡ Some s → span 0 0 ≡ s
@@ -123,9 +144,9 @@ pub blank_lists : (atoms : List Atom) (whole : Process) (all : List Entry) (node
 blank_lists atoms whole all nodes old spans long none is =
     let blanks : spans ≡ map blank nodes = is ∙ ap (λ (l : List Span). l ++ map blank nodes) none in (
       ap length blanks ∙ length-blank nodes ∙ long,
-      λ at s h. subst (λ (t : Span). HasList all t (entries_of atoms at (part whole at)))
+      λ at s h. subst (λ (t : Span). HasList all t (list_of atoms whole at))
           (from_blank (slice_get nodes at) s (sym (slice_get-map blank nodes at) ∙ ap (λ (l : List Span). slice_get l at) (sym blanks) ∙ h))
-          (none_has all (entries_of atoms at (part whole at))),
+          (none_has all (list_of atoms whole at)),
     )
 
 -- a list more
@@ -147,13 +168,13 @@ get_put (u ∷ spans) (suc at) (suc i) s t h = by_rest (get_put spans at i s t h
     by_rest (inr e) = inr e
 
 pub list_more : (atoms : List Atom) (whole : Process) (old new : List Entry) (spans later : List Span) (at : ℕ) (s : Span) →
-    AreLists atoms whole old spans → Grows old new → HasList new s (entries_of atoms at (part whole at)) → later ≡ slice_set spans at s → AreLists atoms whole new later
+    AreLists atoms whole old spans → Grows old new → HasList new s (list_of atoms whole at) → later ≡ slice_set spans at s → AreLists atoms whole new later
 list_more atoms whole old new spans later at s lists g has is =
     (ap length is ∙ length-put spans at s ∙ lists.0, λ i t h. by_place i t (get_put spans at i s t (ap (λ (l : List Span). slice_get l i) (sym is) ∙ h)))
   where
-    by_place : (i : ℕ) (t : Span) → ((i ≡ at) × (s ≡ t)) ⊎ (slice_get spans i ≡ Some t) → HasList new t (entries_of atoms i (part whole i))
-    by_place i t (inl e) = subst (λ (u : Span). HasList new u (entries_of atoms i (part whole i))) e.1 (subst (λ (n : ℕ). HasList new s (entries_of atoms n (part whole n))) (sym e.0) has)
-    by_place i t (inr h) = grown_has old new t (entries_of atoms i (part whole i)) g (lists.1 i t h)
+    by_place : (i : ℕ) (t : Span) → ((i ≡ at) × (s ≡ t)) ⊎ (slice_get spans i ≡ Some t) → HasList new t (list_of atoms whole i)
+    by_place i t (inl e) = subst (λ (u : Span). HasList new u (list_of atoms whole i)) e.1 (subst (λ (n : ℕ). HasList new s (list_of atoms whole n)) (sym e.0) has)
+    by_place i t (inr h) = grown_has old new t (list_of atoms whole i) g (lists.1 i t h)
 
 -- the parts of the operator at a position, and their lists
 
@@ -168,49 +189,78 @@ first_within atoms whole all spans make at right lists two = (let long = lists.0
 pub second_within : (atoms : List Atom) (whole : Process) (all : List Entry) (spans : List Span) (make : Process → Process → Process) (at right : ℕ) → AreLists atoms whole all spans → IsTwo whole make at right → right < length spans
 second_within atoms whole all spans make at right lists two = (let long = lists.0 in let second = two.second in omega arith)
 
--- the list of a part, by those of its parts
+-- the list of a position, by those of its parts
 
-pub list_of_atom : (atoms : List Atom) (whole : Process) (at atom age : ℕ) (e : Entry) → part whole at ≡ At atom age → e ≡ entry atoms at atom → e ∷ [] ≡ entries_of atoms at (part whole at)
-list_of_atom atoms whole at atom age e here is = ap (λ (one : Entry). one ∷ []) is ∙ sym (ap (entries_of atoms at) here)
+pub begins_at : (whole : Process) (nodes : List Node) (at : ℕ) (n : Node) (o : Op) → nodes ≡ positions whole → slice_get nodes at ≡ Some n → n.op ≡ o → is_wait o ≡ false → Begins whole at
+begins_at whole nodes at n o numbered here is begins = ap is_wait (op_here whole nodes at n numbered here ∙ is) ∙ begins
 
-pub list_of_if : (atoms : List Atom) (whole : Process) (test : Expr) (at right : ℕ) (e : Entry) → IsTwo whole (If test) at right → e ≡ gate at → e ∷ [] ≡ entries_of atoms at (part whole at)
-list_of_if atoms whole test at right e two is = ap (λ (one : Entry). one ∷ []) is ∙ sym (ap (entries_of atoms at) two.here)
+-- of a position at which a part begins with this list
+as_list : (atoms : List Atom) (whole : Process) (at : ℕ) (w : Process) (l : List Entry) → Begins whole at → part whole at ≡ w → l ≡ entries_of atoms at w → l ≡ list_of atoms whole at
+as_list atoms whole at w l begins here is = is ∙ sym (ap (entries_of atoms at) here) ∙ sym (list_begins atoms whole at begins)
 
-pub list_of_when : (atoms : List Atom) (whole : Process) (test : Expr) (at : ℕ) (e : Entry) → IsOne whole (When test) at → e ≡ gate at → e ∷ [] ≡ entries_of atoms at (part whole at)
-list_of_when atoms whole test at e one is = ap (λ (o : Entry). o ∷ []) is ∙ sym (ap (entries_of atoms at) one.here)
+pub list_of_atom : (atoms : List Atom) (whole : Process) (at atom age : ℕ) (e : Entry) → Begins whole at → part whole at ≡ At atom age → e ≡ entry atoms at atom → e ∷ [] ≡ list_of atoms whole at
+list_of_atom atoms whole at atom age e begins here is = as_list atoms whole at (At atom age) (e ∷ []) begins here (ap (λ (one : Entry). one ∷ []) is)
 
-pub list_of_let : (atoms : List Atom) (whole : Process) (settings : List Setting) (at : ℕ) (e : Entry) → IsOne whole (Let settings) at → e ≡ gate at → e ∷ [] ≡ entries_of atoms at (part whole at)
-list_of_let atoms whole settings at e one is = ap (λ (o : Entry). o ∷ []) is ∙ sym (ap (entries_of atoms at) one.here)
+pub list_of_if : (atoms : List Atom) (whole : Process) (test : Expr) (at right : ℕ) (e : Entry) → Begins whole at → IsTwo whole (If test) at right → e ≡ gate at → e ∷ [] ≡ list_of atoms whole at
+list_of_if atoms whole test at right e begins two is = as_list atoms whole at (If test (part whole (suc at)) (part whole right)) (e ∷ []) begins two.here (ap (λ (one : Entry). one ∷ []) is)
 
-pub list_of_seq : (atoms : List Atom) (whole : Process) (at right first : ℕ) → first ≡ suc at → IsTwo whole Seq at right → all_led (behind.Entered right) (entries_of atoms first (part whole first)) ≡ entries_of atoms at (part whole at)
-list_of_seq atoms whole at right first f two =
-    ap (λ (n : ℕ). all_led (behind.Entered right) (entries_of atoms n (part whole n))) f
-    ∙ ap (λ (n : ℕ). all_led (behind.Entered n) (entries_of atoms (suc at) (part whole (suc at)))) two.behind
-    ∙ sym (ap (entries_of atoms at) two.here)
+pub list_of_when : (atoms : List Atom) (whole : Process) (test : Expr) (at : ℕ) (e : Entry) → Begins whole at → IsOne whole (When test) at → e ≡ gate at → e ∷ [] ≡ list_of atoms whole at
+list_of_when atoms whole test at e begins one is = as_list atoms whole at (When test (part whole (suc at))) (e ∷ []) begins one.here (ap (λ (o : Entry). o ∷ []) is)
+
+pub list_of_let : (atoms : List Atom) (whole : Process) (settings : List Setting) (at : ℕ) (e : Entry) → Begins whole at → IsOne whole (Let settings) at → e ≡ gate at → e ∷ [] ≡ list_of atoms whole at
+list_of_let atoms whole settings at e begins one is = as_list atoms whole at (Let settings (part whole (suc at))) (e ∷ []) begins one.here (ap (λ (o : Entry). o ∷ []) is)
+
+-- the list of a first part
+first_list : (atoms : List Atom) (whole : Process) (at first : ℕ) → first ≡ suc at → Begins whole (suc at) → list_of atoms whole first ≡ entries_of atoms (suc at) (part whole (suc at))
+first_list atoms whole at first f begins = ap (list_of atoms whole) f ∙ list_begins atoms whole (suc at) begins
+
+-- the list of a second part
+second_list : (atoms : List Atom) (whole : Process) (right place : ℕ) → right ≡ place → Begins whole right → list_of atoms whole right ≡ entries_of atoms place (part whole right)
+second_list atoms whole right place e begins = list_begins atoms whole right begins ∙ ap (λ (n : ℕ). entries_of atoms n (part whole right)) e
+
+pub list_of_seq : (atoms : List Atom) (whole : Process) (at right first : ℕ) → first ≡ suc at → Begins whole at → IsTwo whole Seq at right → all_led (behind.Entered right) (list_of atoms whole first) ≡ list_of atoms whole at
+list_of_seq atoms whole at right first f begins two =
+    as_list atoms whole at (Seq (part whole (suc at)) (part whole right)) (all_led (behind.Entered right) (list_of atoms whole first)) begins two.here
+    (ap (all_led (behind.Entered right)) (first_list atoms whole at first f two.first_begins)
+    ∙ ap (λ (n : ℕ). all_led (behind.Entered n) (entries_of atoms (suc at) (part whole (suc at)))) two.behind)
 
 -- of an operator over two parts that go on as these
 two_lists : (atoms : List Atom) (whole : Process) (make : Process → Process → Process) (a b : Behind) (at right first : ℕ) → first ≡ suc at →
-    ((x y : Process) → entries_of atoms at (make x y) ≡ all_led a (entries_of atoms (suc at) x) ++ all_led b (entries_of atoms (suc at + size x) y)) → IsTwo whole make at right →
-    all_led a (entries_of atoms first (part whole first)) ++ all_led b (entries_of atoms right (part whole right)) ≡ entries_of atoms at (part whole at)
-two_lists atoms whole make a b at right first f each two =
-    ap (λ (n : ℕ). all_led a (entries_of atoms n (part whole n)) ++ all_led b (entries_of atoms right (part whole right))) f
-    ∙ ap (λ (n : ℕ). all_led a (entries_of atoms (suc at) (part whole (suc at))) ++ all_led b (entries_of atoms n (part whole right))) two.behind
-    ∙ sym (each (part whole (suc at)) (part whole right))
-    ∙ sym (ap (entries_of atoms at) two.here)
+    ((x y : Process) → all_led a (entries_of atoms (suc at) x) ++ all_led b (entries_of atoms (suc at + size x) y) ≡ entries_of atoms at (make x y)) → Begins whole at → IsTwo whole make at right →
+    all_led a (list_of atoms whole first) ++ all_led b (list_of atoms whole right) ≡ list_of atoms whole at
+two_lists atoms whole make a b at right first f each begins two =
+    as_list atoms whole at (make (part whole (suc at)) (part whole right)) (all_led a (list_of atoms whole first) ++ all_led b (list_of atoms whole right)) begins two.here
+    (ap (λ (l : List Entry). all_led a l ++ all_led b (list_of atoms whole right)) (first_list atoms whole at first f two.first_begins)
+    ∙ ap (λ (l : List Entry). all_led a (entries_of atoms (suc at) (part whole (suc at))) ++ all_led b l) (second_list atoms whole right (suc at + size (part whole (suc at))) two.behind two.second_begins)
+    ∙ each (part whole (suc at)) (part whole right))
 
-pub list_of_alt : (atoms : List Atom) (whole : Process) (at right first : ℕ) → first ≡ suc at → IsTwo whole Alt at right →
-    all_led behind.Ended (entries_of atoms first (part whole first)) ++ all_led behind.Ended (entries_of atoms right (part whole right)) ≡ entries_of atoms at (part whole at)
-list_of_alt atoms whole at right first f two =
+pub list_of_alt : (atoms : List Atom) (whole : Process) (at right first : ℕ) → first ≡ suc at → Begins whole at → IsTwo whole Alt at right →
+    all_led behind.Ended (list_of atoms whole first) ++ all_led behind.Ended (list_of atoms whole right) ≡ list_of atoms whole at
+list_of_alt atoms whole at right first f begins two =
     two_lists atoms whole Alt behind.Ended behind.Ended at right first f
-    (λ x y. sym (ap (λ (o : List Entry). o ++ all_led behind.Ended (entries_of atoms (suc at + size x) y)) (led-ended (entries_of atoms (suc at) x))
-    ∙ ap (λ (o : List Entry). entries_of atoms (suc at) x ++ o) (led-ended (entries_of atoms (suc at + size x) y)))) two
+    (λ x y. ap (λ (o : List Entry). o ++ all_led behind.Ended (entries_of atoms (suc at + size x) y)) (led-ended (entries_of atoms (suc at) x))
+    ∙ ap (λ (o : List Entry). entries_of atoms (suc at) x ++ o) (led-ended (entries_of atoms (suc at + size x) y))) begins two
 
-pub list_of_star : (atoms : List Atom) (whole : Process) (at right first : ℕ) → first ≡ suc at → IsTwo whole Star at right →
-    all_led (behind.Entered at) (entries_of atoms first (part whole first)) ++ all_led behind.Ended (entries_of atoms right (part whole right)) ≡ entries_of atoms at (part whole at)
-list_of_star atoms whole at right first f two =
+pub list_of_star : (atoms : List Atom) (whole : Process) (at right first : ℕ) → first ≡ suc at → Begins whole at → IsTwo whole Star at right →
+    all_led (behind.Entered at) (list_of atoms whole first) ++ all_led behind.Ended (list_of atoms whole right) ≡ list_of atoms whole at
+list_of_star atoms whole at right first f begins two =
     two_lists atoms whole Star (behind.Entered at) behind.Ended at right first f
-    (λ x y. sym (ap (λ (o : List Entry). all_led (behind.Entered at) (entries_of atoms (suc at) x) ++ o) (led-ended (entries_of atoms (suc at + size x) y)))) two
+    (λ x y. ap (λ (o : List Entry). all_led (behind.Entered at) (entries_of atoms (suc at) x) ++ o) (led-ended (entries_of atoms (suc at + size x) y))) begins two
 
-pub list_of_par : (atoms : List Atom) (whole : Process) (at right first : ℕ) → first ≡ suc at → IsTwo whole Par at right →
-    all_led behind.Parted (entries_of atoms first (part whole first)) ++ all_led behind.Parted (entries_of atoms right (part whole right)) ≡ entries_of atoms at (part whole at)
-list_of_par atoms whole at right first f two = two_lists atoms whole Par behind.Parted behind.Parted at right first f (λ x y. refl) two
+pub list_of_par : (atoms : List Atom) (whole : Process) (at right first : ℕ) → first ≡ suc at → Begins whole at → IsTwo whole Par at right →
+    all_led behind.Parted (list_of atoms whole first) ++ all_led behind.Parted (list_of atoms whole right) ≡ list_of atoms whole at
+list_of_par atoms whole at right first f begins two = two_lists atoms whole Par behind.Parted behind.Parted at right first f (λ x y. refl) begins two
+
+pub list_of_until : (atoms : List Atom) (whole : Process) (at waits first second : ℕ) → first ≡ suc at → second ≡ suc waits → Begins whole at → IsUntil whole at waits →
+    all_led behind.Parted (list_of atoms whole first) ++ all_led behind.Ended (list_of atoms whole second) ≡ list_of atoms whole at
+list_of_until atoms whole at waits first second f g begins until =
+    as_list atoms whole at (Disrupt (part whole (suc at)) (part whole (suc waits))) (all_led behind.Parted (list_of atoms whole first) ++ all_led behind.Ended (list_of atoms whole second)) begins until.here
+    (ap (λ (l : List Entry). all_led behind.Parted l ++ all_led behind.Ended (list_of atoms whole second)) (first_list atoms whole at first f until.first_begins)
+    ∙ ap (λ (l : List Entry). all_led behind.Parted (entries_of atoms (suc at) (part whole (suc at))) ++ l)
+    (led-ended (list_of atoms whole second) ∙ ap (list_of atoms whole) g ∙ second_list atoms whole (suc waits) (suc (suc at + size (part whole (suc at)))) (ap suc until.behind) until.second_begins))
+
+pub list_of_wait : (atoms : List Atom) (whole : Process) (at disrupt first : ℕ) → first ≡ suc at → op_at whole at ≡ op.Waits disrupt → IsWait whole at disrupt → all_led behind.Parted (list_of atoms whole first) ≡ list_of atoms whole at
+list_of_wait atoms whole at disrupt first f here wait =
+    ap (all_led behind.Parted) (first_list atoms whole at first f wait.first_begins)
+    ∙ ap (λ (p : Process). all_led behind.Parted (entries_of atoms (suc at) p)) (sym wait.here)
+    ∙ sym (ap (λ (o : Op). all_led (outset o) (entries_of atoms (root o at) (part whole at))) here)

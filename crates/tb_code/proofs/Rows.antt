@@ -2,8 +2,8 @@
 use Rattle.std.proofs.Common.{◌≡◌, List, [], ◌∷◌, map, Some, None, refl}
 use Rattle.tb_terms.specs.declared.expr.Expr.{Expr}
 use Rattle.tb_body.specs.declared.tree.Setting.{Setting}
-use Rattle.tb_algebra.specs.Processes.{Process, At, Seq, Alt, Star, Par, If, When, Let}
-use Rattle.tb_code.specs.Entries.{entries_of, entry, gate, led}
+use Rattle.tb_algebra.specs.Processes.{Process, At, Seq, Alt, Star, Par, Disrupt, If, When, Let}
+use Rattle.tb_code.specs.Entries.{entries_of, entry, gate, led, list_of}
 use Rattle.tb_code.specs.Positions.{size, positions, part, node}
 use Rattle.tb_code.specs.declared.behind.Behind.TheVariants as behind
 use Rattle.tb_code.specs.declared.node.Op.TheVariants as op
@@ -79,7 +79,29 @@ pub either_positions : (test : Expr) → positions (either test) ≡
 unfolding positions
 either_positions test = refl
 
-pub sizes : map size (turn ∷ in_a_row ∷ choice ∷ merge ∷ within_stars ∷ []) ≡ 3 ∷ 5 ∷ 5 ∷ 5 ∷ 7 ∷ []
+-- `a . b >> c . d`: the left side has the disrupt as its frame, and the right side waits at 4
+abbrev pub transfer : Process
+transfer = Disrupt (Seq (At 1 0) (At 2 0)) (Seq (At 3 0) (At 4 0))
+
+pub transfer_positions : positions transfer ≡
+    node (op.Disrupt 4) None ∷ node (op.Seq 3) (Some 0) ∷ node (op.At 1) (Some 1) ∷ node (op.At 2) (Some 0) ∷ node (op.Waits 0) None
+    ∷ node (op.Seq 7) None ∷ node (op.At 3) (Some 5) ∷ node (op.At 4) None ∷ []
+unfolding positions
+transfer_positions = refl
+
+pub transfer_parts : map (part transfer) (1 ∷ 3 ∷ 4 ∷ 5 ∷ 7 ∷ []) ≡ Seq (At 1 0) (At 2 0) ∷ At 2 0 ∷ Seq (At 3 0) (At 4 0) ∷ Seq (At 3 0) (At 4 0) ∷ At 4 0 ∷ []
+transfer_parts = refl
+
+-- `(a >> b) * c`: a right side in wait has the frame of its disrupt
+abbrev pub transfer_turns : Process
+transfer_turns = Star (Disrupt (At 1 0) (At 2 0)) (At 3 0)
+
+pub transfer_turns_positions : positions transfer_turns ≡
+    node (op.Star 5) None ∷ node (op.Disrupt 3) (Some 0) ∷ node (op.At 1) (Some 1) ∷ node (op.Waits 1) (Some 0) ∷ node (op.At 2) (Some 0) ∷ node (op.At 3) None ∷ []
+unfolding positions
+transfer_turns_positions = refl
+
+pub sizes : map size (turn ∷ in_a_row ∷ choice ∷ merge ∷ within_stars ∷ transfer ∷ transfer_turns ∷ []) ≡ 3 ∷ 5 ∷ 5 ∷ 5 ∷ 7 ∷ 8 ∷ 6 ∷ []
 sizes = refl
 
 -- the atoms that may come next, of a body in which none has times, and what comes where each happens: both sides of a star, of
@@ -100,6 +122,18 @@ merge_entries = refl
 pub within_stars_entries : entries_of [] 0 within_stars ≡
     led (behind.Entered 1) (entry [] 3 1) ∷ led (behind.Entered 1) (entry [] 4 2) ∷ led (behind.Entered 0) (entry [] 5 3) ∷ entry [] 6 4 ∷ []
 within_stars_entries = refl
+
+-- of a disrupt, whose first side each atom parts; and of its right side in wait, which each atom parts
+pub transfer_entries : entries_of [] 0 transfer ≡ led behind.Parted (led (behind.Entered 3) (entry [] 2 1)) ∷ led (behind.Entered 7) (entry [] 6 3) ∷ []
+transfer_entries = refl
+
+pub transfer_list : list_of [] transfer 0 ≡ led behind.Parted (led (behind.Entered 3) (entry [] 2 1)) ∷ led (behind.Entered 7) (entry [] 6 3) ∷ []
+unfolding positions
+transfer_list = refl
+
+pub transfer_wait_list : list_of [] transfer 4 ≡ led behind.Parted (led (behind.Entered 7) (entry [] 6 3)) ∷ []
+unfolding positions
+transfer_wait_list = refl
 
 -- tests before both
 pub tested_turns_entries : (settings : List Setting) (first second : Expr) → entries_of [] 1 (part (tested_turns settings first second) 1) ≡ led (behind.Entered 1) (gate 2) ∷ gate 4 ∷ []

@@ -1,9 +1,10 @@
 -- How a table grows, and what stands in it.
 use Rattle.std.proofs.Common.{◌≡◌, ℕ, suc, ◌+◌, List, [], ◌∷◌, ◌++◌, length, slice_set, Option, Some, None, refl, ap, sym, ◌∙◌, arith, append_assoc, length-append}
 use Rattle.std.proofs.Math.Seq.{set-append_seam}
-use Rattle.tb_algebra.specs.Processes.{Process, At, Seq, Alt, Star, Par, If, When, Let}
+use Rattle.tb_algebra.specs.Processes.{Process, At, Seq, Alt, Star, Par, Disrupt, If, When, Let}
 use Rattle.tb_code.specs.Positions.{size, table, positions, node}
 use Rattle.tb_code.specs.declared.node.Node.{Node}
+use Rattle.tb_code.specs.declared.node.Op.TheVariants as op
 use Rattle.tb_code.specs.Helpers.Twos.{joined, frame_of_first, op_of}
 use Rattle.tb_code.specs.declared.node.Op.{Op}
 use Rattle.tb_code.specs.declared.two.Two.{Two}
@@ -19,6 +20,8 @@ length-table (Seq x y) at frame = length_two (table x (suc at) (Some at)) (table
 length-table (Alt x y) at frame = length_two (table x (suc at) frame) (table y (suc at + size x) frame) (size x) (size y) (length-table x (suc at) frame) (length-table y (suc at + size x) frame)
 length-table (Star x y) at frame = length_two (table x (suc at) (Some at)) (table y (suc at + size x) frame) (size x) (size y) (length-table x (suc at) (Some at)) (length-table y (suc at + size x) frame)
 length-table (Par x y) at frame = length_two (table x (suc at) frame) (table y (suc at + size x) frame) (size x) (size y) (length-table x (suc at) frame) (length-table y (suc at + size x) frame)
+length-table (Disrupt x y) at frame =
+    length_two (table x (suc at) (Some at)) (node (op.Waits at) frame ∷ table y (suc (suc at + size x)) frame) (size x) (suc (size y)) (length-table x (suc at) (Some at)) (ap suc (length-table y (suc (suc at + size x)) frame))
 length-table (If test x y) at frame = length_two (table x (suc at) frame) (table y (suc at + size x) frame) (size x) (size y) (length-table x (suc at) frame) (length-table y (suc at + size x) frame)
 length-table (When test x) at frame = ap suc (length-table x (suc at) frame)
 length-table (Let settings x) at frame = ap suc (length-table x (suc at) frame)
@@ -60,6 +63,32 @@ added_two two old opened behind_x behind_y new first made x y frame_x frame here
     ∙ ap (λ (o : Op). slice_set behind_y (length old) (node o frame)) (em ∙ ap (op_of two) (er ∙ lx))
     ∙ ap (λ (l : List Node). slice_set l (length old) last) by ∙ set-two old first last xs ys
     ∙ ap (λ (l : List Node). old ++ l) (sym (table-joined two x y (length old) frame))
+
+-- the nodes before, the disrupt's position, and the nodes behind its left side, behind the position at which its right side waits, and behind
+-- that side
+pub added_until : (old opened behind_x waiting behind_y new : List Node) (first : Node) (x y : Process) (frame : Option ℕ) (here waits : ℕ) →
+    here ≡ length old → opened ≡ old ++ first ∷ [] → behind_x ≡ opened ++ table x (length opened) (Some here) → waits ≡ length behind_x →
+    waiting ≡ behind_x ++ node (op.Waits here) frame ∷ [] → behind_y ≡ waiting ++ table y (length waiting) frame →
+    new ≡ slice_set behind_y here (node (op.Disrupt waits) frame) → new ≡ old ++ table (Disrupt x y) (length old) frame
+added_until old opened behind_x waiting behind_y new first x y frame here waits eh eo ex ew eq ey en =
+    let at = length old in
+    let lo : length opened ≡ suc at = (let l = length-append old (first ∷ []) in let k = ap length eo in omega arith) in
+    let lt : length (table x (length opened) (Some here)) ≡ size x = length-table x (length opened) (Some here) in
+    let lx : length behind_x ≡ suc at + size x = (let l = length-append opened (table x (length opened) (Some here)) in let k = ap length ex in omega arith) in
+    let lw : length waiting ≡ suc (suc at + size x) = (let l = length-append behind_x (node (op.Waits here) frame ∷ []) in let k = ap length eq in omega arith) in
+    let xs = table x (suc at) (Some at) in
+    let wait = node (op.Waits at) frame in
+    let ys = table y (suc (suc at + size x)) frame in
+    let bx : behind_x ≡ (old ++ first ∷ []) ++ xs =
+    ex ∙ ap (λ (n : ℕ). opened ++ table x n (Some here)) lo ∙ ap (λ (n : ℕ). opened ++ table x (suc at) (Some n)) eh ∙ ap (λ (l : List Node). l ++ xs) eo in
+    let bw : waiting ≡ ((old ++ first ∷ []) ++ xs) ++ wait ∷ [] =
+    eq ∙ ap (λ (n : ℕ). behind_x ++ node (op.Waits n) frame ∷ []) eh ∙ ap (λ (l : List Node). l ++ wait ∷ []) bx in
+    let by : behind_y ≡ ((old ++ first ∷ []) ++ xs) ++ (wait ∷ ys) =
+    ey ∙ ap (λ (n : ℕ). waiting ++ table y n frame) lw ∙ ap (λ (l : List Node). l ++ ys) bw ∙ append_assoc ((old ++ first ∷ []) ++ xs) (wait ∷ []) ys in
+    let last = node (op.Disrupt (suc at + size x)) frame in
+    en ∙ ap (λ (n : ℕ). slice_set behind_y n (node (op.Disrupt waits) frame)) eh
+    ∙ ap (λ (n : ℕ). slice_set behind_y at (node (op.Disrupt n) frame)) (ew ∙ lx)
+    ∙ ap (λ (l : List Node). slice_set l at last) by ∙ set-two old first last xs (wait ∷ ys)
 
 pub numbered_all : (old new : List Node) (tree whole : Process) → old ≡ [] → new ≡ old ++ table tree (length old) None → tree ≡ whole → new ≡ positions whole
 unfolding positions

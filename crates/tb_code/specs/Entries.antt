@@ -3,14 +3,16 @@ use Rattle.std.specs.Prelude.{◌≡◌, ◌<◌, ◌≤◌, ℕ, suc, ◌+◌, 
 use Rattle.tb_body.specs.declared.atom.Atom.{Atom}
 use Rattle.tb_body.specs.declared.atom.Time.{Time}
 use Rattle.tb_algebra.specs.Atoms.{times_of}
-use Rattle.tb_algebra.specs.Processes.{Process, At, Seq, Alt, Star, Par, If, When, Let}
-use Rattle.tb_code.specs.Positions.{size, part}
+use Rattle.tb_algebra.specs.Processes.{Process, At, Seq, Alt, Star, Par, Disrupt, If, When, Let}
+use Rattle.tb_code.specs.Positions.{size, part, op_at, root}
 use Rattle.tb_code.specs.declared.behind.Behind.{Behind}
 use Rattle.tb_code.specs.declared.behind.Behind.TheVariants as behind
 use Rattle.tb_code.specs.declared.entry.Entry.{Entry}
 use Rattle.tb_code.specs.declared.entry.What.{What}
 use Rattle.tb_code.specs.declared.entry.What.TheVariants as what
 use Rattle.tb_code.specs.declared.entry.Span.{Span}
+use Rattle.tb_code.specs.declared.node.Op.{Op}
+use Rattle.tb_code.specs.declared.node.Op.TheVariants as op
 
 abbrev pub is_timed : List Time → Bool
 is_timed [] = false
@@ -29,7 +31,7 @@ entry atoms position atom = record { position = position; what = what_by (is_tim
 abbrev pub gate : ℕ → Entry
 gate position = record { position = position; what = what.Gate; behind = behind.Ended }
 
--- What comes of a whole where the first comes of a part of it, and the second once the part has ended. Where a merge is
+-- What comes of a whole where the first comes of a part of it, and the second once the part has ended. Where a merge or a disrupt is
 -- parted it isn't said.
 abbrev pub followed : Behind → Behind → Behind
 followed behind.Ended next = next
@@ -54,9 +56,20 @@ entries_of atoms at (Seq x y) = all_led (behind.Entered (suc at + size x)) (entr
 entries_of atoms at (Alt x y) = entries_of atoms (suc at) x ++ entries_of atoms (suc at + size x) y
 entries_of atoms at (Star x y) = all_led (behind.Entered at) (entries_of atoms (suc at) x) ++ entries_of atoms (suc at + size x) y
 entries_of atoms at (Par x y) = all_led behind.Parted (entries_of atoms (suc at) x) ++ all_led behind.Parted (entries_of atoms (suc at + size x) y)
+entries_of atoms at (Disrupt x y) = all_led behind.Parted (entries_of atoms (suc at) x) ++ entries_of atoms (suc (suc at + size x)) y
 entries_of atoms at (If test x y) = gate at ∷ []
 entries_of atoms at (When test x) = gate at ∷ []
 entries_of atoms at (Let settings x) = gate at ∷ []
+
+-- What comes once the part of a position with this operator has ended. Where a right side waits there, each of its steps makes a new
+-- row, so it isn't said.
+abbrev pub outset : Op → Behind
+outset (op.Waits disrupt) = behind.Parted
+outset _ = behind.Ended
+
+-- the list of a position
+abbrev pub list_of : List Atom → Process → ℕ → List Entry
+list_of atoms whole at = all_led (outset (op_at whole at)) (entries_of atoms (root (op_at whole at) at) (part whole at))
 
 abbrev pub in_span : List Entry → Span → List Entry
 in_span all span = take span.count (drop span.first all)
@@ -65,10 +78,10 @@ in_span all span = take span.count (drop span.first all)
 abbrev pub HasList : List Entry → Span → List Entry → Type 0
 HasList all span list = (span.first + span.count ≤ length all) × (0 < span.count → list ≡ in_span all span)
 
--- Each position has a span, and what that has, if any, is the list of the part there.
+-- Each position has a span, and what that has, if any, is the list of the position.
 abbrev pub AreLists : List Atom → Process → List Entry → List Span → Type 0
 AreLists atoms whole all spans =
-    (length spans ≡ size whole) × ((at : ℕ) (span : Span) → slice_get spans at ≡ Some span → HasList all span (entries_of atoms at (part whole at)))
+    (length spans ≡ size whole) × ((at : ℕ) (span : Span) → slice_get spans at ≡ Some span → HasList all span (list_of atoms whole at))
 
 -- more entries are added behind
 abbrev pub Grows : List Entry → List Entry → Type 0

@@ -8,7 +8,7 @@ pub enum Behind {
     Ended,
     /// This position is entered instead.
     Entered(usize),
-    /// A merge is parted.
+    /// A merge or a disrupt is parted.
     Parted,
 }
 

@@ -2,10 +2,10 @@ ghost use Rattle.std.specs.Prelude.{◌≡◌, ◌++◌, ◌∷◌, [], ◌-◌,
 ghost use Rattle.std.specs.Coded.{codes, coded_list};
 ghost use Rattle.std.specs.Option.{option_copied};
 ghost use Rattle.tb_code.specs.contracts.node.Node as node_row;
-ghost use Rattle.tb_algebra.specs.Processes.{fresh};
+ghost use Rattle.tb_algebra.specs.Processes.{fresh, Disrupt};
 ghost use Rattle.std.proofs.Props.{props};
-ghost use Rattle.tb_code.specs.Entries.{AreLists, entries_of};
-ghost use Rattle.tb_code.specs.Positions.{HasParts, part, positions, size, table, node};
+ghost use Rattle.tb_code.specs.Entries.{AreLists, list_of};
+ghost use Rattle.tb_code.specs.Positions.{HasParts, op_at, positions, size, table, node};
 ghost use Rattle.tb_code.specs.Helpers.Twos.{joined};
 
 use crate::lists::{add_lists, in_span, span_at};
@@ -54,6 +54,7 @@ impl Code {
     pub fn node(&self, at: usize) -> &Node
         requires { at < size (fresh self.now.body.tree) }
         ensures node { slice_get self.now.nodes at ≡ Some result.now }
+        ensures op { op_at (fresh self.now.body.tree) at ≡ result.now.op }
         ensures parts { HasParts (fresh self.now.body.tree) at result.now.op }
         ensures frame { IfSome result.now.frame (λ frame. frame < at) }
     {
@@ -74,7 +75,7 @@ impl Code {
     pub fn list(&self, at: usize) -> &[Entry]
         requires { at < size (fresh self.now.body.tree) }
         ensures { 0 < length result.now
-            → entries_of self.now.body.atoms at (part (fresh self.now.body.tree) at) ≡ result.now }
+            → list_of self.now.body.atoms (fresh self.now.body.tree) at ≡ result.now }
     {
         let span = span_at(self.spans.as_slice(), at);
         in_span(self.entries.as_slice(), span)
@@ -112,6 +113,7 @@ fn add_tree(
         Tree::Alt(x, y) => add_two(alloc, nodes, Two::Alt, x.get(), y.get(), frame),
         Tree::Star(x, y) => add_two(alloc, nodes, Two::Star, x.get(), y.get(), frame),
         Tree::Par(x, y) => add_two(alloc, nodes, Two::Par, x.get(), y.get(), frame),
+        Tree::Disrupt(x, y) => add_until(alloc, nodes, x.get(), y.get(), frame),
         Tree::If(test, x, Some(y)) => {
             let test = test.copy(alloc)?;
             add_two(alloc, nodes, Two::If(test), x.get(), y.get(), frame)
@@ -147,6 +149,27 @@ fn add_two(
     let right = nodes.len();
     add_tree(alloc, nodes, y, frame)?;
     set_node(nodes, here, two.op(right), frame);
+    Ok(())
+}
+
+/// Adds the positions of a disrupt that has this frame. Its right side waits at the position before its own first.
+#[cycle(add_tree)]
+fn add_until(
+    alloc: Global,
+    nodes: &mut Items<Node>,
+    x: &Tree,
+    y: &Tree,
+    frame: Option<usize>,
+) -> Result<(), NoMemory>
+    ensures { OnOk result (nodes.new
+        ≡ nodes.old ++ table (Disrupt (fresh x.now) (fresh y.now)) (length nodes.old) frame) }
+{
+    let here = open_node(nodes, frame)?;
+    add_tree(alloc, nodes, x, Some(here))?;
+    let waits = nodes.len();
+    push_node(nodes, Op::Waits(here), frame)?;
+    add_tree(alloc, nodes, y, frame)?;
+    set_node(nodes, here, Op::Disrupt(waits), frame);
     Ok(())
 }
 

@@ -1,9 +1,9 @@
 ghost use Rattle.std.specs.Prelude.{◌≡◌, ◌<◌, ◌≤◌, ◌+◌, ◌++◌, ◌∷◌, [], List, Some, IfOk, IfSome, OnOk, length, map, slice_get};
 ghost use Rattle.tb_algebra.specs.Atoms.{times_of};
 ghost use Rattle.tb_algebra.specs.Processes.{fresh};
-ghost use Rattle.tb_code.specs.Entries.{AreLists, Grows, HasList, all_led, entries_of, gate, in_span, is_timed, led, what_by};
+ghost use Rattle.tb_code.specs.Entries.{AreLists, Grows, HasList, all_led, gate, in_span, is_timed, led, list_of, what_by};
 ghost use Rattle.tb_code.specs.Helpers.Blanks.{blank};
-ghost use Rattle.tb_code.specs.Positions.{part, positions};
+ghost use Rattle.tb_code.specs.Positions.{positions};
 ghost use Rattle.tb_code.specs.declared.entry.Entry.{Entry};
 
 use crate::{Behind, Entry, Node, Op, Span, What};
@@ -83,7 +83,7 @@ fn list_at(
     requires within { at < length nodes.now }
     requires lists { AreLists body.now.atoms (fresh body.now.tree) entries.old spans.now }
     ensures list { IfOk result (λ span. HasList entries.new span
-        (entries_of body.now.atoms at (part (fresh body.now.tree) at))) }
+        (list_of body.now.atoms (fresh body.now.tree) at)) }
     ensures grows { OnOk result (Grows entries.old entries.new) }
 {
     let room = nodes.len().saturating_mul(MOST_ENTRIES);
@@ -114,6 +114,15 @@ fn list_at(
             let first = span_at(spans, at + 1).then(Behind::Parted);
             let second = span_at(spans, *right).then(Behind::Parted);
             add_both(alloc, entries, room, first, second)
+        }
+        Op::Disrupt(waits) => {
+            let first = span_at(spans, at + 1).then(Behind::Parted);
+            let second = span_at(spans, *waits + 1).then(Behind::Ended);
+            add_both(alloc, entries, room, first, second)
+        }
+        Op::Waits(_) => {
+            let first = span_at(spans, at + 1).then(Behind::Parted);
+            add_first(alloc, entries, room, first)
         }
         Op::If(_, _) => add_one(entries, room, gate(at)),
         Op::When(_) => add_one(entries, room, gate(at)),

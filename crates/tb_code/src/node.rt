@@ -15,6 +15,11 @@ pub enum Op {
     Star(usize),
     /// Both parts beside each other.
     Par(usize),
+    /// The left side, until the right side begins. The right side waits at the given position and begins at
+    /// the next one.
+    Disrupt(usize),
+    /// The right side of the disrupt at the given position, while it waits.
+    Waits(usize),
     /// The first part where the test is true, the other where it is false.
     If(Expr, usize),
     /// Its part where the test is true.
@@ -28,7 +33,7 @@ pub enum Op {
 pub struct Node {
     /// What stands there.
     pub op: Op,
-    /// The innermost sequence or star in whose first part it stands. Where all of that part has ended,
-    /// the second part of that sequence follows, or that star anew.
+    /// The innermost sequence, star or disrupt in whose first part it stands. Where all of that part has
+    /// ended, the second part of that sequence follows, or that star anew. A disrupt ends with it.
     pub frame: Option<usize>,
 }

@@ -36,6 +36,7 @@ atoms_kept script slots good is_good = record {
   alt = λ prefix back. both_good good prefix.atoms back.atoms;
   star = λ prefix back. both_good good prefix.atoms back.atoms;
   par = λ prefix back. both_good good prefix.atoms back.atoms;
+  disrupt = λ prefix back. both_good good prefix.atoms back.atoms;
   test = λ test part value f. f;
   test_else = λ test prefix back value. both_good good prefix.atoms back.atoms;
   block = λ settings sorts part set f. f;

@@ -18,6 +18,7 @@ module _ (A B : Type 0) (f : Proc-F A → A) (g : Proc-F B → B) (R : A → B �
   IsCall (layer.Alt x y) = Unit {0}
   IsCall (layer.Star x y) = Unit {0}
   IsCall (layer.Par x y) = Unit {0}
+  IsCall (layer.Disrupt x y) = Unit {0}
   IsCall (layer.If test x y) = Unit {0}
   IsCall (layer.Let vars x) = Unit {0}
 
@@ -61,6 +62,7 @@ module _ (A B : Type 0) (f : Proc-F A → A) (g : Proc-F B → B) (R : A → B �
   layer_related kept (layer.Alt x y) all = kept (layer.Alt (left x y all) (right x y all)) (tt {0})
   layer_related kept (layer.Star x y) all = kept (layer.Star (left x y all) (right x y all)) (tt {0})
   layer_related kept (layer.Par x y) all = kept (layer.Par (left x y all) (right x y all)) (tt {0})
+  layer_related kept (layer.Disrupt x y) all = kept (layer.Disrupt (left x y all) (right x y all)) (tt {0})
   layer_related kept (layer.If test x None) all = kept (layer.If test (only x (prefix (called x.0) [] all)) None) (tt {0})
   layer_related kept (layer.If test x (Some y)) all = kept (layer.If test (left x y all) (Some (right x y all))) (tt {0})
   layer_related kept (layer.Let vars x) all = kept (layer.Let vars (only x all)) (tt {0})

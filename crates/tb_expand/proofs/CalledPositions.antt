@@ -6,7 +6,7 @@ use Rattle.tb_syntax.specs.declared.proc.Call.{Call}
 use Rattle.tb_syntax.specs.declared.proc.Var.{Var}
 use Rattle.tb_syntax.specs.declared.proc.Proc.{Proc, out-Proc}
 use Rattle.tb_syntax.specs.declared.proc.Proc.TheVariants as tree
-use Rattle.tb_syntax.specs.declared.proc.Proc.TheVariants.{outs-Atom, outs-Call, outs-Seq, outs-Alt, outs-Star, outs-Par, outs-If, outs-Let}
+use Rattle.tb_syntax.specs.declared.proc.Proc.TheVariants.{outs-Atom, outs-Call, outs-Seq, outs-Alt, outs-Star, outs-Par, outs-Disrupt, outs-If, outs-Let}
 use Rattle.tb_syntax.specs.declared.proc.Proc.TheOpen.{Proc-F}
 use Rattle.tb_syntax.specs.declared.proc.Proc.TheFolds.{fold_out-Proc, map-Proc}
 use Rattle.tb_syntax.specs.declared.script.Script.{Script}
@@ -44,6 +44,9 @@ called_of_star x y = opened _ _ (outs-Star x y)
 pub called_of_par : (x y : Proc) → called (tree.Par x y) ≡ called x ++ called y
 called_of_par x y = opened _ _ (outs-Par x y)
 
+pub called_of_disrupt : (x y : Proc) → called (tree.Disrupt x y) ≡ called x ++ called y
+called_of_disrupt x y = opened _ _ (outs-Disrupt x y)
+
 pub called_of_if : (test : Ast) (x : Proc) (y : Option Proc) → called (tree.If test x y) ≡ called x ++ or_none (option_map called y)
 called_of_if test x None = opened _ _ (outs-If test x None)
 called_of_if test x (Some y) = opened _ _ (outs-If test x (Some y))
@@ -51,4 +54,4 @@ called_of_if test x (Some y) = opened _ _ (outs-If test x (Some y))
 pub called_of_let : (vars : List Var) (x : Proc) → called (tree.Let vars x) ≡ called x
 called_of_let vars x = opened _ _ (outs-Let vars x)
 
-pub ruleset called_at = (positions_joined, called_of_atom, called_of_call, called_of_seq, called_of_alt, called_of_star, called_of_par, called_of_if, called_of_let)
+pub ruleset called_at = (positions_joined, called_of_atom, called_of_call, called_of_seq, called_of_alt, called_of_star, called_of_par, called_of_disrupt, called_of_if, called_of_let)

@@ -37,6 +37,7 @@ module _ (script : Script) (body other : Proc → Size) where
   same_kept (layer.Alt x y) is = λ i. beside (x.2 i) (y.2 i)
   same_kept (layer.Star x y) is = λ i. beside (x.2 i) (y.2 i)
   same_kept (layer.Par x y) is = λ i. beside (x.2 i) (y.2 i)
+  same_kept (layer.Disrupt x y) is = λ i. beside (x.2 i) (y.2 i)
   same_kept (layer.If test x None) is = λ i. above (x.2 i)
   same_kept (layer.If test x (Some y)) is = λ i. beside (x.2 i) (y.2 i)
   same_kept (layer.Let vars x) is = λ i. above (x.2 i)
@@ -59,6 +60,7 @@ module _ (script : Script) (body : Proc → Bool) where
   whole_kept (layer.Alt x y) is = and_from x.0 y.0 x.2 y.2
   whole_kept (layer.Star x y) is = and_from x.0 y.0 x.2 y.2
   whole_kept (layer.Par x y) is = and_from x.0 y.0 x.2 y.2
+  whole_kept (layer.Disrupt x y) is = and_from x.0 y.0 x.2 y.2
   whole_kept (layer.If test x None) is = and_from x.0 true x.2 refl
   whole_kept (layer.If test x (Some y)) is = and_from x.0 y.0 x.2 y.2
   whole_kept (layer.Let vars x) is = x.2

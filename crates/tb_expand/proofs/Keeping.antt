@@ -54,6 +54,7 @@ pub record Keeps (script : Script) (slots : ℕ) (P : Part → Type 0) : Type 0 
   pub alt : (prefix back : Part) → P prefix → P back → P (beside tree.Alt prefix back)
   pub star : (prefix back : Part) → P prefix → P back → P (beside tree.Star prefix back)
   pub par : (prefix back : Part) → P prefix → P back → P (beside tree.Par prefix back)
+  pub disrupt : (prefix back : Part) → P prefix → P back → P (beside tree.Disrupt prefix back)
   pub test : (test : Expr) (part : Part) → is_value slots test ≡ true → P part → P (under (λ side. tree.If test side None) part)
   pub test_else : (test : Expr) (prefix back : Part) → is_value slots test ≡ true → P prefix → P back → P (beside (expansion.tested test) prefix back)
   pub block : (settings : List Setting) (sorts : List Sort) (part : Part) → list_all (is_setting_in_range slots) settings ≡ true → P part → P (declaring settings sorts part)
@@ -128,6 +129,7 @@ module _ (script : Script) (slots : ℕ) (P : Part → Type 0) (keeps : Keeps sc
       alt = sides_hold tree.Alt keeps.alt;
       star = sides_hold tree.Star keeps.star;
       par = sides_hold tree.Par keeps.par;
+      disrupt = sides_hold tree.Disrupt keeps.disrupt;
       test = λ test violation x f scope known atom slot agrees free within.
           let own = site_faults script known Sent (tested sorts.Bool) test in
           let parts = append_none own (violation known) (append_none (own ++ violation known) [] free).0 in

@@ -59,6 +59,7 @@ module _ (script : Script) (sizes : List Size) (size : Proc → Size) where
   kept (layer.Alt x y) is = beside_kept x.0 y.0 x.1 y.1 x.2 y.2
   kept (layer.Star x y) is = beside_kept x.0 y.0 x.1 y.1 x.2 y.2
   kept (layer.Par x y) is = beside_kept x.0 y.0 x.1 y.1 x.2 y.2
+  kept (layer.Disrupt x y) is = beside_kept x.0 y.0 x.1 y.1 x.2 y.2
   kept (layer.If test x None) is = above_kept x.0 x.1 x.2
   kept (layer.If test x (Some y)) is = beside_kept x.0 y.0 x.1 y.1 x.2 y.2
   kept (layer.Let vars x) is = above_kept x.0 x.1 x.2

@@ -88,6 +88,7 @@ module _ (script : Script) (whole : Proc → Bool) (body : Proc → Expands) (kn
     alt = λ prefix back x y f b. sides_numbered tree.Alt (at.fold-Alt (List ℕ) atoms_step) prefix back x y f b;
     star = λ prefix back x y f b. sides_numbered tree.Star (at.fold-Star (List ℕ) atoms_step) prefix back x y f b;
     par = λ prefix back x y f b. sides_numbered tree.Par (at.fold-Par (List ℕ) atoms_step) prefix back x y f b;
+    disrupt = λ prefix back x y f b. sides_numbered tree.Disrupt (at.fold-Disrupt (List ℕ) atoms_step) prefix back x y f b;
     test = λ test prefix x f e scope atom slot.
         subst (λ numbers. AreNumbered atom numbers (length (x scope atom slot).atoms)) (sym (at.fold-If (List ℕ) atoms_step (expr_of scope test) (x scope atom slot).tree ∙ append-nil (tree_atoms (x scope atom slot).tree)))
         (f (and_parts prefix true e).0 scope atom slot);

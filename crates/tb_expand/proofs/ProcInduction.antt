@@ -6,7 +6,7 @@ use Rattle.tb_syntax.specs.declared.proc.Call.{Call}
 use Rattle.tb_syntax.specs.declared.proc.Var.{Var}
 use Rattle.tb_syntax.specs.declared.proc.Proc.{Proc, Proc-F, map-Proc, fold-Proc, fold-roll-Proc, ind-Proc, roll-Proc}
 use Rattle.tb_syntax.specs.declared.proc.Proc.TheVariants as proc
-use Rattle.tb_syntax.specs.declared.proc.Proc.TheVariants.{rolls-Atom, rolls-Call, rolls-Seq, rolls-Alt, rolls-Star, rolls-Par, rolls-If, rolls-Let}
+use Rattle.tb_syntax.specs.declared.proc.Proc.TheVariants.{rolls-Atom, rolls-Call, rolls-Seq, rolls-Alt, rolls-Star, rolls-Par, rolls-Disrupt, rolls-If, rolls-Let}
 use Rattle.tb_syntax.specs.declared.proc.Proc.TheOpen as layer
 
 abbrev Shown : (Proc → Type 0) → Type 0
@@ -25,6 +25,7 @@ pub record Inductive (P : Proc → Type 0) : Type 0 where
   pub alt : (x y : Proc) → P x → P y → P (proc.Alt x y)
   pub star : (x y : Proc) → P x → P y → P (proc.Star x y)
   pub par : (x y : Proc) → P x → P y → P (proc.Par x y)
+  pub disrupt : (x y : Proc) → P x → P y → P (proc.Disrupt x y)
   pub test : (test : Ast) (x : Proc) (y : Option Proc) → P x → OnSide P y → P (proc.If test x y)
   pub block : (vars : List Var) (x : Proc) → P x → P (proc.Let vars x)
 
@@ -40,6 +41,7 @@ proc_induction P each = ind-Proc P step where
   step x (layer.Alt p q) e = rolled x _ _ (sym (rolls-Alt p.0 q.0)) e (each.alt p.0 q.0 p.1 q.1)
   step x (layer.Star p q) e = rolled x _ _ (sym (rolls-Star p.0 q.0)) e (each.star p.0 q.0 p.1 q.1)
   step x (layer.Par p q) e = rolled x _ _ (sym (rolls-Par p.0 q.0)) e (each.par p.0 q.0 p.1 q.1)
+  step x (layer.Disrupt p q) e = rolled x _ _ (sym (rolls-Disrupt p.0 q.0)) e (each.disrupt p.0 q.0 p.1 q.1)
   step x (layer.If test p None) e = rolled x _ _ (sym (rolls-If test p.0 None)) e (each.test test p.0 None p.1 tt)
   step x (layer.If test p (Some q)) e = rolled x _ _ (sym (rolls-If test p.0 (Some q.0))) e (each.test test p.0 (Some q.0) p.1 q.1)
   step x (layer.Let vars p) e = rolled x _ _ (sym (rolls-Let vars p.0)) e (each.block vars p.0 p.1)
@@ -52,6 +54,7 @@ pub record Related (A B : Type 0) (one : Proc-F A → A) (other : Proc-F B → B
   pub alt : (x y : A) (v w : B) → R x v → R y w → R (one (layer.Alt x y)) (other (layer.Alt v w))
   pub star : (x y : A) (v w : B) → R x v → R y w → R (one (layer.Star x y)) (other (layer.Star v w))
   pub par : (x y : A) (v w : B) → R x v → R y w → R (one (layer.Par x y)) (other (layer.Par v w))
+  pub disrupt : (x y : A) (v w : B) → R x v → R y w → R (one (layer.Disrupt x y)) (other (layer.Disrupt v w))
   pub test : (test : Ast) (x : A) (v : B) → R x v → R (one (layer.If test x None)) (other (layer.If test v None))
   pub test_else : (test : Ast) (x y : A) (v w : B) → R x v → R y w → R (one (layer.If test x (Some y))) (other (layer.If test v (Some w)))
   pub block : (vars : List Var) (x : A) (v : B) → R x v → R (one (layer.Let vars x)) (other (layer.Let vars v))
@@ -72,6 +75,7 @@ folds_related A B one other R each = ind-Proc P step where
   layers (layer.Alt p q) = each.alt _ _ _ _ p.1 q.1
   layers (layer.Star p q) = each.star _ _ _ _ p.1 q.1
   layers (layer.Par p q) = each.par _ _ _ _ p.1 q.1
+  layers (layer.Disrupt p q) = each.disrupt _ _ _ _ p.1 q.1
   layers (layer.If test p None) = each.test test _ _ p.1
   layers (layer.If test p (Some q)) = each.test_else test _ _ _ _ p.1 q.1
   layers (layer.Let vars p) = each.block vars _ _ p.1

@@ -5,7 +5,7 @@ use Rattle.tb_body.specs.declared.tree.Tree.TheVariants as tree
 use Rattle.tb_syntax.specs.declared.ast.Ast.{Ast}
 use Rattle.tb_syntax.specs.declared.proc.Proc.{Proc, out-Proc}
 use Rattle.tb_syntax.specs.declared.proc.Proc.TheVariants as proc
-use Rattle.tb_syntax.specs.declared.proc.Proc.TheVariants.{outs-Seq, outs-Alt, outs-Star, outs-Par}
+use Rattle.tb_syntax.specs.declared.proc.Proc.TheVariants.{outs-Seq, outs-Alt, outs-Star, outs-Par, outs-Disrupt}
 use Rattle.tb_syntax.specs.declared.proc.Proc.TheOpen.{Proc-F}
 use Rattle.tb_syntax.specs.declared.proc.Proc.TheFolds.{fold_out-Proc, map-Proc}
 use Rattle.tb_syntax.specs.declared.script.Script.{Script}
@@ -37,6 +37,10 @@ part_of_star script body x y = opened script body _ _ (outs-Star x y)
 pub part_of_par : (script : Script) (body : Proc → Expands) (x y : Proc)
     → expands_with script body (proc.Par x y) ≡ both tree.Par (expands_with script body x) (expands_with script body y)
 part_of_par script body x y = opened script body _ _ (outs-Par x y)
+
+pub part_of_disrupt : (script : Script) (body : Proc → Expands) (x y : Proc)
+    → expands_with script body (proc.Disrupt x y) ≡ both tree.Disrupt (expands_with script body x) (expands_with script body y)
+part_of_disrupt script body x y = opened script body _ _ (outs-Disrupt x y)
 
 -- the same, where each part is known by another name
 pub sides_of : (script : Script) (body : Proc → Expands) (con : Proc → Proc → Proc) (join : Tree → Tree → Tree)

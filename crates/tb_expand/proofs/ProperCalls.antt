@@ -111,6 +111,7 @@ module _ (script : Script) where
   kept (layer.Alt x y) is known none name there = both_defined x.0 y.0 x.1 y.1 x.2 y.2 known none name there
   kept (layer.Star x y) is known none name there = both_defined x.0 y.0 x.1 y.1 x.2 y.2 known none name there
   kept (layer.Par x y) is known none name there = both_defined x.0 y.0 x.1 y.1 x.2 y.2 known none name there
+  kept (layer.Disrupt x y) is known none name there = both_defined x.0 y.0 x.1 y.1 x.2 y.2 known none name there
   kept (layer.If test x None) is known none name there =
       let tests = site_faults script known Sent (tested sorts.Bool) test in
       step (append_none tests (x.0 known) (append_none (tests ++ x.0 known) [] none).0).1 (Contains-append_cases x.1 [] name there) where

@@ -6,7 +6,7 @@ use Rattle.tb_terms.specs.declared.sort.Sort.{Sort}
 use Rattle.tb_body.specs.declared.tree.Setting.{Setting}
 use Rattle.tb_body.specs.declared.tree.Tree.{Tree, Tree-F, out-Tree, map-Tree, fold_out-Tree}
 use Rattle.tb_body.specs.declared.tree.Tree.TheVariants as tree
-use Rattle.tb_body.specs.declared.tree.Tree.TheVariants.{outs-At, outs-Seq, outs-Alt, outs-Star, outs-Par, outs-If, outs-Let}
+use Rattle.tb_body.specs.declared.tree.Tree.TheVariants.{outs-At, outs-Seq, outs-Alt, outs-Star, outs-Par, outs-Disrupt, outs-If, outs-Let}
 use Rattle.tb_body.specs.Trees.{tree_levels, levels_step}
 use Rattle.tb_syntax.specs.declared.ast.Ast.{Ast}
 use Rattle.tb_syntax.specs.declared.proc.Call.{Call}
@@ -42,6 +42,9 @@ star_levels x y = leveled _ _ (outs-Star x y)
 
 par_levels : HasLevel tree.Par
 par_levels x y = leveled _ _ (outs-Par x y)
+
+disrupt_levels : HasLevel tree.Disrupt
+disrupt_levels x y = leveled _ _ (outs-Disrupt x y)
 
 tested_levels : (test : Ast) (scope : Scope) → HasLevel (tested (expr_of scope test))
 tested_levels test scope x y = leveled _ _ (outs-If (expr_of scope test) x (Some y))
@@ -134,6 +137,7 @@ module _ (script : Script) (body : Proc → Expands) (size : Proc → Size) (kno
   layer_sized (layer.Alt x y) = both_sized tree.Alt alt_levels _ _ _ _ x.1 y.1
   layer_sized (layer.Star x y) = both_sized tree.Star star_levels _ _ _ _ x.1 y.1
   layer_sized (layer.Par x y) = both_sized tree.Par par_levels _ _ _ _ x.1 y.1
+  layer_sized (layer.Disrupt x y) = both_sized tree.Disrupt disrupt_levels _ _ _ _ x.1 y.1
   layer_sized (layer.If test x None) = test_sized test _ None _ None x.1 (tt {0})
   layer_sized (layer.If test x (Some y)) = test_sized test _ (Some _) _ (Some _) x.1 y.1
   layer_sized (layer.Let vars x) = block_sized vars _ _ x.1

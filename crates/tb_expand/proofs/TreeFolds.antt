@@ -4,7 +4,7 @@ use Rattle.tb_terms.specs.declared.expr.Expr.{Expr}
 use Rattle.tb_body.specs.declared.tree.Setting.{Setting}
 use Rattle.tb_body.specs.declared.tree.Tree.{Tree, Tree-F, map-Tree, fold-Tree, fold_out-Tree, out-Tree}
 use Rattle.tb_body.specs.declared.tree.Tree.TheVariants as tree
-use Rattle.tb_body.specs.declared.tree.Tree.TheVariants.{outs-At, outs-Seq, outs-Alt, outs-Star, outs-Par, outs-If, outs-Let}
+use Rattle.tb_body.specs.declared.tree.Tree.TheVariants.{outs-At, outs-Seq, outs-Alt, outs-Star, outs-Par, outs-Disrupt, outs-If, outs-Let}
 use Rattle.tb_body.specs.declared.tree.Tree.TheOpen as layer
 
 module _ (A : Type 0) (step : Tree-F A → A) where
@@ -28,6 +28,9 @@ module _ (A : Type 0) (step : Tree-F A → A) where
 
   pub fold-Par : (x y : Tree) → fold-Tree A step (tree.Par x y) ≡ step (layer.Par (fold-Tree A step x) (fold-Tree A step y))
   fold-Par x y = opened _ _ (outs-Par x y)
+
+  pub fold-Disrupt : (x y : Tree) → fold-Tree A step (tree.Disrupt x y) ≡ step (layer.Disrupt (fold-Tree A step x) (fold-Tree A step y))
+  fold-Disrupt x y = opened _ _ (outs-Disrupt x y)
 
   pub fold-If : (test : Expr) (x : Tree) → fold-Tree A step (tree.If test x None) ≡ step (layer.If test (fold-Tree A step x) None)
   fold-If test x = opened _ _ (outs-If test x None)

@@ -24,6 +24,7 @@ trees_kept script slots = record {
   alt = λ prefix back f b. at.fold-Alt Bool (tree_step slots) prefix.tree back.tree ∙ and_from _ _ f b;
   star = λ prefix back f b. at.fold-Star Bool (tree_step slots) prefix.tree back.tree ∙ and_from _ _ f b;
   par = λ prefix back f b. at.fold-Par Bool (tree_step slots) prefix.tree back.tree ∙ and_from _ _ f b;
+  disrupt = λ prefix back f b. at.fold-Disrupt Bool (tree_step slots) prefix.tree back.tree ∙ and_from _ _ f b;
   test = λ test part value f. at.fold-If Bool (tree_step slots) test part.tree ∙ and_from _ _ (and_from _ _ value f) refl;
   test_else = λ test prefix back value f b. at.fold-IfElse Bool (tree_step slots) test prefix.tree back.tree ∙ and_from _ _ (and_from _ _ value f) b;
   block = λ settings sorts part set f. at.fold-Let Bool (tree_step slots) settings part.tree ∙ and_from _ _ set f;

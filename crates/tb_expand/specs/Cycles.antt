@@ -1,7 +1,7 @@
 -- Which processes call which, and where calls form a cycle.
 use Rattle.std.specs.Prelude.{◌≡◌, ℕ, ◌<◌, List, [], ◌∷◌, ◌++◌, Contains, Option, Some, None}
 use Rattle.tb_syntax.specs.declared.proc.Proc.{Proc}
-use Rattle.tb_syntax.specs.declared.proc.Proc.TheOpen.{Proc-F, Atom, Call as CallOf, Seq, Alt, Star, Par, If, Let}
+use Rattle.tb_syntax.specs.declared.proc.Proc.TheOpen.{Proc-F, Atom, Call as CallOf, Seq, Alt, Star, Par, Disrupt, If, Let}
 use Rattle.tb_syntax.specs.declared.proc.Proc.TheFolds.{fold-Proc}
 use Rattle.tb_syntax.specs.declared.script.ProcDef.{ProcDef}
 use Rattle.tb_syntax.specs.declared.script.Script.{Script}
@@ -18,6 +18,7 @@ called_step (Seq x y) = x ++ y
 called_step (Alt x y) = x ++ y
 called_step (Star x y) = x ++ y
 called_step (Par x y) = x ++ y
+called_step (Disrupt x y) = x ++ y
 called_step (If test x y) = x ++ or_none y
 called_step (Let vars x) = x
 

@@ -12,7 +12,7 @@ use Rattle.tb_syntax.specs.declared.ast.Ast.{Ast}
 use Rattle.tb_syntax.specs.declared.proc.AtomDef.{AtomDef}
 use Rattle.tb_syntax.specs.declared.proc.Call.{Call}
 use Rattle.tb_syntax.specs.declared.proc.Proc.{Proc}
-use Rattle.tb_syntax.specs.declared.proc.Proc.TheOpen.{Proc-F, Atom as AtomOf, Call as CallOf, Seq, Alt, Star, Par, If, Let}
+use Rattle.tb_syntax.specs.declared.proc.Proc.TheOpen.{Proc-F, Atom as AtomOf, Call as CallOf, Seq, Alt, Star, Par, Disrupt, If, Let}
 use Rattle.tb_syntax.specs.declared.proc.Proc.TheFolds.{fold-Proc}
 use Rattle.tb_syntax.specs.declared.proc.Var.{Var}
 use Rattle.tb_syntax.specs.declared.script.Formal.{Formal}
@@ -117,6 +117,7 @@ proc_step script body (Seq x y) scope atom slot = both tree.Seq x y scope atom s
 proc_step script body (Alt x y) scope atom slot = both tree.Alt x y scope atom slot
 proc_step script body (Star x y) scope atom slot = both tree.Star x y scope atom slot
 proc_step script body (Par x y) scope atom slot = both tree.Par x y scope atom slot
+proc_step script body (Disrupt x y) scope atom slot = both tree.Disrupt x y scope atom slot
 proc_step script body (If test x y) scope atom slot = test_of test x y scope atom slot
 proc_step script body (Let vars x) scope atom slot = block_of vars x scope atom slot
 

@@ -40,19 +40,11 @@ fn push_called(names: &Names, proc: &Proc, into: &mut Positions) -> Result<(), N
             push_position(names, call, into)?;
             Ok(())
         }
-        Proc::Seq(x, y) => {
-            push_both(names, x.get(), y.get(), into)?;
-            Ok(())
-        }
-        Proc::Alt(x, y) => {
-            push_both(names, x.get(), y.get(), into)?;
-            Ok(())
-        }
-        Proc::Star(x, y) => {
-            push_both(names, x.get(), y.get(), into)?;
-            Ok(())
-        }
-        Proc::Par(x, y) => {
+        Proc::Seq(x, y)
+        | Proc::Alt(x, y)
+        | Proc::Star(x, y)
+        | Proc::Par(x, y)
+        | Proc::Disrupt(x, y) => {
             push_both(names, x.get(), y.get(), into)?;
             Ok(())
         }

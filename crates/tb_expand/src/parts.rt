@@ -54,6 +54,10 @@ pub(crate) fn part_of(
             let (x, y) = sides(alloc, names, depth, blocks, built, x.get(), y.get())?;
             Ok(Tree::Par(x, y))
         }
+        Proc::Disrupt(x, y) => {
+            let (x, y) = sides(alloc, names, depth, blocks, built, x.get(), y.get())?;
+            Ok(Tree::Disrupt(x, y))
+        }
         Proc::If(test, x, y) => Ok(if_part(alloc, names, depth, blocks, built, test, x.get(), y)?),
         Proc::Let(vars, x) => {
             let vars = vars.as_slice();

@@ -71,7 +71,11 @@ fn size_of_body(names: &Names, sizes: &[Size], body: &Proc) -> Size
     match body {
         Proc::Atom(_) => ATOM,
         Proc::Call(call) => size_of_call(names, sizes, call.name.as_bytes()),
-        Proc::Seq(x, y) | Proc::Alt(x, y) | Proc::Star(x, y) | Proc::Par(x, y) => {
+        Proc::Seq(x, y)
+        | Proc::Alt(x, y)
+        | Proc::Star(x, y)
+        | Proc::Par(x, y)
+        | Proc::Disrupt(x, y) => {
             let prefix = size_of_body(names, sizes, x.get());
             beside(prefix, size_of_body(names, sizes, y.get()))
         }

@@ -18,9 +18,10 @@ use Rattle.tb_lex.proofs.Numbers.{numeral_longest}
 use Rattle.tb_lex.proofs.Quotes.{string_longest}
 use Rattle.tb_lex.proofs.Symbols.{symbol_first, symbol_longest}
 
--- what follows a colon isn't the rest of another symbol
+-- what follows a colon or a `>` isn't the rest of another symbol
 abbrev pub SymbolApart : Symbol → List ℕ → Type 0
 SymbolApart symbol.Colon rest = begins_with 61 rest ≡ false
+SymbolApart symbol.Greater rest = begins_with 62 rest ≡ false
 SymbolApart _ rest = Unit {0}
 
 -- what follows a token doesn't go on with it
@@ -47,8 +48,9 @@ first_apart symbol.Question rest a = refl
 first_apart symbol.Plus rest a = refl
 first_apart symbol.Star rest a = refl
 first_apart symbol.Bars rest a = refl
+first_apart symbol.Angles rest a = refl
 first_apart symbol.Less rest a = refl
-first_apart symbol.Greater rest a = refl
+first_apart symbol.Greater rest a = ap (λ v. Some (cond v symbol.Angles symbol.Greater)) a
 
 -- a token whose text is followed so is the longest there
 pub kind_longest : (k : TokenKind) (text rest : List ℕ) → SpellsKind k text → Apart k rest → IsLongest text rest
@@ -86,8 +88,9 @@ blank_symbol symbol.Question rest = tt
 blank_symbol symbol.Plus rest = tt
 blank_symbol symbol.Star rest = tt
 blank_symbol symbol.Bars rest = tt
+blank_symbol symbol.Angles rest = tt
 blank_symbol symbol.Less rest = tt
-blank_symbol symbol.Greater rest = tt
+blank_symbol symbol.Greater rest = refl
 
 -- a blank goes on with no token
 pub blank_apart : (k : TokenKind) (rest : List ℕ) → Apart k (32 ∷ rest)

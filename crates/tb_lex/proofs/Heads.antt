@@ -92,6 +92,7 @@ symbol_begun symbol.Question text e = (63, [], e, (symbol.Question, e))
 symbol_begun symbol.Plus text e = (43, [], e, (symbol.Plus, e))
 symbol_begun symbol.Star text e = (42, [], e, (symbol.Star, e))
 symbol_begun symbol.Bars text e = (124, 124 ∷ [], e, (symbol.Bars, e))
+symbol_begun symbol.Angles text e = (62, 62 ∷ [], e, (symbol.Angles, e))
 symbol_begun symbol.Less text e = (60, [], e, (symbol.Less, e))
 symbol_begun symbol.Greater text e = (62, [], e, (symbol.Greater, e))
 

@@ -4,7 +4,7 @@ use Rattle.std.proofs.lemmas.Bool.{false≢true, eqb-true}
 use Rattle.std.proofs.lemmas.List.{length-append}
 use Rattle.tb_read.specs.Spelling.{is_blank}
 use Rattle.tb_lex.specs.Tokens.{symbol_text, IsPiece, IsLongest}
-use Rattle.tb_lex.specs.Helpers.Scanning.{begins_with, head_of, colon_of, bars_of, symbol_of}
+use Rattle.tb_lex.specs.Helpers.Scanning.{begins_with, head_of, colon_of, bars_of, greater_of, symbol_of}
 use Rattle.tb_lex.specs.declared.head.Head.TheVariants as head
 use Rattle.tb_lex.specs.declared.symbol.Symbol.{Symbol}
 use Rattle.tb_lex.specs.declared.symbol.Symbol.TheVariants as symbol
@@ -44,16 +44,20 @@ bars : (b : ℕ) (bytes : List ℕ) (s : Symbol) → eqb b 124 ≡ true → (v :
 bars b bytes s h true g e = two symbol.Bars 124 124 b bytes s refl h g e
 bars b bytes s h false g e = cc
 
+greater : (b : ℕ) (bytes : List ℕ) (s : Symbol) → eqb b 62 ≡ true → (v : Bool) → begins_with 62 bytes ≡ v → Some (cond v symbol.Angles symbol.Greater) ≡ Some s → BeginsSymbol (b ∷ bytes) s
+greater b bytes s h true g e = two symbol.Angles 62 62 b bytes s refl h g e
+greater b bytes s h false g e = one symbol.Greater 62 b bytes s refl h e
+
 -- the choice by the first byte, one test after another
-last_by : (b : ℕ) (bytes : List ℕ) (s : Symbol) (p q r t : Bool) → eqb b 42 ≡ p → eqb b 124 ≡ q → eqb b 60 ≡ r → eqb b 62 ≡ t → ◌≡◌ {A = Option Symbol} (cond p (Some symbol.Star) (cond q (bars_of bytes) (cond r (Some symbol.Less) (cond t (Some symbol.Greater) None)))) (Some s) → BeginsSymbol (b ∷ bytes) s
+last_by : (b : ℕ) (bytes : List ℕ) (s : Symbol) (p q r t : Bool) → eqb b 42 ≡ p → eqb b 124 ≡ q → eqb b 60 ≡ r → eqb b 62 ≡ t → ◌≡◌ {A = Option Symbol} (cond p (Some symbol.Star) (cond q (bars_of bytes) (cond r (Some symbol.Less) (cond t (Some (greater_of bytes)) None)))) (Some s) → BeginsSymbol (b ∷ bytes) s
 last_by b bytes s true q r t ep eq er et e = one symbol.Star 42 b bytes s refl ep e
 last_by b bytes s false true r t ep eq er et e = bars b bytes s eq (begins_with 124 bytes) refl e
 last_by b bytes s false false true t ep eq er et e = one symbol.Less 60 b bytes s refl er e
-last_by b bytes s false false false true ep eq er et e = one symbol.Greater 62 b bytes s refl et e
+last_by b bytes s false false false true ep eq er et e = greater b bytes s et (begins_with 62 bytes) refl e
 last_by b bytes s false false false false ep eq er et e = cc
 
 abbrev last_of : ℕ → List ℕ → Option Symbol
-last_of b bytes = cond (eqb b 42) (Some symbol.Star) (cond (eqb b 124) (bars_of bytes) (cond (eqb b 60) (Some symbol.Less) (cond (eqb b 62) (Some symbol.Greater) None)))
+last_of b bytes = cond (eqb b 42) (Some symbol.Star) (cond (eqb b 124) (bars_of bytes) (cond (eqb b 60) (Some symbol.Less) (cond (eqb b 62) (Some (greater_of bytes)) None)))
 
 mid_by : (b : ℕ) (bytes : List ℕ) (s : Symbol) (p q r t u w : Bool) → eqb b 44 ≡ p → eqb b 46 ≡ q → eqb b 58 ≡ r → eqb b 61 ≡ t → eqb b 63 ≡ u → eqb b 43 ≡ w → ◌≡◌ {A = Option Symbol} (cond p (Some symbol.Comma) (cond q (Some symbol.Point) (cond r (Some (colon_of bytes)) (cond t (Some symbol.Equals) (cond u (Some symbol.Question) (cond w (Some symbol.Plus) (last_of b bytes))))))) (Some s) → BeginsSymbol (b ∷ bytes) s
 mid_by b bytes s true q r t u w ep eq er et eu ew e = one symbol.Comma 44 b bytes s refl ep e
@@ -88,6 +92,10 @@ colon_most : (tail : List ℕ) (v : Bool) → begins_with 61 tail ≡ v → Most
 colon_most tail true e = (symbol.Assign, ap (λ v. Some (cond v symbol.Assign symbol.Colon)) e, lit≤ tt)
 colon_most tail false e = (symbol.Colon, ap (λ v. Some (cond v symbol.Assign symbol.Colon)) e, lit≤ tt)
 
+greater_most : (tail : List ℕ) (v : Bool) → begins_with 62 tail ≡ v → Most symbol.Greater tail
+greater_most tail true e = (symbol.Angles, ap (λ v. Some (cond v symbol.Angles symbol.Greater)) e, lit≤ tt)
+greater_most tail false e = (symbol.Greater, ap (λ v. Some (cond v symbol.Angles symbol.Greater)) e, lit≤ tt)
+
 pub most : (s : Symbol) (tail : List ℕ) → Most s tail
 most symbol.LeftParen tail = (symbol.LeftParen, refl, lit≤ tt)
 most symbol.RightParen tail = (symbol.RightParen, refl, lit≤ tt)
@@ -104,8 +112,9 @@ most symbol.Question tail = (symbol.Question, refl, lit≤ tt)
 most symbol.Plus tail = (symbol.Plus, refl, lit≤ tt)
 most symbol.Star tail = (symbol.Star, refl, lit≤ tt)
 most symbol.Bars tail = (symbol.Bars, refl, lit≤ tt)
+most symbol.Angles tail = (symbol.Angles, refl, lit≤ tt)
 most symbol.Less tail = (symbol.Less, refl, lit≤ tt)
-most symbol.Greater tail = (symbol.Greater, refl, lit≤ tt)
+most symbol.Greater tail = greater_most tail (begins_with 62 tail) refl
 
 -- the first byte of a symbol begins no other piece, no blanks and no comment
 abbrev pub SymbolHead : List ℕ → Type 0
@@ -127,6 +136,7 @@ symbol_head symbol.Question = (63, [], refl, refl, refl, refl)
 symbol_head symbol.Plus = (43, [], refl, refl, refl, refl)
 symbol_head symbol.Star = (42, [], refl, refl, refl, refl)
 symbol_head symbol.Bars = (124, 124 ∷ [], refl, refl, refl, refl)
+symbol_head symbol.Angles = (62, 62 ∷ [], refl, refl, refl, refl)
 symbol_head symbol.Less = (60, [], refl, refl, refl, refl)
 symbol_head symbol.Greater = (62, [], refl, refl, refl, refl)
 
@@ -162,6 +172,15 @@ colon_stops (x ∷ rest) l = by (eqb x 61) refl where
       let piece : IsPiece (58 ∷ x ∷ []) = inr (kind.Symbol symbol.Assign, ap (λ n. 58 ∷ n ∷ []) (eqb-true x 61 e)) in
       absurd (cons_nil x (l (x ∷ []) rest refl piece))
 
+greater_stops : (rest : List ℕ) → IsLongest (62 ∷ []) rest → begins_with 62 rest ≡ false
+greater_stops [] l = refl
+greater_stops (x ∷ rest) l = by (eqb x 62) refl where
+  by : (v : Bool) → eqb x 62 ≡ v → eqb x 62 ≡ false
+  by false e = e
+  by true e =
+      let piece : IsPiece (62 ∷ x ∷ []) = inr (kind.Symbol symbol.Angles, ap (λ n. 62 ∷ n ∷ []) (eqb-true x 62 e)) in
+      absurd (cons_nil x (l (x ∷ []) rest refl piece))
+
 -- the longest symbol is the one that is found
 pub symbol_taken : (s : Symbol) (rest : List ℕ) → IsLongest (symbol_text s) rest → symbol_first (symbol_text s ++ rest) ≡ Some s
 symbol_taken symbol.LeftParen rest l = refl
@@ -179,5 +198,6 @@ symbol_taken symbol.Question rest l = refl
 symbol_taken symbol.Plus rest l = refl
 symbol_taken symbol.Star rest l = refl
 symbol_taken symbol.Bars rest l = refl
+symbol_taken symbol.Angles rest l = refl
 symbol_taken symbol.Less rest l = refl
-symbol_taken symbol.Greater rest l = refl
+symbol_taken symbol.Greater rest l = ap (λ v. Some (cond v symbol.Angles symbol.Greater)) (greater_stops rest l)

@@ -30,6 +30,7 @@ symbol_text symbol.Question = 63 ∷ []
 symbol_text symbol.Plus = 43 ∷ []
 symbol_text symbol.Star = 42 ∷ []
 symbol_text symbol.Bars = 124 ∷ 124 ∷ []
+symbol_text symbol.Angles = 62 ∷ 62 ∷ []
 symbol_text symbol.Less = 60 ∷ []
 symbol_text symbol.Greater = 62 ∷ []
 

@@ -1,6 +1,6 @@
 ghost use Rattle.std.specs.Prelude.{◌≡◌, ◌≤◌, ℕ, length, Option, Some, None};
 ghost use Rattle.tb_lex.specs.Tokens.{symbol_text};
-ghost use Rattle.tb_lex.specs.Helpers.Scanning.{begins_with, colon_of, bars_of, symbol_of};
+ghost use Rattle.tb_lex.specs.Helpers.Scanning.{begins_with, colon_of, bars_of, greater_of, symbol_of};
 
 /// A symbol of a script.
 #[derive(Clone, Copy, Debug, PartialEq, Eq)]
@@ -35,6 +35,8 @@ pub enum Symbol {
     Star,
     /// `||`
     Bars,
+    /// `>>`
+    Angles,
     /// `<`
     Less,
     /// `>`
@@ -61,7 +63,7 @@ pub(crate) fn symbol_of(byte: u8, behind: &[u8]) -> Option<Symbol>
         b'*' => Some(Symbol::Star),
         b'|' => bars_of(behind),
         b'<' => Some(Symbol::Less),
-        b'>' => Some(Symbol::Greater),
+        b'>' => Some(greater_of(behind)),
         _ => None,
     }
 }
@@ -71,7 +73,7 @@ pub(crate) fn symbol_len(symbol: Symbol) -> usize
     ensures { result ≡ length (symbol_text symbol) }
 {
     match symbol {
-        Symbol::Assign | Symbol::Bars => 2,
+        Symbol::Assign | Symbol::Bars | Symbol::Angles => 2,
         _ => 1,
     }
 }
@@ -93,6 +95,16 @@ fn bars_of(behind: &[u8]) -> Option<Symbol>
         Some(Symbol::Bars)
     } else {
         None
+    }
+}
+
+fn greater_of(behind: &[u8]) -> Symbol
+    ensures { result ≡ greater_of behind.now }
+{
+    if begins_with(b'>', behind) {
+        Symbol::Angles
+    } else {
+        Symbol::Greater
     }
 }
 

@@ -4,7 +4,7 @@ use Rattle.std.specs.Str.{bytes_eq}
 use Rattle.tb_lex.specs.declared.kind.TokenKind.{TokenKind}
 use Rattle.tb_lex.specs.declared.kind.TokenKind.TheVariants.{Int, Str, Lower, Upper, Symbol as Sign}
 use Rattle.tb_lex.specs.declared.symbol.Symbol.{Symbol}
-use Rattle.tb_lex.specs.declared.symbol.Symbol.TheVariants.{LeftParen, RightParen, Comma, Point, Colon, Assign, Plus, Star, Bars}
+use Rattle.tb_lex.specs.declared.symbol.Symbol.TheVariants.{LeftParen, RightParen, Comma, Point, Colon, Assign, Plus, Star, Bars, Angles}
 use Rattle.tb_syntax.specs.declared.ast.Ast.{Ast}
 use Rattle.tb_syntax.specs.declared.proc.ActDef.{ActDef}
 use Rattle.tb_syntax.specs.declared.proc.ActDef.TheVariants as act
@@ -13,7 +13,7 @@ use Rattle.tb_syntax.specs.declared.proc.Proc.{Proc}
 use Rattle.tb_syntax.specs.declared.proc.Proc.TheVariants as tree
 use Rattle.tb_syntax.specs.declared.proc.TimeDef.{TimeDef}
 use Rattle.tb_syntax.specs.Words.{is_atom_word, is_time_word}
-use Rattle.tb_parse.specs.Helpers.Parsing.{Parser, Found, after, mapped, is_sign, is_word, expect, skip, expr, create, time, times, timed, var, upper_proc, block, sides, conditional, lower_proc, prim_of, rightward, leftward, turns, sequence, choice, merge, prim, proc}
+use Rattle.tb_parse.specs.Helpers.Parsing.{Parser, Found, after, mapped, is_sign, is_word, expect, skip, expr, create, time, times, timed, var, upper_proc, block, sides, conditional, lower_proc, prim_of, rightward, leftward, turns, sequence, choice, merge, transfer, prim, proc}
 use Rattle.tb_parse.proofs.Alike.{Alike, Same, fewer, moved, if_alike, after_alike, finding, branch, skipped, expected, roomless, by_token, next_alike, mapping, behind}
 use Rattle.tb_parse.proofs.AlikeParts.{stops_there, upper_alike, parted_alike, in_parens_alike, sort_alike}
 use Rattle.tb_parse.proofs.AlikeExprs.{expr_alike, call_of_alike, call_alike}
@@ -103,6 +103,10 @@ module _ {item same : Parser Proc} (room more count : ℕ) (h : count ≤ room) 
   unfolding merge
   merge_alike = rightward_alike Bars tree.Par room more count h i choice_alike
 
+  transfer_alike : Same count (transfer item room) (transfer same more)
+  unfolding transfer
+  transfer_alike = rightward_alike Angles tree.Disrupt room more count h i merge_alike
+
 -- What stands by itself.
 
 module _ (room more count : ℕ) (h : count ≤ room) (i : room ≤ more) where
@@ -162,8 +166,8 @@ prim_alike (suc room) zero count h i = absurd (omega arith)
 prim_alike (suc room) (suc more) count h i =
     let less : count - 1 ≤ room = omega arith in
     let inner : room ≤ more = omega arith in
-    fewer count (omega arith) (prim_of_alike room more (count - 1) less inner (merge_alike room more (count - 1) less inner (prim_alike room more (count - 1) less inner)))
+    fewer count (omega arith) (prim_of_alike room more (count - 1) less inner (transfer_alike room more (count - 1) less inner (prim_alike room more (count - 1) less inner)))
 
 pub proc_alike : (room more count : ℕ) → count ≤ room → room ≤ more → Same count (proc room) (proc more)
 unfolding proc
-proc_alike room more count h i = merge_alike room more count h i (prim_alike room more count h i)
+proc_alike room more count h i = transfer_alike room more count h i (prim_alike room more count h i)

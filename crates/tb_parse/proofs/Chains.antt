@@ -4,7 +4,7 @@ use Rattle.tb_syntax.specs.declared.proc.Proc.{Proc}
 use Rattle.tb_parse.specs.declared.built.Built.{Built}
 use Rattle.tb_parse.specs.declared.built.Chain.{Chain}
 use Rattle.tb_parse.specs.declared.built.Chain.TheVariants as chain
-use Rattle.tb_parse.specs.Helpers.Parsing.{Outcome, Found, Stops, Parser, after, mapped, begins, is_sign, tail, rightward, merge, choice, sequence}
+use Rattle.tb_parse.specs.Helpers.Parsing.{Outcome, Found, Stops, Parser, after, mapped, begins, is_sign, tail, rightward, transfer, merge, choice, sequence}
 use Rattle.tb_parse.specs.Helpers.Heights.{built, as_built, both, joined, join_of, sign_of, chained, member}
 use Rattle.tb_parse.specs.Helpers.Reading.{Ahead, runs, next, eaten}
 use Rattle.tb_parse.proofs.Trees.{built_link, seen, unseen}
@@ -20,7 +20,8 @@ ChainSoFar link room start prefix turn ahead =
     runs (as_built (chained link room)) start ≡ mapped (joined (join_of link) prefix) (runs (as_built (rest_of link room (room - turn))) ahead)
 
 chain_is : (link : Chain) (room : ℕ) (start : Ahead) → runs (as_built (chained link room)) start ≡ runs (as_built (rest_of link room room)) start
-unfolding merge choice sequence
+unfolding transfer merge choice sequence
+chain_is chain.Disrupt room start = refl
 chain_is chain.Par room start = refl
 chain_is chain.Alt room start = refl
 chain_is chain.Seq room start = refl

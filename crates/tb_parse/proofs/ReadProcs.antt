@@ -4,7 +4,7 @@ use Rattle.std.proofs.lemmas.List.{length-append}
 use Rattle.tb_lex.specs.declared.kind.TokenKind.{TokenKind}
 use Rattle.tb_lex.specs.declared.kind.TokenKind.TheVariants.{Lower, Upper, Symbol as Sign}
 use Rattle.tb_lex.specs.declared.symbol.Symbol.{Symbol}
-use Rattle.tb_lex.specs.declared.symbol.Symbol.TheVariants.{LeftParen, RightParen, Point, Question, Assign, Plus, Star, Bars}
+use Rattle.tb_lex.specs.declared.symbol.Symbol.TheVariants.{LeftParen, RightParen, Point, Question, Assign, Plus, Star, Bars, Angles}
 use Rattle.tb_syntax.specs.declared.ast.Ast.{Ast}
 use Rattle.tb_syntax.specs.declared.level.Level.{Level}
 use Rattle.tb_syntax.specs.declared.level.Level.TheVariants as level
@@ -14,7 +14,7 @@ use Rattle.tb_syntax.specs.declared.proc.Proc.{Proc}
 use Rattle.tb_syntax.specs.declared.proc.Proc.TheVariants as tree
 use Rattle.tb_syntax.specs.declared.proc.Var.{Var}
 use Rattle.tb_syntax.specs.Spelling.{Parted, SpellsExpr, SpellsArguments, SpellsCall, SpellsAtom, SpellsProc}
-use Rattle.tb_parse.specs.Helpers.Parsing.{Parser, Found, after, mapped, begins, is_sign, parted, expr, is_time, var, upper_proc, block, sides, conditional, lower_proc, prim_of, rightward, leftward, turns, sequence, choice, merge, prim, proc}
+use Rattle.tb_parse.specs.Helpers.Parsing.{Parser, Found, after, mapped, begins, is_sign, parted, expr, is_time, var, upper_proc, block, sides, conditional, lower_proc, prim_of, rightward, leftward, turns, sequence, choice, merge, transfer, prim, proc}
 use Rattle.tb_parse.proofs.Signs.{its_own}
 use Rattle.tb_parse.proofs.ReadParts.{either, neither, arrives, read, read_last, Reads, parted_map, parted_reads}
 use Rattle.tb_parse.proofs.ReadExprs.{on_expr, expr_reads, call_of_reads}
@@ -34,8 +34,11 @@ on_seq = either (is_sign Point) on_star
 abbrev on_alt : TokenKind → Bool
 on_alt = either (is_sign Plus) on_seq
 
+abbrev on_par : TokenKind → Bool
+on_par = either (is_sign Bars) on_alt
+
 abbrev pub on_proc : TokenKind → Bool
-on_proc = either (is_sign Bars) on_alt
+on_proc = either (is_sign Angles) on_par
 
 -- Processes with a sign between them.
 
@@ -64,8 +67,10 @@ At level.Seq at x xs = (inner wide room : ℕ) → length xs < inner → length 
     → rightward Point tree.Seq (turns (prim inner) wide) room at (xs ++ more) ≡ Found x (at + length xs) more
 At level.Alt at x xs = (inner wide room : ℕ) → length xs < inner → length xs < wide → length xs < room → (more : List TokenKind) → begins on_alt more ≡ false
     → rightward Plus tree.Alt (sequence (prim inner) wide) room at (xs ++ more) ≡ Found x (at + length xs) more
-At level.Proc at x xs = (inner wide room : ℕ) → length xs < inner → length xs < wide → length xs < room → (more : List TokenKind) → begins on_proc more ≡ false
+At level.Par at x xs = (inner wide room : ℕ) → length xs < inner → length xs < wide → length xs < room → (more : List TokenKind) → begins on_par more ≡ false
     → rightward Bars tree.Par (choice (prim inner) wide) room at (xs ++ more) ≡ Found x (at + length xs) more
+At level.Proc at x xs = (inner wide room : ℕ) → length xs < inner → length xs < wide → length xs < room → (more : List TokenKind) → begins on_proc more ≡ false
+    → rightward Angles tree.Disrupt (merge (prim inner) wide) room at (xs ++ more) ≡ Found x (at + length xs) more
 
 -- one with stars, as a whole
 ended : (item : Parser Proc) (left n m : ℕ) (x : Proc) (at : ℕ) (more : List TokenKind) → n < m → m ≤ left + n → begins (is_sign Star) more ≡ false → leftward item left x at more ≡ Found x at more
@@ -136,32 +141,48 @@ alt_whole : (at : ℕ) (x : Proc) (xs : List TokenKind) → At level.Alt at x xs
 unfolding choice
 alt_whole at x xs d inner wide h i more e = d inner wide wide h i i more e
 
-proc_one : (at : ℕ) (x : Proc) (xs : List TokenKind) → At level.Alt at x xs → At level.Proc at x xs
-proc_one at x xs d inner wide room h i j more e =
+par_one : (at : ℕ) (x : Proc) (xs : List TokenKind) → At level.Alt at x xs → At level.Par at x xs
+par_one at x xs d inner wide room h i j more e =
     let parts = neither (is_sign Bars) on_alt more e in
     right_last Bars tree.Par (choice (prim inner) wide) at x xs room j more (alt_whole at x xs d inner wide h i more parts.1) parts.0
 
-proc_more : (at : ℕ) (x y : Proc) (xs ys : List TokenKind) → At level.Alt at x xs → At level.Proc (at + length xs + 1) y ys → At level.Proc at (tree.Par x y) (xs ++ Sign Bars ∷ ys)
-proc_more at x y xs ys d f inner wide room h i j more e =
+par_more : (at : ℕ) (x y : Proc) (xs ys : List TokenKind) → At level.Alt at x xs → At level.Par (at + length xs + 1) y ys → At level.Par at (tree.Par x y) (xs ++ Sign Bars ∷ ys)
+par_more at x y xs ys d f inner wide room h i j more e =
     let sum = length-append xs (Sign Bars ∷ ys) in
     right_more Bars tree.Par (choice (prim inner) wide) at x y xs ys room j more (alt_whole at x xs d inner wide (omega arith) (omega arith) (Sign Bars ∷ (ys ++ more)) refl)
     (λ n k. f inner wide n (omega arith) (omega arith) k more e)
 
-merge_reads : (at : ℕ) (x : Proc) (xs : List TokenKind) → At level.Proc at x xs → (inner wide : ℕ) → length xs < inner → length xs < wide → (more : List TokenKind) → begins on_proc more ≡ false
+par_whole : (at : ℕ) (x : Proc) (xs : List TokenKind) → At level.Par at x xs → (inner wide : ℕ) → length xs < inner → length xs < wide → (more : List TokenKind) → begins on_par more ≡ false
     → merge (prim inner) wide at (xs ++ more) ≡ Found x (at + length xs) more
 unfolding merge
-merge_reads at x xs d inner wide h i more e = d inner wide wide h i i more e
+par_whole at x xs d inner wide h i more e = d inner wide wide h i i more e
+
+proc_one : (at : ℕ) (x : Proc) (xs : List TokenKind) → At level.Par at x xs → At level.Proc at x xs
+proc_one at x xs d inner wide room h i j more e =
+    let parts = neither (is_sign Angles) on_par more e in
+    right_last Angles tree.Disrupt (merge (prim inner) wide) at x xs room j more (par_whole at x xs d inner wide h i more parts.1) parts.0
+
+proc_more : (at : ℕ) (x y : Proc) (xs ys : List TokenKind) → At level.Par at x xs → At level.Proc (at + length xs + 1) y ys → At level.Proc at (tree.Disrupt x y) (xs ++ Sign Angles ∷ ys)
+proc_more at x y xs ys d f inner wide room h i j more e =
+    let sum = length-append xs (Sign Angles ∷ ys) in
+    right_more Angles tree.Disrupt (merge (prim inner) wide) at x y xs ys room j more (par_whole at x xs d inner wide (omega arith) (omega arith) (Sign Angles ∷ (ys ++ more)) refl)
+    (λ n k. f inner wide n (omega arith) (omega arith) k more e)
+
+transfer_reads : (at : ℕ) (x : Proc) (xs : List TokenKind) → At level.Proc at x xs → (inner wide : ℕ) → length xs < inner → length xs < wide → (more : List TokenKind) → begins on_proc more ≡ false
+    → transfer (prim inner) wide at (xs ++ more) ≡ Found x (at + length xs) more
+unfolding transfer
+transfer_reads at x xs d inner wide h i more e = d inner wide wide h i i more e
 
 -- What stands by itself.
 
 prim_by : (at : ℕ) (x : Proc) (xs : List TokenKind)
-    → ((room : ℕ) → length xs ≤ room → (more : List TokenKind) → begins on_prim more ≡ false → prim_of (merge (prim room) room) room at (xs ++ more) ≡ Found x (at + length xs) more) → At level.Prim at x xs
+    → ((room : ℕ) → length xs ≤ room → (more : List TokenKind) → begins on_prim more ≡ false → prim_of (transfer (prim room) room) room at (xs ++ more) ≡ Found x (at + length xs) more) → At level.Prim at x xs
 unfolding prim
 prim_by at x xs h zero i more e = absurd (omega arith)
 prim_by at x xs h (suc room) i more e = h room (omega arith) more e
 
 abbrev Whole : ℕ → Parser Proc
-Whole room = merge (prim room) room
+Whole room = transfer (prim room) room
 
 abbrev PrimOf : ℕ → Proc → List TokenKind → Type 0
 PrimOf at x xs = (room : ℕ) → length xs ≤ room → (more : List TokenKind) → begins on_prim more ≡ false → prim_of (Whole room) room at (xs ++ more) ≡ Found x (at + length xs) more
@@ -182,7 +203,7 @@ parens_reads : (at : ℕ) (x : Proc) (xs : List TokenKind) → At level.Proc (at
 unfolding prim_of
 parens_reads at x xs d room h more e =
     let sum = length-append xs (Sign RightParen ∷ []) in
-    read (Whole room) _ xs (Sign RightParen ∷ []) more refl (merge_reads (at + 1) x xs d room room (omega arith) (omega arith) (Sign RightParen ∷ more) refl) (arrives (omega arith))
+    read (Whole room) _ xs (Sign RightParen ∷ []) more refl (transfer_reads (at + 1) x xs d room room (omega arith) (omega arith) (Sign RightParen ∷ more) refl) (arrives (omega arith))
 
 arguments_open : {at : ℕ} {xs : List Ast} {ks : List TokenKind} → SpellsArguments at xs ks → (more : List TokenKind) → begins (is_sign Assign) more ≡ false → begins (is_sign Assign) (ks ++ more) ≡ false
 arguments_open (SpellsArguments.none at) more e = e
@@ -208,7 +229,7 @@ block_reads at vars vs x xs d f room h more e =
     read (parted (var room) room) _ vs (Lower (codes "in") ∷ (xs ++ Lower (codes "endlet") ∷ [])) more refl
     (parted_reads var (is_sign LeftParen) refl d room room (omega arith) (omega arith) (Lower (codes "in") ∷ ((xs ++ Lower (codes "endlet") ∷ []) ++ more)) refl refl)
     (read (Whole room) _ {at = at + length vs + 2} xs (Lower (codes "endlet") ∷ []) more (omega arith)
-    (merge_reads (at + length vs + 2) x xs f room room (omega arith) (omega arith) (Lower (codes "endlet") ∷ more) refl) (arrives (omega arith)))
+    (transfer_reads (at + length vs + 2) x xs f room room (omega arith) (omega arith) (Lower (codes "endlet") ∷ more) refl) (arrives (omega arith)))
 
 test_reads : (at : ℕ) (t : Ast) (es : List TokenKind) (x : Proc) (xs : List TokenKind) → SpellsExpr (at + 1) t es → At level.Proc (at + length es + 2) x xs
     → PrimOf at (tree.If t x None) (test_tokens es xs)
@@ -219,7 +240,7 @@ test_reads at t es x xs d f room h more e =
     read (expr room) _ es (Lower (codes "then") ∷ (xs ++ Lower (codes "fi") ∷ [])) more refl
     ((expr_reads d).reads room (omega arith) (Lower (codes "then") ∷ ((xs ++ Lower (codes "fi") ∷ []) ++ more)) refl)
     (read (Whole room) (sides (Whole room) t) {at = at + length es + 2} xs (Lower (codes "fi") ∷ []) more (omega arith)
-    (merge_reads (at + length es + 2) x xs f room room (omega arith) (omega arith) (Lower (codes "fi") ∷ more) refl) (arrives (omega arith)))
+    (transfer_reads (at + length es + 2) x xs f room room (omega arith) (omega arith) (Lower (codes "fi") ∷ more) refl) (arrives (omega arith)))
 
 else_reads : (at : ℕ) (t : Ast) (es : List TokenKind) (x y : Proc) (xs ys : List TokenKind) → SpellsExpr (at + 1) t es → At level.Proc (at + length es + 2) x xs → At level.Proc (at + length es + length xs + 3) y ys
     → PrimOf at (tree.If t x (Some y)) (else_tokens es xs ys)
@@ -231,9 +252,9 @@ else_reads at t es x y xs ys d f g room h more e =
     read (expr room) _ es (Lower (codes "then") ∷ (xs ++ Lower (codes "else") ∷ (ys ++ Lower (codes "fi") ∷ []))) more refl
     ((expr_reads d).reads room (omega arith) (Lower (codes "then") ∷ ((xs ++ Lower (codes "else") ∷ (ys ++ Lower (codes "fi") ∷ [])) ++ more)) refl)
     (read (Whole room) (sides (Whole room) t) {at = at + length es + 2} xs (Lower (codes "else") ∷ (ys ++ Lower (codes "fi") ∷ [])) more (omega arith)
-    (merge_reads (at + length es + 2) x xs f room room (omega arith) (omega arith) (Lower (codes "else") ∷ ((ys ++ Lower (codes "fi") ∷ []) ++ more)) refl)
+    (transfer_reads (at + length es + 2) x xs f room room (omega arith) (omega arith) (Lower (codes "else") ∷ ((ys ++ Lower (codes "fi") ∷ []) ++ more)) refl)
     (read (Whole room) _ {at = at + length es + length xs + 3} ys (Lower (codes "fi") ∷ []) more (omega arith)
-    (merge_reads (at + length es + length xs + 3) y ys g room room (omega arith) (omega arith) (Lower (codes "fi") ∷ more) refl) (arrives (omega arith))))
+    (transfer_reads (at + length es + length xs + 3) y ys g room room (omega arith) (omega arith) (Lower (codes "fi") ∷ more) refl) (arrives (omega arith))))
 
 prim_at : (at : ℕ) (x : Proc) (xs : List TokenKind) → PrimOf at x xs → At level.Prim at x xs
 prim_at at x xs h = prim_by at x xs h
@@ -244,8 +265,10 @@ atom_at at a ks d room h more e =
     atom_reads d (Whole room) room h more parts.0 (neither (is_sign Assign) is_time more parts.1).1
 
 at_level : {l : Level} {at : ℕ} {p : Proc} {ks : List TokenKind} → SpellsProc l at p ks → At l at p ks
-at_level (SpellsProc.one_alt {at = at} {x = x} {xs = xs} d) = proc_one at x xs (at_level d)
-at_level (SpellsProc.par {at = at} {x = x} {y = y} {xs = xs} {ys = ys} d f) = proc_more at x y xs ys (at_level d) (at_level f)
+at_level (SpellsProc.one_par {at = at} {x = x} {xs = xs} d) = proc_one at x xs (at_level d)
+at_level (SpellsProc.disrupt {at = at} {x = x} {y = y} {xs = xs} {ys = ys} d f) = proc_more at x y xs ys (at_level d) (at_level f)
+at_level (SpellsProc.one_alt {at = at} {x = x} {xs = xs} d) = par_one at x xs (at_level d)
+at_level (SpellsProc.par {at = at} {x = x} {y = y} {xs = xs} {ys = ys} d f) = par_more at x y xs ys (at_level d) (at_level f)
 at_level (SpellsProc.one_seq {at = at} {x = x} {xs = xs} d) = alt_one at x xs (at_level d)
 at_level (SpellsProc.choice {at = at} {x = x} {y = y} {xs = xs} {ys = ys} d f) = alt_more at x y xs ys (at_level d) (at_level f)
 at_level (SpellsProc.one_star {at = at} {x = x} {xs = xs} d) = seq_one at x xs (at_level d)
@@ -261,4 +284,4 @@ at_level (SpellsProc.test_else {at = at} {e = t} {es = es} {x = x} {y = y} {xs =
 
 pub proc_reads : {at : ℕ} {p : Proc} {ks : List TokenKind} → SpellsProc level.Proc at p ks → (room : ℕ) → length ks < room → (more : List TokenKind) → begins on_proc more ≡ false → proc room at (ks ++ more) ≡ Found p (at + length ks) more
 unfolding proc
-proc_reads {at = at} {p = p} {ks = ks} d room h more e = merge_reads at p ks (at_level d) room room h h more e
+proc_reads {at = at} {p = p} {ks = ks} d room h more e = transfer_reads at p ks (at_level d) room room h h more e

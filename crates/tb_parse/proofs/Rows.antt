@@ -37,6 +37,7 @@ use Rattle.tb_parse.specs.Helpers.Parsing.{
   sequence,
   choice,
   merge,
+  transfer,
   prim,
   proc,
   formal,
@@ -60,15 +61,15 @@ loop_found : script 10 0 (loop (Sign RightParen ∷ [])) ≡ Found (record {
   tools = [];
   roots = record { name = codes "P"; actuals = []; token = 8 } ∷ [];
 }) 10 []
-unfolding free_name parted in_parens word_sort sort hole list kind expr call_of call create time times timed var upper_proc block sides conditional lower_proc prim_of rightward leftward turns sequence choice merge prim proc formal process command tool definitions roots script
+unfolding free_name parted in_parens word_sort sort hole list kind expr call_of call create time times timed var upper_proc block sides conditional lower_proc prim_of rightward leftward turns sequence choice merge transfer prim proc formal process command tool definitions roots script
 loop_found = refl
 
 -- the last parenthesis is missing
 cut_off : script 9 0 (loop []) ≡ Stops 9
-unfolding free_name parted in_parens word_sort sort hole list kind expr call_of call create time times timed var upper_proc block sides conditional lower_proc prim_of rightward leftward turns sequence choice merge prim proc formal process command tool definitions roots script
+unfolding free_name parted in_parens word_sort sort hole list kind expr call_of call create time times timed var upper_proc block sides conditional lower_proc prim_of rightward leftward turns sequence choice merge transfer prim proc formal process command tool definitions roots script
 cut_off = refl
 
 -- one star too many
 two_stars : script 8 0 (Lower (codes "process") ∷ Upper (codes "P") ∷ Lower (codes "is") ∷ Lower (codes "tau") ∷ Sign Star ∷ Sign Star ∷ Lower (codes "delta") ∷ Lower (codes "toolbus") ∷ []) ≡ Stops 5
-unfolding free_name parted in_parens word_sort sort hole list kind expr call_of call create time times timed var upper_proc block sides conditional lower_proc prim_of rightward leftward turns sequence choice merge prim proc formal process command tool definitions roots script
+unfolding free_name parted in_parens word_sort sort hole list kind expr call_of call create time times timed var upper_proc block sides conditional lower_proc prim_of rightward leftward turns sequence choice merge transfer prim proc formal process command tool definitions roots script
 two_stars = refl

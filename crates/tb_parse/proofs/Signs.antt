@@ -6,13 +6,13 @@ use Rattle.std.proofs.lemmas.Bool.Decides.{Decides-eqb}
 use Rattle.tb_lex.specs.declared.kind.TokenKind.{TokenKind}
 use Rattle.tb_lex.specs.declared.kind.TokenKind.TheVariants.{Int, Str, Lower, Upper, Symbol as Sign}
 use Rattle.tb_lex.specs.declared.symbol.Symbol.{Symbol}
-use Rattle.tb_lex.specs.declared.symbol.Symbol.TheVariants.{LeftParen, RightParen, LeftBracket, RightBracket, LeftBrace, RightBrace, Comma, Point, Colon, Assign, Equals, Question, Plus, Star, Bars, Less, Greater}
+use Rattle.tb_lex.specs.declared.symbol.Symbol.TheVariants.{LeftParen, RightParen, LeftBracket, RightBracket, LeftBrace, RightBrace, Comma, Point, Colon, Assign, Equals, Question, Plus, Star, Bars, Angles, Less, Greater}
 use Rattle.tb_parse.specs.Helpers.Parsing.{sign_code, is_sign, is_word}
 
 signs : List Symbol
 signs =
     LeftParen ∷ RightParen ∷ LeftBracket ∷ RightBracket ∷ LeftBrace ∷ RightBrace ∷ Comma ∷ Point ∷ Colon ∷ Assign ∷ Equals ∷ Question
-    ∷ Plus ∷ Star ∷ Bars ∷ Less ∷ Greater ∷ []
+    ∷ Plus ∷ Star ∷ Bars ∷ Angles ∷ Less ∷ Greater ∷ []
 
 sign_at : ℕ → Symbol
 sign_at code = get_or signs code LeftParen
@@ -34,6 +34,7 @@ at_code Question = refl
 at_code Plus = refl
 at_code Star = refl
 at_code Bars = refl
+at_code Angles = refl
 at_code Less = refl
 at_code Greater = refl
 

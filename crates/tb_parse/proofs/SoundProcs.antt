@@ -5,7 +5,7 @@ use Rattle.std.specs.Str.{bytes_eq}
 use Rattle.tb_lex.specs.declared.kind.TokenKind.{TokenKind}
 use Rattle.tb_lex.specs.declared.kind.TokenKind.TheVariants.{Int, Str, Lower, Upper, Symbol as Sign}
 use Rattle.tb_lex.specs.declared.symbol.Symbol.{Symbol}
-use Rattle.tb_lex.specs.declared.symbol.Symbol.TheVariants.{LeftParen, RightParen, Point, Assign, Plus, Star, Bars}
+use Rattle.tb_lex.specs.declared.symbol.Symbol.TheVariants.{LeftParen, RightParen, Point, Assign, Plus, Star, Bars, Angles}
 use Rattle.tb_syntax.specs.declared.level.Level.{Level}
 use Rattle.tb_syntax.specs.declared.level.Level.TheVariants as level
 use Rattle.tb_syntax.specs.declared.proc.ActDef.TheVariants as act
@@ -13,7 +13,7 @@ use Rattle.tb_syntax.specs.declared.proc.Proc.{Proc}
 use Rattle.tb_syntax.specs.declared.proc.Proc.TheVariants as tree
 use Rattle.tb_syntax.specs.Spelling.{SpellsArguments, SpellsVar, SpellsAct, SpellsProc}
 use Rattle.tb_syntax.specs.Words.{is_atom_word}
-use Rattle.tb_parse.specs.Helpers.Parsing.{Parser, Outcome, Stops, after, mapped, is_sign, is_word, expect, in_parens, expr, create, timed, var, upper_proc, block, sides, conditional, lower_proc, prim_of, rightward, leftward, turns, sequence, choice, merge, prim, proc}
+use Rattle.tb_parse.specs.Helpers.Parsing.{Parser, Outcome, Stops, after, mapped, is_sign, is_word, expect, in_parens, expr, create, timed, var, upper_proc, block, sides, conditional, lower_proc, prim_of, rightward, leftward, turns, sequence, choice, merge, transfer, prim, proc}
 use Rattle.tb_parse.proofs.Signs.{is_that_sign, same_name}
 use Rattle.tb_parse.proofs.Fits.{Fits, Opens, found, stops, opens, token, behind, mapping, weaker, with_sign, with_word, skip_word, expect_sign, expect_word}
 use Rattle.tb_parse.proofs.SoundLists.{Sound, nothing_more, parted_sound}
@@ -63,10 +63,15 @@ unfolding choice
 choice_sound item h room =
     rightward_sound Plus tree.Alt (SpellsProc level.Seq) (SpellsProc level.Alt) (λ at x xs d. SpellsProc.one_seq d) (λ at x y xs ys d e. SpellsProc.choice d e) (sequence item room) (sequence_sound item h room) room
 
-merge_sound : (item : Parser Proc) → Sound (SpellsProc level.Prim) item → (room : ℕ) → Sound (SpellsProc level.Proc) (merge item room)
+merge_sound : (item : Parser Proc) → Sound (SpellsProc level.Prim) item → (room : ℕ) → Sound (SpellsProc level.Par) (merge item room)
 unfolding merge
 merge_sound item h room =
-    rightward_sound Bars tree.Par (SpellsProc level.Alt) (SpellsProc level.Proc) (λ at x xs d. SpellsProc.one_alt d) (λ at x y xs ys d e. SpellsProc.par d e) (choice item room) (choice_sound item h room) room
+    rightward_sound Bars tree.Par (SpellsProc level.Alt) (SpellsProc level.Par) (λ at x xs d. SpellsProc.one_alt d) (λ at x y xs ys d e. SpellsProc.par d e) (choice item room) (choice_sound item h room) room
+
+transfer_sound : (item : Parser Proc) → Sound (SpellsProc level.Prim) item → (room : ℕ) → Sound (SpellsProc level.Proc) (transfer item room)
+unfolding transfer
+transfer_sound item h room =
+    rightward_sound Angles tree.Disrupt (SpellsProc level.Par) (SpellsProc level.Proc) (λ at x xs d. SpellsProc.one_par d) (λ at x y xs ys d e. SpellsProc.disrupt d e) (merge item room) (merge_sound item h room) room
 
 -- What stands by itself.
 
@@ -151,8 +156,8 @@ prim_of_sound whole h room at (Sign symbol ∷ ks) = parens_by whole h at symbol
 prim_sound : (room : ℕ) → Sound (SpellsProc level.Prim) (prim room)
 unfolding prim
 prim_sound zero at ks = stops (no_prim at)
-prim_sound (suc room) at ks = prim_of_sound (merge (prim room) room) (merge_sound (prim room) (prim_sound room) room) room at ks
+prim_sound (suc room) at ks = prim_of_sound (transfer (prim room) room) (transfer_sound (prim room) (prim_sound room) room) room at ks
 
 pub proc_sound : (room : ℕ) → Sound (SpellsProc level.Proc) (proc room)
 unfolding proc
-proc_sound room = merge_sound (prim room) (prim_sound room) room
+proc_sound room = transfer_sound (prim room) (prim_sound room) room

@@ -8,7 +8,7 @@ use Rattle.tb_syntax.specs.declared.proc.Call.{Call}
 use Rattle.tb_syntax.specs.declared.proc.Var.{Var}
 use Rattle.tb_syntax.specs.declared.proc.Proc.{Proc, out-Proc}
 use Rattle.tb_syntax.specs.declared.proc.Proc.TheVariants as tree
-use Rattle.tb_syntax.specs.declared.proc.Proc.TheVariants.{outs-Atom, outs-Call, outs-Seq, outs-Alt, outs-Star, outs-Par, outs-If, outs-Let}
+use Rattle.tb_syntax.specs.declared.proc.Proc.TheVariants.{outs-Atom, outs-Call, outs-Seq, outs-Alt, outs-Star, outs-Par, outs-Disrupt, outs-If, outs-Let}
 use Rattle.tb_syntax.specs.declared.proc.Proc.TheOpen.{Proc-F}
 use Rattle.tb_syntax.specs.declared.proc.Proc.TheFolds.{fold_out-Proc, map-Proc}
 use Rattle.tb_syntax.specs.Limits.{height, height_step}
@@ -101,6 +101,7 @@ unfolding built
 built_one make x e = ap (shown (make x)) e ∙ shown_one make x (height x)
 
 pub built_link : (link : Chain) (x y : Proc) → built (join_of link x y) ≡ both (join_of link) (built x) (built y)
+built_link chain.Disrupt x y = built_both tree.Disrupt x y (height_of _ _ (outs-Disrupt x y))
 built_link chain.Par x y = built_both tree.Par x y (height_of _ _ (outs-Par x y))
 built_link chain.Alt x y = built_both tree.Alt x y (height_of _ _ (outs-Alt x y))
 built_link chain.Seq x y = built_both tree.Seq x y (height_of _ _ (outs-Seq x y))

@@ -22,6 +22,7 @@ pub(crate) enum Built {
 /// An operator behind whose first side all the rest is its second.
 #[derive(Clone, Copy, PartialEq, Eq)]
 pub(crate) enum Chain {
+    Disrupt,
     Par,
     Alt,
     Seq,
@@ -92,6 +93,7 @@ fn join(chain: Chain, x: Boxed<Proc>, y: Boxed<Proc>) -> Proc
     ensures { result ≡ join_of chain x y }
 {
     match chain {
+        Chain::Disrupt => Proc::Disrupt(x, y),
         Chain::Par => Proc::Par(x, y),
         Chain::Alt => Proc::Alt(x, y),
         Chain::Seq => Proc::Seq(x, y),

@@ -2,7 +2,7 @@ ghost use Rattle.std.specs.Prelude.{◌≡◌, IfOk};
 ghost use Rattle.tb_syntax.specs.declared.proc.Proc.{Proc};
 ghost use Rattle.tb_syntax.specs.declared.proc.Proc.TheVariants as tree;
 ghost use Rattle.tb_parse.specs.declared.built.Built.{Built};
-ghost use Rattle.tb_parse.specs.Helpers.Parsing.{proc, prim, merge, turns, prim_of, lower_proc, upper_proc, timed, block, conditional, sides};
+ghost use Rattle.tb_parse.specs.Helpers.Parsing.{proc, prim, transfer, turns, prim_of, lower_proc, upper_proc, timed, block, conditional, sides};
 ghost use Rattle.tb_parse.specs.Helpers.Heights.{built, as_built, creation, chained, member, sign_of};
 ghost use Rattle.tb_parse.specs.Helpers.Reading.{Meets, runs};
 
@@ -25,7 +25,7 @@ pub(crate) fn proc(
 ) -> Result<Built, ParseFault>
     ensures { Meets (runs (as_built (proc room)) reader.old) result reader.new }
 {
-    chain(alloc, reader, room, Chain::Par)
+    chain(alloc, reader, room, Chain::Disrupt)
 }
 
 /// The members of a chain, with its operator between each two.
@@ -54,6 +54,7 @@ fn sign_of(link: Chain) -> Symbol
     ensures { result ≡ sign_of link }
 {
     match link {
+        Chain::Disrupt => Symbol::Angles,
         Chain::Par => Symbol::Bars,
         Chain::Alt => Symbol::Plus,
         Chain::Seq => Symbol::Point,
@@ -71,6 +72,7 @@ fn member(
     ensures { Meets (runs (as_built (member link room)) reader.old) result reader.new }
 {
     match link {
+        Chain::Disrupt => chain(alloc, reader, room, Chain::Par),
         Chain::Par => chain(alloc, reader, room, Chain::Alt),
         Chain::Alt => chain(alloc, reader, room, Chain::Seq),
         Chain::Seq => turns(alloc, reader, room),
@@ -109,7 +111,7 @@ fn prim(alloc: Global, reader: &mut Reader<'_, '_>, room: usize) -> Result<Built
 #[cycle(procs)]
 fn prim_of(alloc: Global, reader: &mut Reader<'_, '_>, room: usize) -> Result<Built, ParseFault>
     ensures { Meets
-        (runs (as_built (prim_of (merge (prim room) room) room)) reader.old) result reader.new }
+        (runs (as_built (prim_of (transfer (prim room) room) room)) reader.old) result reader.new }
 {
     let token = reader.position();
     match reader.take() {
@@ -119,7 +121,7 @@ fn prim_of(alloc: Global, reader: &mut Reader<'_, '_>, room: usize) -> Result<Bu
             upper_proc(alloc, reader, room, name, token)
         }
         Some(TokenKind::Symbol(Symbol::LeftParen)) => {
-            let whole = chain(alloc, reader, room, Chain::Par)?;
+            let whole = chain(alloc, reader, room, Chain::Disrupt)?;
             reader.skip_sign(Symbol::RightParen)?;
             Ok(whole)
         }
@@ -191,7 +193,7 @@ fn lower_proc(
     token: usize,
 ) -> Result<Built, ParseFault>
     ensures { Meets
-        (runs (as_built (lower_proc (merge (prim room) room) room name.now token)) reader.old)
+        (runs (as_built (lower_proc (transfer (prim room) room) room name.now token)) reader.old)
         result reader.new }
 {
     let word = name.as_bytes();
@@ -217,11 +219,11 @@ fn lower_proc(
 #[cycle(procs)]
 fn block(alloc: Global, reader: &mut Reader<'_, '_>, room: usize) -> Result<Built, ParseFault>
     ensures { Meets
-        (runs (as_built (block (merge (prim room) room) room)) reader.old) result reader.new }
+        (runs (as_built (block (transfer (prim room) room) room)) reader.old) result reader.new }
 {
     let vars = vars(alloc, reader, room)?;
     reader.skip_word(b"in")?;
-    let x = chain(alloc, reader, room, Chain::Par)?;
+    let x = chain(alloc, reader, room, Chain::Disrupt)?;
     reader.skip_word(b"endlet")?;
     Ok(within(alloc, vars, x)?)
 }
@@ -231,11 +233,11 @@ fn block(alloc: Global, reader: &mut Reader<'_, '_>, room: usize) -> Result<Buil
 #[cycle(procs)]
 fn test(alloc: Global, reader: &mut Reader<'_, '_>, room: usize) -> Result<Built, ParseFault>
     ensures { Meets
-        (runs (as_built (conditional (merge (prim room) room) room)) reader.old) result reader.new }
+        (runs (as_built (conditional (transfer (prim room) room) room)) reader.old) result reader.new }
 {
     let value = expr(alloc, reader, room)?;
     reader.skip_word(b"then")?;
-    let x = chain(alloc, reader, room, Chain::Par)?;
+    let x = chain(alloc, reader, room, Chain::Disrupt)?;
     sides(alloc, reader, room, value, x)
 }
 
@@ -250,13 +252,13 @@ fn sides(
     x: Built,
 ) -> Result<Built, ParseFault>
     ensures { (p : Proc) → x ≡ built p → Meets
-        (runs (as_built (sides (merge (prim room) room) test p)) reader.old) result reader.new }
+        (runs (as_built (sides (transfer (prim room) room) test p)) reader.old) result reader.new }
 {
     if !reader.eat_word(b"else") {
         reader.skip_word(b"fi")?;
         return Ok(only(alloc, test, x)?);
     }
-    let y = chain(alloc, reader, room, Chain::Par)?;
+    let y = chain(alloc, reader, room, Chain::Disrupt)?;
     reader.skip_word(b"fi")?;
     Ok(either(alloc, test, x, y)?)
 }

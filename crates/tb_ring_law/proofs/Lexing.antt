@@ -53,8 +53,9 @@ symbol-apart sign.Question rest e = tt
 symbol-apart sign.Plus rest e = tt
 symbol-apart sign.Star rest e = tt
 symbol-apart sign.Bars rest e = tt
+symbol-apart sign.Angles rest e = tt
 symbol-apart sign.Less rest e = tt
-symbol-apart sign.Greater rest e = tt
+symbol-apart sign.Greater rest e = not-true (begins_with 62 rest) e
 
 apart : (kind : TokenKind) (rest : List ℕ) → is_apart kind rest ≡ true → Apart kind rest
 apart (Int number) rest e = let both = and_parts (eqb (prefix_len is_digit rest) 0) (not (begins_with 46 rest)) e in (eqb-eq _ both.0, no-point rest (not-true _ both.1))

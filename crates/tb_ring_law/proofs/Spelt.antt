@@ -64,9 +64,12 @@ delta = Lower (codes "delta") ∷ []
 delta-spelt : (token : ℕ) → SpellsProc level.Prim token (atom_at token (codes "delta") []) delta
 delta-spelt token = atom-spelt token (codes "delta") [] [] refl (SpellsArguments.none (token + 1))
 
+seq-whole : {token : ℕ} {x : Proc} {xs : Kinds} → SpellsProc level.Seq token x xs → SpellsProc level.Proc token x xs
+seq-whole s = SpellsProc.one_par (SpellsProc.one_alt (SpellsProc.one_seq s))
+
 seq-spelt : (token : ℕ) (x y : Proc) (xs ys : Kinds) → SpellsProc level.Prim token x xs → SpellsProc level.Prim (token + length xs + 1) y ys → SpellsProc level.Proc token (tree.Seq x y) (xs ++ Sign sign.Point ∷ ys)
 seq-spelt token x y xs ys s t =
-    SpellsProc.one_alt (SpellsProc.one_seq (SpellsProc.sequence {x = x} {y = y} {xs = xs} {ys = ys} (SpellsProc.one_prim s) (SpellsProc.one_star (SpellsProc.one_prim t))))
+    seq-whole (SpellsProc.sequence {x = x} {y = y} {xs = xs} {ys = ys} (SpellsProc.one_prim s) (SpellsProc.one_star (SpellsProc.one_prim t)))
 
 star-spelt : (token : ℕ) (x y : Proc) (xs ys : Kinds) → SpellsProc level.Prim token x xs → SpellsProc level.Prim (token + length xs + 1) y ys → SpellsProc level.Star token (tree.Star x y) (xs ++ Sign sign.Star ∷ ys)
 star-spelt token x y xs ys s t = SpellsProc.turns {x = x} {y = y} {xs = xs} {ys = ys} (SpellsProc.one_prim s) t
@@ -80,13 +83,12 @@ in_let ks = Lower (codes "let") ∷ ((Upper (codes "T") ∷ Sign sign.Colon ∷ 
 
 let-spelt : (token : ℕ) (x : Proc) (xs : Kinds) → SpellsProc level.Proc (token + 3 + 2) x xs → SpellsProc level.Proc token (tree.Let (var_t (token + 1) ∷ []) x) (in_let xs)
 let-spelt token x xs s =
-    SpellsProc.one_alt
-    (SpellsProc.one_seq
+    seq-whole
     (SpellsProc.one_star
     (SpellsProc.one_prim
     (SpellsProc.block {vars = var_t (token + 1) ∷ []} {vs = Upper (codes "T") ∷ Sign sign.Colon ∷ word (codes "int")} {x = x} {xs = xs}
     (Parted.last (var-t-spelt (token + 1)))
-    s))))
+    s)))
 
 abbrev rec_msg : TokenKind → Kinds
 rec_msg from = Lower (codes "rec-msg") ∷ in_parens ((from ∷ []) ++ comma ∷ (Upper (codes "T") ∷ Sign sign.Question ∷ []))
@@ -115,7 +117,7 @@ node-turn : SpellsProc level.Prim 17 node_turn_tree (in_parens node_turn)
 node-turn = SpellsProc.parens {x = node_turn_tree} {xs = node_turn} (seq-spelt 18 _ _ (rec_msg (Upper (codes "I"))) (snd_msg (Upper (codes "J")) (of_t (codes "add") 1)) node-receives node-sends)
 
 node-loop : SpellsProc level.Proc 17 (tree.Star node_turn_tree (atom_at 39 (codes "delta") [])) node_loop
-node-loop = SpellsProc.one_alt (SpellsProc.one_seq (SpellsProc.one_star (star-spelt 17 _ _ (in_parens node_turn) delta node-turn (delta-spelt 39))))
+node-loop = seq-whole (SpellsProc.one_star (star-spelt 17 _ _ (in_parens node_turn) delta node-turn (delta-spelt 39)))
 
 node-body : SpellsProc level.Proc 12 node_body (in_let node_loop)
 node-body = let-spelt 12 _ node_loop node-loop
@@ -151,20 +153,18 @@ module _ (messages : ℕ) where
 
   first-sends-on : SpellsProc level.Proc 73 (atom_at 73 (codes "snd-msg") (number_at 75 2 ∷ add_at 77 ∷ [])) sends_on
   first-sends-on =
-      SpellsProc.one_alt
-      (SpellsProc.one_seq
+      seq-whole
       (SpellsProc.one_star
-      (SpellsProc.one_prim (atom-spelt 73 (codes "snd-msg") _ _ refl (two-arguments 74 _ _ (Int (pos 2) ∷ []) (of_t (codes "add") 1) (number-spelt 75 2) (of-t-spelt 77 1 (codes "add") refl))))))
+      (SpellsProc.one_prim (atom-spelt 73 (codes "snd-msg") _ _ refl (two-arguments 74 _ _ (Int (pos 2) ∷ []) (of_t (codes "add") 1) (number-spelt 75 2) (of-t-spelt 77 1 (codes "add") refl)))))
 
   done-spelt : SpellsExpr 87 (at 87 (ast.Appl (codes "done") [])) (Lower (codes "done") ∷ [])
   done-spelt = SpellsExpr.expr (SpellsKind.appl (codes "done") refl (SpellsArguments.none 88))
 
   first-ends : SpellsProc level.Proc 85 (atom_at 85 (codes "shutdown") (at 87 (ast.Appl (codes "done") []) ∷ [])) shutdown
   first-ends =
-      SpellsProc.one_alt
-      (SpellsProc.one_seq
+      seq-whole
       (SpellsProc.one_star
-      (SpellsProc.one_prim (atom-spelt 85 (codes "shutdown") _ _ refl (one-argument 86 _ (Lower (codes "done") ∷ []) done-spelt)))))
+      (SpellsProc.one_prim (atom-spelt 85 (codes "shutdown") _ _ refl (one-argument 86 _ (Lower (codes "done") ∷ []) done-spelt))))
 
   first-tests : SpellsProc level.Prim 65 (test_part messages) test_kinds
   first-tests =
@@ -201,7 +201,7 @@ module _ (messages : ℕ) where
   first_all = begins ++ Sign sign.Point ∷ first_loop
 
   first-body : SpellsProc level.Proc 44 (first_body messages) (in_let first_all)
-  first-body = let-spelt 44 _ first_all (SpellsProc.one_alt (SpellsProc.one_seq (SpellsProc.sequence {xs = begins} {ys = first_loop} first-begins first-loop)))
+  first-body = let-spelt 44 _ first_all (seq-whole (SpellsProc.sequence {xs = begins} {ys = first_loop} first-begins first-loop))
 
   first-def : SpellsProcDef 41 (first_def messages) (kinds_in (first_pieces messages))
   first-def = record { position = refl; formals = []; are_formals = InParens.none 43; body = in_let first_all; is_body = first-body; is = refl }

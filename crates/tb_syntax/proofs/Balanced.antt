@@ -7,7 +7,7 @@ use Rattle.std.proofs.lemmas.List.Sums.{sum_by-append, count_by-le-length}
 use Rattle.tb_terms.specs.declared.sort.Sort.{Sort}
 use Rattle.tb_lex.specs.declared.kind.TokenKind.{TokenKind}
 use Rattle.tb_lex.specs.declared.kind.TokenKind.TheVariants.{Int, Str, Lower, Upper, Symbol as Sign}
-use Rattle.tb_lex.specs.declared.symbol.Symbol.TheVariants.{LeftParen, RightParen, LeftBracket, RightBracket, LeftBrace, RightBrace, Comma, Point, Colon, Assign, Equals, Question, Plus, Star, Bars, Less, Greater}
+use Rattle.tb_lex.specs.declared.symbol.Symbol.TheVariants.{LeftParen, RightParen, LeftBracket, RightBracket, LeftBrace, RightBrace, Comma, Point, Colon, Assign, Equals, Question, Plus, Star, Bars, Angles, Less, Greater}
 use Rattle.tb_syntax.specs.declared.ast.Ast.{Ast}
 use Rattle.tb_syntax.specs.declared.ast.AstKind.{AstKind}
 use Rattle.tb_syntax.specs.declared.level.Level.{Level}
@@ -184,6 +184,8 @@ var_balanced : (at : ℕ) (var : Var) (ks : List TokenKind) → SpellsVar at var
 var_balanced at var ks d = subst IsBalanced (sym d.is) (behind (Upper var.name) _ (refl, refl) (behind (Sign Colon) d.sort (refl, refl) (sort_balanced d.is_sort)))
 
 pub proc_balanced : {at : Level} {position : ℕ} {p : Proc} {kinds : List TokenKind} → SpellsProc at position p kinds → IsBalanced kinds
+proc_balanced (SpellsProc.one_par d) = proc_balanced d
+proc_balanced (SpellsProc.disrupt {xs = xs} {ys = ys} d f) = apart xs (Sign Angles) ys (refl, refl) (proc_balanced d) (proc_balanced f)
 proc_balanced (SpellsProc.one_alt d) = proc_balanced d
 proc_balanced (SpellsProc.par {xs = xs} {ys = ys} d f) = apart xs (Sign Bars) ys (refl, refl) (proc_balanced d) (proc_balanced f)
 proc_balanced (SpellsProc.one_seq d) = proc_balanced d

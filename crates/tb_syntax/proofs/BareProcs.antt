@@ -6,7 +6,7 @@ use Rattle.tb_syntax.specs.declared.proc.Call.{Call}
 use Rattle.tb_syntax.specs.declared.proc.Var.{Var}
 use Rattle.tb_syntax.specs.declared.proc.Proc.{Proc, out-Proc}
 use Rattle.tb_syntax.specs.declared.proc.Proc.TheVariants as tree
-use Rattle.tb_syntax.specs.declared.proc.Proc.TheVariants.{outs-Atom, outs-Call, outs-Seq, outs-Alt, outs-Star, outs-Par, outs-If, outs-Let}
+use Rattle.tb_syntax.specs.declared.proc.Proc.TheVariants.{outs-Atom, outs-Call, outs-Seq, outs-Alt, outs-Star, outs-Par, outs-Disrupt, outs-If, outs-Let}
 use Rattle.tb_syntax.specs.declared.proc.Proc.TheOpen.{Proc-F}
 use Rattle.tb_syntax.specs.declared.proc.Proc.TheFolds.{fold_out-Proc, map-Proc}
 use Rattle.tb_syntax.specs.Positions.{bare_proc, bare_proc_step, bare_atom, bare_call, bare_expr, bare_var}
@@ -34,6 +34,9 @@ bare_of_star x y = opened _ _ (outs-Star x y)
 
 pub bare_of_par : (x y : Proc) → bare_proc (tree.Par x y) ≡ tree.Par (bare_proc x) (bare_proc y)
 bare_of_par x y = opened _ _ (outs-Par x y)
+
+pub bare_of_disrupt : (x y : Proc) → bare_proc (tree.Disrupt x y) ≡ tree.Disrupt (bare_proc x) (bare_proc y)
+bare_of_disrupt x y = opened _ _ (outs-Disrupt x y)
 
 pub bare_of_if : (test : Ast) (x : Proc) (y : Option Proc) → bare_proc (tree.If test x y) ≡ tree.If (bare_expr test) (bare_proc x) (option_map bare_proc y)
 bare_of_if test x None = opened _ _ (outs-If test x None)

@@ -2,7 +2,7 @@
 use Rattle.std.proofs.Common.{◌≡◌, ℕ, ◌+◌, List, [], ◌∷◌, ◌++◌, true, refl, subst, sym, codes}
 use Rattle.tb_lex.specs.declared.kind.TokenKind.{TokenKind}
 use Rattle.tb_lex.specs.declared.kind.TokenKind.TheVariants.{Lower, Upper, Symbol as Sign}
-use Rattle.tb_lex.specs.declared.symbol.Symbol.TheVariants.{LeftParen, RightParen, Point, Plus}
+use Rattle.tb_lex.specs.declared.symbol.Symbol.TheVariants.{LeftParen, RightParen, Point, Plus, Bars, Angles}
 use Rattle.tb_syntax.specs.declared.level.Level.TheVariants as level
 use Rattle.tb_syntax.specs.declared.proc.ActDef.TheVariants as act
 use Rattle.tb_syntax.specs.declared.proc.AtomDef.{AtomDef}
@@ -43,7 +43,18 @@ choice_spelt =
     let first : SpellsProc level.Seq 3 (tree.Atom (plain (codes "tau") 3)) tau = SpellsProc.one_star (SpellsProc.one_prim (plain_spelt (codes "tau") 3 refl)) in
     let second : SpellsProc level.Star 5 (tree.Atom (plain (codes "tau") 5)) tau = SpellsProc.one_prim (plain_spelt (codes "tau") 5 refl) in
     let third : SpellsProc level.Seq 7 (tree.Atom (plain (codes "delta") 7)) delta = SpellsProc.one_star (SpellsProc.one_prim (plain_spelt (codes "delta") 7 refl)) in
-    SpellsProc.one_alt (SpellsProc.choice first (SpellsProc.one_seq (SpellsProc.sequence second third)))
+    SpellsProc.one_par (SpellsProc.one_alt (SpellsProc.choice first (SpellsProc.one_seq (SpellsProc.sequence second third))))
+
+abbrev transfer : ℕ → Proc
+transfer at = tree.Disrupt (tree.Par (tree.Atom (plain (codes "tau") at)) (tree.Atom (plain (codes "tau") (at + 2)))) (tree.Atom (plain (codes "delta") (at + 4)))
+
+-- tau || tau >> delta: what is disrupted is the merge
+transfer_spelt : SpellsProc level.Proc 3 (transfer 3) ((tau ++ Sign Bars ∷ tau) ++ Sign Angles ∷ delta)
+transfer_spelt =
+    let first : SpellsProc level.Alt 3 (tree.Atom (plain (codes "tau") 3)) tau = SpellsProc.one_seq (SpellsProc.one_star (SpellsProc.one_prim (plain_spelt (codes "tau") 3 refl))) in
+    let second : SpellsProc level.Par 5 (tree.Atom (plain (codes "tau") 5)) tau = SpellsProc.one_alt (SpellsProc.one_seq (SpellsProc.one_star (SpellsProc.one_prim (plain_spelt (codes "tau") 5 refl)))) in
+    let third : SpellsProc level.Par 7 (tree.Atom (plain (codes "delta") 7)) delta = SpellsProc.one_alt (SpellsProc.one_seq (SpellsProc.one_star (SpellsProc.one_prim (plain_spelt (codes "delta") 7 refl)))) in
+    SpellsProc.disrupt (SpellsProc.par first second) (SpellsProc.one_par third)
 
 -- process A is tau + tau . delta toolbus ( )
 pub process_spelt : Spells (record { procs = record { name = codes "A"; formals = []; body = choice 3; token = 0 } ∷ []; tools = []; roots = [] })
@@ -55,4 +66,4 @@ process_spelt =
 
 -- ( tau ) at the same position is the same process: its position is that of the name
 in_parens_spelt : SpellsProc level.Prim 3 (tree.Atom (plain (codes "tau") 4)) (Sign LeftParen ∷ Lower (codes "tau") ∷ Sign RightParen ∷ [])
-in_parens_spelt = SpellsProc.parens (SpellsProc.one_alt (SpellsProc.one_seq (SpellsProc.one_star (SpellsProc.one_prim (plain_spelt (codes "tau") 4 refl)))))
+in_parens_spelt = SpellsProc.parens (SpellsProc.one_par (SpellsProc.one_alt (SpellsProc.one_seq (SpellsProc.one_star (SpellsProc.one_prim (plain_spelt (codes "tau") 4 refl))))))

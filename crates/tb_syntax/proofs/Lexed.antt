@@ -33,42 +33,42 @@ spelled (Sign s) e = refl
 pub data Breaks : List ℕ → Type 0 where
   newline : (rest : List ℕ) → Breaks (10 ∷ rest)
   blank : (rest : List ℕ) → Breaks (32 ∷ rest)
-  left_paren : (rest : List ℕ) → Breaks (40 ∷ rest)
   right_paren : (rest : List ℕ) → Breaks (41 ∷ rest)
   comma : (rest : List ℕ) → Breaks (44 ∷ rest)
-  greater : (rest : List ℕ) → Breaks (62 ∷ rest)
   question : (rest : List ℕ) → Breaks (63 ∷ rest)
   right_bracket : (rest : List ℕ) → Breaks (93 ∷ rest)
 
 no_name : (rest : List ℕ) → Breaks rest → prefix_len is_name_byte rest ≡ 0
 no_name _ (Breaks.newline rest) = refl
 no_name _ (Breaks.blank rest) = refl
-no_name _ (Breaks.left_paren rest) = refl
 no_name _ (Breaks.right_paren rest) = refl
 no_name _ (Breaks.comma rest) = refl
-no_name _ (Breaks.greater rest) = refl
 no_name _ (Breaks.question rest) = refl
 no_name _ (Breaks.right_bracket rest) = refl
 
 no_digit : (rest : List ℕ) → Breaks rest → prefix_len is_digit rest ≡ 0
 no_digit _ (Breaks.newline rest) = refl
 no_digit _ (Breaks.blank rest) = refl
-no_digit _ (Breaks.left_paren rest) = refl
 no_digit _ (Breaks.right_paren rest) = refl
 no_digit _ (Breaks.comma rest) = refl
-no_digit _ (Breaks.greater rest) = refl
 no_digit _ (Breaks.question rest) = refl
 no_digit _ (Breaks.right_bracket rest) = refl
 
 no_equals : (rest : List ℕ) → Breaks rest → begins_with 61 rest ≡ false
 no_equals _ (Breaks.newline rest) = refl
 no_equals _ (Breaks.blank rest) = refl
-no_equals _ (Breaks.left_paren rest) = refl
 no_equals _ (Breaks.right_paren rest) = refl
 no_equals _ (Breaks.comma rest) = refl
-no_equals _ (Breaks.greater rest) = refl
 no_equals _ (Breaks.question rest) = refl
 no_equals _ (Breaks.right_bracket rest) = refl
+
+no_greater : (rest : List ℕ) → Breaks rest → begins_with 62 rest ≡ false
+no_greater _ (Breaks.newline rest) = refl
+no_greater _ (Breaks.blank rest) = refl
+no_greater _ (Breaks.right_paren rest) = refl
+no_greater _ (Breaks.comma rest) = refl
+no_greater _ (Breaks.question rest) = refl
+no_greater _ (Breaks.right_bracket rest) = refl
 
 starts_point : (rest : List ℕ) → HasPoint rest → begins_with 46 rest ≡ true
 starts_point rest p = ap (begins_with 46) p.2
@@ -76,10 +76,8 @@ starts_point rest p = ap (begins_with 46) p.2
 no_point_begins : (rest : List ℕ) → Breaks rest → begins_with 46 rest ≡ false
 no_point_begins _ (Breaks.newline rest) = refl
 no_point_begins _ (Breaks.blank rest) = refl
-no_point_begins _ (Breaks.left_paren rest) = refl
 no_point_begins _ (Breaks.right_paren rest) = refl
 no_point_begins _ (Breaks.comma rest) = refl
-no_point_begins _ (Breaks.greater rest) = refl
 no_point_begins _ (Breaks.question rest) = refl
 no_point_begins _ (Breaks.right_bracket rest) = refl
 
@@ -87,32 +85,6 @@ no_point : (rest : List ℕ) → Breaks rest → HasPoint rest → ⊥
 no_point rest b p = let e : ◌≡◌ {A = Bool} false true = sym (no_point_begins rest b) ∙ starts_point rest p in absurd (apart_by e) where
   apart_by : ◌≡◌ {A = Bool} false true → ⊥
   apart_by e = cc
-
-apart_symbol : (s : Symbol) (rest : List ℕ) → Breaks rest → SymbolApart s rest
-apart_symbol symbol.Colon rest b = no_equals rest b
-apart_symbol symbol.LeftParen rest b = tt
-apart_symbol symbol.RightParen rest b = tt
-apart_symbol symbol.LeftBracket rest b = tt
-apart_symbol symbol.RightBracket rest b = tt
-apart_symbol symbol.LeftBrace rest b = tt
-apart_symbol symbol.RightBrace rest b = tt
-apart_symbol symbol.Comma rest b = tt
-apart_symbol symbol.Point rest b = tt
-apart_symbol symbol.Assign rest b = tt
-apart_symbol symbol.Equals rest b = tt
-apart_symbol symbol.Question rest b = tt
-apart_symbol symbol.Plus rest b = tt
-apart_symbol symbol.Star rest b = tt
-apart_symbol symbol.Bars rest b = tt
-apart_symbol symbol.Less rest b = tt
-apart_symbol symbol.Greater rest b = tt
-
-apart_by_break : (k : TokenKind) (rest : List ℕ) → Breaks rest → Apart k rest
-apart_by_break (Int number) rest b = (no_digit rest b, no_point rest b)
-apart_by_break (Str text) rest b = tt
-apart_by_break (Lower name) rest b = no_name rest b
-apart_by_break (Upper name) rest b = no_name rest b
-apart_by_break (Sign s) rest b = apart_symbol s rest b
 
 abbrev ending : List ℕ
 ending = 10 ∷ []
@@ -138,6 +110,7 @@ symbol_breaks symbol.Equals more = Breaks.blank _
 symbol_breaks symbol.Plus more = Breaks.blank _
 symbol_breaks symbol.Star more = Breaks.blank _
 symbol_breaks symbol.Bars more = Breaks.blank _
+symbol_breaks symbol.Angles more = Breaks.blank _
 symbol_breaks symbol.Less more = Breaks.blank _
 symbol_breaks symbol.Greater more = Breaks.blank _
 
@@ -148,43 +121,45 @@ other_breaks (Lower name) more = word_breaks (is_among definition_words name) na
 other_breaks (Upper name) more = Breaks.blank _
 other_breaks (Sign s) more = symbol_breaks s more
 
-joined_breaks : (s : Symbol) (more : List ℕ) → Breaks (((space_after_name (Sign s) ++ symbol_text s) ++ more) ++ ending)
-joined_breaks symbol.LeftParen more = Breaks.left_paren _
-joined_breaks symbol.Greater more = Breaks.greater _
-joined_breaks symbol.RightParen more = symbol_breaks symbol.RightParen more
-joined_breaks symbol.RightBracket more = symbol_breaks symbol.RightBracket more
-joined_breaks symbol.Comma more = symbol_breaks symbol.Comma more
-joined_breaks symbol.Question more = symbol_breaks symbol.Question more
-joined_breaks symbol.LeftBracket more = symbol_breaks symbol.LeftBracket more
-joined_breaks symbol.LeftBrace more = symbol_breaks symbol.LeftBrace more
-joined_breaks symbol.RightBrace more = symbol_breaks symbol.RightBrace more
-joined_breaks symbol.Point more = symbol_breaks symbol.Point more
-joined_breaks symbol.Colon more = symbol_breaks symbol.Colon more
-joined_breaks symbol.Assign more = symbol_breaks symbol.Assign more
-joined_breaks symbol.Equals more = symbol_breaks symbol.Equals more
-joined_breaks symbol.Plus more = symbol_breaks symbol.Plus more
-joined_breaks symbol.Star more = symbol_breaks symbol.Star more
-joined_breaks symbol.Bars more = symbol_breaks symbol.Bars more
-joined_breaks symbol.Less more = symbol_breaks symbol.Less more
+-- what is printed behind a name doesn't go on with it
+sign_stops : (s : Symbol) (more : List ℕ) → prefix_len is_name_byte (((space_after_name (Sign s) ++ symbol_text s) ++ more) ++ ending) ≡ 0
+sign_stops symbol.LeftParen more = refl
+sign_stops symbol.RightParen more = refl
+sign_stops symbol.LeftBracket more = refl
+sign_stops symbol.RightBracket more = refl
+sign_stops symbol.LeftBrace more = refl
+sign_stops symbol.RightBrace more = refl
+sign_stops symbol.Comma more = refl
+sign_stops symbol.Point more = refl
+sign_stops symbol.Colon more = refl
+sign_stops symbol.Assign more = refl
+sign_stops symbol.Equals more = refl
+sign_stops symbol.Question more = refl
+sign_stops symbol.Plus more = refl
+sign_stops symbol.Star more = refl
+sign_stops symbol.Bars more = refl
+sign_stops symbol.Angles more = refl
+sign_stops symbol.Less more = refl
+sign_stops symbol.Greater more = refl
 
-name_breaks : (k : TokenKind) (more : List ℕ) → Breaks (((space_after_name k ++ token_text k) ++ more) ++ ending)
-name_breaks (Int number) more = other_breaks (Int number) more
-name_breaks (Str text) more = other_breaks (Str text) more
-name_breaks (Lower name) more = other_breaks (Lower name) more
-name_breaks (Upper name) more = other_breaks (Upper name) more
-name_breaks (Sign s) more = joined_breaks s more
+name_stops : (k : TokenKind) (more : List ℕ) → prefix_len is_name_byte (((space_after_name k ++ token_text k) ++ more) ++ ending) ≡ 0
+name_stops (Int number) more = no_name _ (other_breaks (Int number) more)
+name_stops (Str text) more = no_name _ (other_breaks (Str text) more)
+name_stops (Lower name) more = no_name _ (other_breaks (Lower name) more)
+name_stops (Upper name) more = no_name _ (other_breaks (Upper name) more)
+name_stops (Sign s) more = sign_stops s more
 
 -- what stands behind a token that is no opening sign breaks it off
 behind_other : (ks : List TokenKind) → Breaks (text_from Other ks ++ ending)
 behind_other [] = Breaks.newline _
 behind_other (k ∷ ks) = other_breaks k (text_from (before_next k) ks)
 
-behind_name : (ks : List TokenKind) → Breaks (text_from Name ks ++ ending)
-behind_name [] = Breaks.newline _
-behind_name (k ∷ ks) = name_breaks k (text_from (before_next k) ks)
+behind_name : (ks : List TokenKind) → prefix_len is_name_byte (text_from Name ks ++ ending) ≡ 0
+behind_name [] = refl
+behind_name (k ∷ ks) = name_stops k (text_from (before_next k) ks)
 
-behind_word : (b : Bool) (ks : List TokenKind) → Breaks (text_from (if b then Other else Name) ks ++ ending)
-behind_word true ks = behind_other ks
+behind_word : (b : Bool) (ks : List TokenKind) → prefix_len is_name_byte (text_from (if b then Other else Name) ks ++ ending) ≡ 0
+behind_word true ks = no_name _ (behind_other ks)
 behind_word false ks = behind_name ks
 
 behind_symbol : (s : Symbol) (ks : List TokenKind) → SymbolApart s (text_from (symbol_before s) ks ++ ending)
@@ -204,13 +179,14 @@ behind_symbol symbol.Question ks = tt
 behind_symbol symbol.Plus ks = tt
 behind_symbol symbol.Star ks = tt
 behind_symbol symbol.Bars ks = tt
-behind_symbol symbol.Greater ks = tt
+behind_symbol symbol.Angles ks = tt
+behind_symbol symbol.Greater ks = no_greater _ (behind_other ks)
 
 apart : (k : TokenKind) (ks : List TokenKind) → Apart k (text_from (before_next k) ks ++ ending)
-apart (Int number) ks = apart_by_break (Int number) _ (behind_other ks)
+apart (Int number) ks = (no_digit _ (behind_other ks), no_point _ (behind_other ks))
 apart (Str text) ks = tt
-apart (Lower name) ks = no_name _ (behind_word (is_among leading_words name) ks)
-apart (Upper name) ks = no_name _ (behind_name ks)
+apart (Lower name) ks = behind_word (is_among leading_words name) ks
+apart (Upper name) ks = behind_name ks
 apart (Sign s) ks = behind_symbol s ks
 
 -- The gaps.

@@ -2,7 +2,7 @@
 use Rattle.std.proofs.Common.{◌≡◌, if◌then◌else◌, ℕ, ◌+◌, Bool, true, false, List, [], ◌∷◌, ◌++◌, length, map, Some, None, refl, ap, sym, ◌∙◌, subst, codes, append_assoc}
 use Rattle.tb_lex.specs.declared.kind.TokenKind.{TokenKind}
 use Rattle.tb_lex.specs.declared.kind.TokenKind.TheVariants.{Lower, Symbol as Sign}
-use Rattle.tb_lex.specs.declared.symbol.Symbol.TheVariants.{Point, Plus, Star, Bars}
+use Rattle.tb_lex.specs.declared.symbol.Symbol.TheVariants.{Point, Plus, Star, Bars, Angles}
 use Rattle.tb_syntax.specs.declared.ast.Ast.{Ast}
 use Rattle.tb_syntax.specs.declared.level.Level.{Level}
 use Rattle.tb_syntax.specs.declared.level.Level.TheVariants as level
@@ -15,8 +15,8 @@ use Rattle.tb_syntax.specs.Spelling.{in_parens, SpellsProc, SpellsAtom, SpellsCa
 use Rattle.tb_syntax.specs.Binding.{is_looser}
 use Rattle.tb_syntax.specs.Helpers.Canonical.{proc_tokens, placed, expr_tokens, var_tokens, parted, then_tokens, let_tokens}
 use Rattle.tb_syntax.specs.Positions.{bare_proc, bare_var}
-use Rattle.tb_syntax.proofs.BareProcs.{bare_of_atom, bare_of_call, bare_of_seq, bare_of_alt, bare_of_star, bare_of_par, bare_of_if, bare_of_let}
-use Rattle.tb_syntax.proofs.ProcTokens.{tokens_of_atom, tokens_of_call, tokens_of_seq, tokens_of_alt, tokens_of_star, tokens_of_par, tokens_of_if, tokens_of_let}
+use Rattle.tb_syntax.proofs.BareProcs.{bare_of_atom, bare_of_call, bare_of_seq, bare_of_alt, bare_of_star, bare_of_par, bare_of_disrupt, bare_of_if, bare_of_let}
+use Rattle.tb_syntax.proofs.ProcTokens.{tokens_of_atom, tokens_of_call, tokens_of_seq, tokens_of_alt, tokens_of_star, tokens_of_par, tokens_of_disrupt, tokens_of_if, tokens_of_let}
 use Rattle.tb_syntax.proofs.PrintedAtoms.{call_printed, atom_printed, var_printed}
 use Rattle.tb_syntax.proofs.PrintedExprs.{ExprPrinted, expr_printed}
 use Rattle.tb_syntax.proofs.PrintedLists.{IsPrinted, parted_printed}
@@ -27,7 +27,8 @@ from_prim level.Prim d = d
 from_prim level.Star d = SpellsProc.one_prim d
 from_prim level.Seq d = SpellsProc.one_star (SpellsProc.one_prim d)
 from_prim level.Alt d = SpellsProc.one_seq (SpellsProc.one_star (SpellsProc.one_prim d))
-from_prim level.Proc d = SpellsProc.one_alt (SpellsProc.one_seq (SpellsProc.one_star (SpellsProc.one_prim d)))
+from_prim level.Par d = SpellsProc.one_alt (SpellsProc.one_seq (SpellsProc.one_star (SpellsProc.one_prim d)))
+from_prim level.Proc d = SpellsProc.one_par (SpellsProc.one_alt (SpellsProc.one_seq (SpellsProc.one_star (SpellsProc.one_prim d))))
 
 -- what stands at a level may stand at each that isn't tighter
 loosened : {at : ℕ} {p : Proc} {ks : List TokenKind} (own m : Level) → is_looser own m ≡ false → SpellsProc own at p ks → SpellsProc m at p ks
@@ -35,12 +36,17 @@ loosened level.Prim m e d = from_prim m d
 loosened level.Star level.Star e d = d
 loosened level.Star level.Seq e d = SpellsProc.one_star d
 loosened level.Star level.Alt e d = SpellsProc.one_seq (SpellsProc.one_star d)
-loosened level.Star level.Proc e d = SpellsProc.one_alt (SpellsProc.one_seq (SpellsProc.one_star d))
+loosened level.Star level.Par e d = SpellsProc.one_alt (SpellsProc.one_seq (SpellsProc.one_star d))
+loosened level.Star level.Proc e d = SpellsProc.one_par (SpellsProc.one_alt (SpellsProc.one_seq (SpellsProc.one_star d)))
 loosened level.Seq level.Seq e d = d
 loosened level.Seq level.Alt e d = SpellsProc.one_seq d
-loosened level.Seq level.Proc e d = SpellsProc.one_alt (SpellsProc.one_seq d)
+loosened level.Seq level.Par e d = SpellsProc.one_alt (SpellsProc.one_seq d)
+loosened level.Seq level.Proc e d = SpellsProc.one_par (SpellsProc.one_alt (SpellsProc.one_seq d))
 loosened level.Alt level.Alt e d = d
-loosened level.Alt level.Proc e d = SpellsProc.one_alt d
+loosened level.Alt level.Par e d = SpellsProc.one_alt d
+loosened level.Alt level.Proc e d = SpellsProc.one_par (SpellsProc.one_alt d)
+loosened level.Par level.Par e d = d
+loosened level.Par level.Proc e d = SpellsProc.one_par d
 loosened level.Proc level.Proc e d = d
 loosened level.Star level.Prim e d = absurd (cc)
 loosened level.Seq level.Prim e d = absurd (cc)
@@ -48,16 +54,22 @@ loosened level.Seq level.Star e d = absurd (cc)
 loosened level.Alt level.Prim e d = absurd (cc)
 loosened level.Alt level.Star e d = absurd (cc)
 loosened level.Alt level.Seq e d = absurd (cc)
+loosened level.Par level.Prim e d = absurd (cc)
+loosened level.Par level.Star e d = absurd (cc)
+loosened level.Par level.Seq e d = absurd (cc)
+loosened level.Par level.Alt e d = absurd (cc)
 loosened level.Proc level.Prim e d = absurd (cc)
 loosened level.Proc level.Star e d = absurd (cc)
 loosened level.Proc level.Seq e d = absurd (cc)
 loosened level.Proc level.Alt e d = absurd (cc)
+loosened level.Proc level.Par e d = absurd (cc)
 
 whole : {at : ℕ} {p : Proc} {ks : List TokenKind} (own : Level) → SpellsProc own at p ks → SpellsProc level.Proc at p ks
 whole level.Prim d = loosened level.Prim level.Proc refl d
 whole level.Star d = loosened level.Star level.Proc refl d
 whole level.Seq d = loosened level.Seq level.Proc refl d
 whole level.Alt d = loosened level.Alt level.Proc refl d
+whole level.Par d = loosened level.Par level.Proc refl d
 whole level.Proc d = d
 
 abbrev At : Level → Proc → List TokenKind → Type 0
@@ -74,10 +86,16 @@ abbrev pub ProcPrinted : Proc → Type 0
 ProcPrinted p = (m : Level) → At m p (proc_tokens p m)
 
 -- two processes with an operator between them, at the operator's level
-par_at : (x y : Proc) → ProcPrinted x → ProcPrinted y → At level.Proc (tree.Par x y) (proc_tokens x level.Alt ++ Sign Bars ∷ proc_tokens y level.Proc)
+disrupt_at : (x y : Proc) → ProcPrinted x → ProcPrinted y → At level.Proc (tree.Disrupt x y) (proc_tokens x level.Par ++ Sign Angles ∷ proc_tokens y level.Proc)
+disrupt_at x y h k to =
+    let r = h level.Par to in
+    let s = k level.Proc (to + length (proc_tokens x level.Par) + 1) in
+    (tree.Disrupt r.0 s.0, bare_of_disrupt r.0 s.0 ∙ (λ i. tree.Disrupt (r.1 i) (s.1 i)) ∙ sym (bare_of_disrupt x y), SpellsProc.disrupt r.2 s.2)
+
+par_at : (x y : Proc) → ProcPrinted x → ProcPrinted y → At level.Par (tree.Par x y) (proc_tokens x level.Alt ++ Sign Bars ∷ proc_tokens y level.Par)
 par_at x y h k to =
     let r = h level.Alt to in
-    let s = k level.Proc (to + length (proc_tokens x level.Alt) + 1) in
+    let s = k level.Par (to + length (proc_tokens x level.Alt) + 1) in
     (tree.Par r.0 s.0, bare_of_par r.0 s.0 ∙ (λ i. tree.Par (r.1 i) (s.1 i)) ∙ sym (bare_of_par x y), SpellsProc.par r.2 s.2)
 
 alt_at : (x y : Proc) → ProcPrinted x → ProcPrinted y → At level.Alt (tree.Alt x y) (proc_tokens x level.Seq ++ Sign Plus ∷ proc_tokens y level.Alt)
@@ -145,12 +163,14 @@ call_at : (c : Call) {at : ℕ} {ks : List TokenKind} → SpellsCall at c ks →
 call_at c d m = prim_at m (tree.Call c) _ (tokens_of_call c m) (λ to. let r = call_printed _ c _ d to in (tree.Call r.0, bare_of_call r.0 ∙ ap (λ b. tree.Call b) r.1 ∙ sym (bare_of_call c), SpellsProc.call r.2))
 
 pub proc_printed : {l : Level} {at : ℕ} {p : Proc} {ks : List TokenKind} → SpellsProc l at p ks → ProcPrinted p
+proc_printed (SpellsProc.one_par d) m = proc_printed d m
 proc_printed (SpellsProc.one_alt d) m = proc_printed d m
 proc_printed (SpellsProc.one_seq d) m = proc_printed d m
 proc_printed (SpellsProc.one_star d) m = proc_printed d m
 proc_printed (SpellsProc.one_prim d) m = proc_printed d m
 proc_printed (SpellsProc.parens d) m = proc_printed d m
-proc_printed (SpellsProc.par {x = x} {y = y} d e) m = infix_at level.Proc m (tree.Par x y) _ (tokens_of_par x y m) (par_at x y (proc_printed d) (proc_printed e))
+proc_printed (SpellsProc.disrupt {x = x} {y = y} d e) m = infix_at level.Proc m (tree.Disrupt x y) _ (tokens_of_disrupt x y m) (disrupt_at x y (proc_printed d) (proc_printed e))
+proc_printed (SpellsProc.par {x = x} {y = y} d e) m = infix_at level.Par m (tree.Par x y) _ (tokens_of_par x y m) (par_at x y (proc_printed d) (proc_printed e))
 proc_printed (SpellsProc.choice {x = x} {y = y} d e) m = infix_at level.Alt m (tree.Alt x y) _ (tokens_of_alt x y m) (alt_at x y (proc_printed d) (proc_printed e))
 proc_printed (SpellsProc.sequence {x = x} {y = y} d e) m = infix_at level.Seq m (tree.Seq x y) _ (tokens_of_seq x y m) (seq_at x y (proc_printed d) (proc_printed e))
 proc_printed (SpellsProc.turns {x = x} {y = y} d e) m = infix_at level.Star m (tree.Star x y) _ (tokens_of_star x y m) (star_at x y (proc_printed d) (proc_printed e))

@@ -2,7 +2,7 @@
 use Rattle.std.proofs.Common.{◌≡◌, List, ◌∷◌, ◌++◌, map, Option, Some, None, option_map, ap, ◌∙◌, sym, append_assoc}
 use Rattle.tb_lex.specs.declared.kind.TokenKind.{TokenKind}
 use Rattle.tb_lex.specs.declared.kind.TokenKind.TheVariants.{Symbol as Sign}
-use Rattle.tb_lex.specs.declared.symbol.Symbol.TheVariants.{Point, Plus, Star, Bars}
+use Rattle.tb_lex.specs.declared.symbol.Symbol.TheVariants.{Point, Plus, Star, Bars, Angles}
 use Rattle.tb_syntax.specs.declared.ast.Ast.{Ast}
 use Rattle.tb_syntax.specs.declared.level.Level.{Level}
 use Rattle.tb_syntax.specs.declared.level.Level.TheVariants as level
@@ -11,7 +11,7 @@ use Rattle.tb_syntax.specs.declared.proc.Call.{Call}
 use Rattle.tb_syntax.specs.declared.proc.Var.{Var}
 use Rattle.tb_syntax.specs.declared.proc.Proc.{Proc, out-Proc}
 use Rattle.tb_syntax.specs.declared.proc.Proc.TheVariants as tree
-use Rattle.tb_syntax.specs.declared.proc.Proc.TheVariants.{outs-Atom, outs-Call, outs-Seq, outs-Alt, outs-Star, outs-Par, outs-If, outs-Let}
+use Rattle.tb_syntax.specs.declared.proc.Proc.TheVariants.{outs-Atom, outs-Call, outs-Seq, outs-Alt, outs-Star, outs-Par, outs-Disrupt, outs-If, outs-Let}
 use Rattle.tb_syntax.specs.declared.proc.Proc.TheOpen.{Proc-F}
 use Rattle.tb_syntax.specs.declared.proc.Proc.TheFolds.{fold_out-Proc, map-Proc}
 use Rattle.tb_syntax.specs.Helpers.Canonical.{proc_tokens, proc_step, placed, atom_tokens, call_tokens, expr_tokens, then_tokens, else_tokens, let_tokens, var_tokens, parted}
@@ -37,8 +37,11 @@ tokens_of_alt x y at = opened at _ _ (outs-Alt x y)
 pub tokens_of_star : (x y : Proc) (at : Level) → proc_tokens (tree.Star x y) at ≡ placed level.Star at (proc_tokens x level.Star ++ Sign Star ∷ proc_tokens y level.Prim)
 tokens_of_star x y at = opened at _ _ (outs-Star x y)
 
-pub tokens_of_par : (x y : Proc) (at : Level) → proc_tokens (tree.Par x y) at ≡ placed level.Proc at (proc_tokens x level.Alt ++ Sign Bars ∷ proc_tokens y level.Proc)
+pub tokens_of_par : (x y : Proc) (at : Level) → proc_tokens (tree.Par x y) at ≡ placed level.Par at (proc_tokens x level.Alt ++ Sign Bars ∷ proc_tokens y level.Par)
 tokens_of_par x y at = opened at _ _ (outs-Par x y)
+
+pub tokens_of_disrupt : (x y : Proc) (at : Level) → proc_tokens (tree.Disrupt x y) at ≡ placed level.Proc at (proc_tokens x level.Par ++ Sign Angles ∷ proc_tokens y level.Proc)
+tokens_of_disrupt x y at = opened at _ _ (outs-Disrupt x y)
 
 pub tokens_of_if : (test : Ast) (x : Proc) (y : Option Proc) (at : Level) → proc_tokens (tree.If test x y) at ≡ then_tokens (expr_tokens test) (proc_tokens x level.Proc) ++ else_tokens (option_map proc_tokens y)
 tokens_of_if test x None at = opened at _ _ (outs-If test x None)

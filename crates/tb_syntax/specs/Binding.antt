@@ -8,10 +8,11 @@ use Rattle.tb_syntax.specs.declared.proc.Proc.TheOpen as tree
 -- from the loosest level to the tightest
 abbrev pub rank : Level → ℕ
 rank level.Proc = 0
-rank level.Alt = 1
-rank level.Seq = 2
-rank level.Star = 3
-rank level.Prim = 4
+rank level.Par = 1
+rank level.Alt = 2
+rank level.Seq = 3
+rank level.Star = 4
+rank level.Prim = 5
 
 abbrev pub is_looser : Level → Level → Bool
 is_looser own at = nat_lt (rank own) (rank at)
@@ -22,7 +23,8 @@ level_of (tree.Call call) = level.Prim
 level_of (tree.Seq x y) = level.Seq
 level_of (tree.Alt x y) = level.Alt
 level_of (tree.Star x y) = level.Star
-level_of (tree.Par x y) = level.Proc
+level_of (tree.Par x y) = level.Par
+level_of (tree.Disrupt x y) = level.Proc
 level_of (tree.If test x y) = level.Prim
 level_of (tree.Let vars x) = level.Prim
 

@@ -5,7 +5,7 @@ use Rattle.tb_lex.specs.declared.kind.TokenKind.TheVariants.{Int, Str, Lower, Up
 use Rattle.tb_lex.specs.declared.symbol.Symbol.{Symbol}
 use Rattle.tb_lex.specs.declared.symbol.Symbol.TheVariants as sign
 use Rattle.tb_syntax.specs.declared.proc.Proc.{Proc}
-use Rattle.tb_syntax.specs.declared.proc.Proc.TheOpen.{Proc-F, Atom, Call, Seq, Alt, Star, Par, If, Let}
+use Rattle.tb_syntax.specs.declared.proc.Proc.TheOpen.{Proc-F, Atom, Call, Seq, Alt, Star, Par, Disrupt, If, Let}
 use Rattle.tb_syntax.specs.declared.proc.Proc.TheFolds.{fold-Proc}
 use Rattle.tb_syntax.specs.declared.script.ProcDef.{ProcDef}
 use Rattle.tb_syntax.specs.Words.{is_among}
@@ -18,6 +18,7 @@ height_step (Seq x y) = 1 + max x y
 height_step (Alt x y) = 1 + max x y
 height_step (Star x y) = 1 + max x y
 height_step (Par x y) = 1 + max x y
+height_step (Disrupt x y) = 1 + max x y
 height_step (If test x y) = 1 + max x (unwrap_or y 0)
 height_step (Let vars x) = 1 + x
 

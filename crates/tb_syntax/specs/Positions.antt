@@ -62,6 +62,7 @@ bare_proc_step (open_tree.Seq x y) = tree.Seq x y
 bare_proc_step (open_tree.Alt x y) = tree.Alt x y
 bare_proc_step (open_tree.Star x y) = tree.Star x y
 bare_proc_step (open_tree.Par x y) = tree.Par x y
+bare_proc_step (open_tree.Disrupt x y) = tree.Disrupt x y
 bare_proc_step (open_tree.If test x y) = tree.If (bare_expr test) x y
 bare_proc_step (open_tree.Let vars x) = tree.Let (map bare_var vars) x
 

@@ -5,7 +5,7 @@ use Rattle.tb_terms.specs.declared.sort.Sort.TheVariants as sort
 use Rattle.tb_lex.specs.declared.kind.TokenKind.{TokenKind}
 use Rattle.tb_lex.specs.declared.kind.TokenKind.TheVariants.{Int, Str, Lower, Upper, Symbol as Sign}
 use Rattle.tb_lex.specs.declared.token.Token.{Token}
-use Rattle.tb_lex.specs.declared.symbol.Symbol.TheVariants.{LeftParen, RightParen, LeftBracket, RightBracket, LeftBrace, RightBrace, Comma, Point, Colon, Assign, Equals, Question, Plus, Star, Bars, Less, Greater}
+use Rattle.tb_lex.specs.declared.symbol.Symbol.TheVariants.{LeftParen, RightParen, LeftBracket, RightBracket, LeftBrace, RightBrace, Comma, Point, Colon, Assign, Equals, Question, Plus, Star, Bars, Angles, Less, Greater}
 use Rattle.tb_syntax.specs.declared.ast.Ast.{Ast}
 use Rattle.tb_syntax.specs.declared.ast.AstKind.{AstKind}
 use Rattle.tb_syntax.specs.declared.ast.AstKind.TheVariants as ast
@@ -133,10 +133,14 @@ pub record SpellsVar (at : ℕ) (var : Var) (ks : List TokenKind) : Type 0 where
 
 -- a process where it is bound as tightly as the level says
 pub data SpellsProc : Level → ℕ → Proc → List TokenKind → Type 0 where
-  -- proc = alt [ "||" proc ]
-  one_alt : {at : ℕ} {x : Proc} {xs : List TokenKind} → SpellsProc level.Alt at x xs → SpellsProc level.Proc at x xs
-  par : {at : ℕ} {x y : Proc} {xs ys : List TokenKind} → SpellsProc level.Alt at x xs → SpellsProc level.Proc (at + length xs + 1) y ys
-      → SpellsProc level.Proc at (tree.Par x y) (xs ++ Sign Bars ∷ ys)
+  -- proc = par [ ">>" proc ]
+  one_par : {at : ℕ} {x : Proc} {xs : List TokenKind} → SpellsProc level.Par at x xs → SpellsProc level.Proc at x xs
+  disrupt : {at : ℕ} {x y : Proc} {xs ys : List TokenKind} → SpellsProc level.Par at x xs → SpellsProc level.Proc (at + length xs + 1) y ys
+      → SpellsProc level.Proc at (tree.Disrupt x y) (xs ++ Sign Angles ∷ ys)
+  -- par = alt [ "||" par ]
+  one_alt : {at : ℕ} {x : Proc} {xs : List TokenKind} → SpellsProc level.Alt at x xs → SpellsProc level.Par at x xs
+  par : {at : ℕ} {x y : Proc} {xs ys : List TokenKind} → SpellsProc level.Alt at x xs → SpellsProc level.Par (at + length xs + 1) y ys
+      → SpellsProc level.Par at (tree.Par x y) (xs ++ Sign Bars ∷ ys)
   -- alt = seq [ "+" alt ]
   one_seq : {at : ℕ} {x : Proc} {xs : List TokenKind} → SpellsProc level.Seq at x xs → SpellsProc level.Alt at x xs
   choice : {at : ℕ} {x y : Proc} {xs ys : List TokenKind} → SpellsProc level.Seq at x xs → SpellsProc level.Alt (at + length xs + 1) y ys

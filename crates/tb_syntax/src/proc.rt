@@ -69,6 +69,8 @@ pub enum Proc {
     Star(Boxed<Proc>, Boxed<Proc>),
     /// Both, their steps mixed.
     Par(Boxed<Proc>, Boxed<Proc>),
+    /// The left side, until the right side takes a step. If the left side ends, the whole ends.
+    Disrupt(Boxed<Proc>, Boxed<Proc>),
     If(Ast, Boxed<Proc>, Option<Boxed<Proc>>),
     Let(Vars, Boxed<Proc>),
 }

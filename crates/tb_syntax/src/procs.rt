@@ -44,8 +44,15 @@ const STAR: Infix = Infix {
 
 const PAR: Infix = Infix {
     symbol: Symbol::Bars,
-    level: Level::Proc,
+    level: Level::Par,
     left: Level::Alt,
+    right: Level::Par,
+};
+
+const DISRUPT: Infix = Infix {
+    symbol: Symbol::Angles,
+    level: Level::Proc,
+    left: Level::Par,
     right: Level::Proc,
 };
 
@@ -82,6 +89,10 @@ pub(crate) fn push_proc<'a>(
         }
         Proc::Par(x, y) => {
             push_placed(alloc, x.get(), PAR, y.get(), at, into)?;
+            Ok(())
+        }
+        Proc::Disrupt(x, y) => {
+            push_placed(alloc, x.get(), DISRUPT, y.get(), at, into)?;
             Ok(())
         }
         Proc::If(test, x, y) => {
@@ -147,10 +158,11 @@ fn rank(level: Level) -> u8
 {
     match level {
         Level::Proc => 0,
-        Level::Alt => 1,
-        Level::Seq => 2,
-        Level::Star => 3,
-        Level::Prim => 4,
+        Level::Par => 1,
+        Level::Alt => 2,
+        Level::Seq => 3,
+        Level::Star => 4,
+        Level::Prim => 5,
     }
 }
 

@@ -6,7 +6,7 @@ use Rattle.tb_syntax.specs.declared.proc.AtomDef.{AtomDef}
 use Rattle.tb_syntax.specs.declared.proc.Var.{Var}
 use Rattle.tb_syntax.specs.declared.proc.Proc.{Proc, out-Proc}
 use Rattle.tb_syntax.specs.declared.proc.Proc.TheVariants as tree
-use Rattle.tb_syntax.specs.declared.proc.Proc.TheVariants.{outs-Atom, outs-Seq, outs-Alt, outs-Star, outs-Par, outs-If, outs-Let}
+use Rattle.tb_syntax.specs.declared.proc.Proc.TheVariants.{outs-Atom, outs-Seq, outs-Alt, outs-Star, outs-Par, outs-Disrupt, outs-If, outs-Let}
 use Rattle.tb_syntax.specs.declared.proc.Proc.TheOpen.{Proc-F}
 use Rattle.tb_syntax.specs.declared.proc.Proc.TheFolds.{fold_out-Proc, map-Proc}
 use Rattle.tb_syntax.specs.declared.script.Script.{Script}
@@ -42,6 +42,9 @@ faults_of_star script x y known = opened script known _ _ (outs-Star x y)
 
 pub faults_of_par : (script : Script) (x y : Proc) (known : List Known) → proc_faults script (tree.Par x y) known ≡ proc_faults script x known ++ proc_faults script y known
 faults_of_par script x y known = opened script known _ _ (outs-Par x y)
+
+pub faults_of_disrupt : (script : Script) (x y : Proc) (known : List Known) → proc_faults script (tree.Disrupt x y) known ≡ proc_faults script x known ++ proc_faults script y known
+faults_of_disrupt script x y known = opened script known _ _ (outs-Disrupt x y)
 
 pub faults_of_if : (script : Script) (test : Ast) (x : Proc) (y : Option Proc) (known : List Known)
     → proc_faults script (tree.If test x y) known

@@ -31,6 +31,7 @@ proc_step script (tree.Seq x y) known = x known ++ y known
 proc_step script (tree.Alt x y) known = x known ++ y known
 proc_step script (tree.Star x y) known = x known ++ y known
 proc_step script (tree.Par x y) known = x known ++ y known
+proc_step script (tree.Disrupt x y) known = x known ++ y known
 proc_step script (tree.If test x y) known = site_faults script known Sent (tested sorts.Bool) test ++ x known ++ else_faults y known
 proc_step script (tree.Let vars x) known = vars_faults script.tools vars ++ x (map known_var vars ++ known)
 

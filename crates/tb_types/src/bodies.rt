@@ -110,19 +110,11 @@ fn push_proc(
             push_call(alloc, names, scope, Manner::Called, call, into)?;
             Ok(())
         }
-        Proc::Seq(x, y) => {
-            push_both(alloc, names, scope, x.get(), y.get(), into)?;
-            Ok(())
-        }
-        Proc::Alt(x, y) => {
-            push_both(alloc, names, scope, x.get(), y.get(), into)?;
-            Ok(())
-        }
-        Proc::Star(x, y) => {
-            push_both(alloc, names, scope, x.get(), y.get(), into)?;
-            Ok(())
-        }
-        Proc::Par(x, y) => {
+        Proc::Seq(x, y)
+        | Proc::Alt(x, y)
+        | Proc::Star(x, y)
+        | Proc::Par(x, y)
+        | Proc::Disrupt(x, y) => {
             push_both(alloc, names, scope, x.get(), y.get(), into)?;
             Ok(())
         }

@@ -1,35 +1,39 @@
 -- A branch in its row: what the whole is read as when the branch goes on, and when it ends.
-use Rattle.std.proofs.Common.{◌≡◌, ℕ, suc, ◌+◌, ◌-◌, ◌<◌, ◌≤◌, Bool, true, false, ◌||◌, List, [], ◌∷◌, ◌++◌, map, length, Option, Some, None, refl, ap, sym, subst, ◌∙◌, arith, append_assoc, length-append, ◌⊎◌, inl, inr}
+use Rattle.std.proofs.Common.{◌≡◌, ℕ, suc, ◌+◌, ◌-◌, ◌<◌, ◌≤◌, Bool, true, false, ◌||◌, List, [], ◌∷◌, ◌++◌, map, length, slice_get, Option, Some, None, refl, ap, sym, subst, ◌∙◌, arith, append_assoc, length-append, ◌⊎◌, inl, inr}
 use Rattle.std.specs.Prelude.{⊤}
 use Rattle.std.proofs.lemmas.List.{append-nil}
 use Rattle.tb_func.specs.declared.slot.Slot.{Slot}
-use Rattle.tb_algebra.specs.Processes.{Process, Seq, Star, Par}
-use Rattle.tb_algebra.specs.Offers.{Offered, offers, followed, left_of, right_of, before, on_the_left, on_the_right}
+use Rattle.tb_algebra.specs.Processes.{Process, At, Seq, Alt, Star, Par, Disrupt, If, When, Let}
+use Rattle.tb_algebra.specs.Offers.{Offered, offers, followed, left_of, right_of, until as in_wait_of, before, on_the_left, on_the_right, in_wait}
 use Rattle.tb_algebra.specs.Helpers.Runnings.{waited}
 use Rattle.tb_algebra.specs.Walks.{offers_of_term}
 use Rattle.tb_algebra.proofs.SelectedLemmas.{with_left}
-use Rattle.tb_code.specs.Positions.{size, table, part}
-use Rattle.tb_code.proofs.Parts.{Stands, stands_here}
+use Rattle.tb_code.specs.Positions.{size, table, part, positions, node, op_at, root}
+use Rattle.tb_code.specs.declared.node.Node.{Node}
+use Rattle.tb_code.specs.declared.node.Op.TheVariants as op
+use Rattle.tb_code.proofs.Parts.{Stands, stands_here, stands_until, waits_there}
 use Rattle.tb_walk.specs.Helpers.Goings.{counted}
 use Rattle.tb_walk.specs.Lefts.{beside}
-use Rattle.tb_walk.specs.Helpers.Reads.{branch, Passes, behind, Follows, sequence, turn, Reads, ended, waits, passes, follows, both, bound_of, any_inside, entered_behind}
+use Rattle.tb_walk.specs.Helpers.Reads.{branch, any_inside, Passes, behind, Follows, sequence, turn, Reads, ended, waits, passes, follows, both, transfers, stands_until as until}
+use Rattle.tb_walk.specs.Helpers.Rests.{bound_by, any_there, rest_behind, frame_above, frame_in, kept_by, without}
 use Rattle.tb_walk.specs.declared.branch.Branch.{Branch}
-use Rattle.tb_walk.proofs.Ranges.{InRange, Outside, narrower, outside-append, apart, inside-append, inside-first, inside-left}
-use Rattle.tb_walk.proofs.ReadLemmas.{passes-range, passes-stands, follows-range, follows-bound, follows-stands, par-first, par-second, in_range, ends_together, EndsTogether, counts, counted-append, length-mapped}
+use Rattle.tb_walk.proofs.EndingLemmas.{rest-none, rest-inside, rest-enters, rest-falls}
+use Rattle.tb_walk.proofs.Ranges.{InRange, Outside, narrower, outside-append, apart, inside-append, inside-first, inside-left, without-append, without-none, without-all}
+use Rattle.tb_walk.proofs.ReadLemmas.{passes-range, passes-stands, follows-range, IsFrame, follows-frame, until-frame, follows-stands, par-first, par-second, in_range, ends_together, EndsTogether, counts, counted-append, length-mapped}
 
 -- the frame of a part reaches over all of it
 abbrev pub Covers : Process → Option ℕ → ℕ → Process → Type 0
 Covers whole None at w = ⊤
-Covers whole (Some n) at w = (n < at) × (at + size w ≤ bound_of n (part whole n))
+Covers whole (Some n) at w = (n < at) × (at + size w ≤ bound_by (op_at whole n) n)
 
 covers-within : (whole : Process) (frame : Option ℕ) (at : ℕ) (w : Process) (at-x : ℕ) (x : Process) → at ≤ at-x → at-x + size x ≤ at + size w → Covers whole frame at w → Covers whole frame at-x x
 covers-within whole None at w at-x x h k c = tt
 covers-within whole (Some n) at w at-x x h k c = (let f = c.0 in let g = c.1 in (omega arith, omega arith))
 
--- what is left of the part of a branch, as the branch stands there
-pub record Offering (whole : Process) (ticks : ℕ) (pre : List Branch) (plug : Option Process → Option Process) (r : Process) (store : List Slot) : Type 0 where
+-- the offers of a branch's part among those of the whole
+pub record Offering (whole : Process) (ticks : ℕ) (t : Option Process) (pre : List Branch) (plug : Option Process → Option Process) (r : Process) (store : List Slot) : Type 0 where
   pub term : Process
-  pub is : plug (Some r) ≡ Some term
+  pub is : t ≡ Some term
   pub first : List Offered
   pub last : List Offered
   pub are : offers term store ≡ first ++ (map (with_left plug) (offers r store) ++ last)
@@ -41,23 +45,26 @@ pub record Grows (ticks at : ℕ) (w : Process) (row : List Branch) (o : Option 
   pub reads : Reads ticks at w row (Some term)
 
 -- what becomes of the term where the branch has ended
-pub data Ends (whole : Process) (ticks at : ℕ) (w : Process) (frame inner : Option ℕ) (pre post : List Branch) (o : Option Process) : Type 0 where
-  -- it has ended with it
-  together : inner ≡ frame → pre ≡ [] → post ≡ [] → o ≡ None → Ends whole ticks at w frame inner pre post o
-  -- it goes on with what is entered behind the branch
-  continues : (row : List Branch) (term : Process) → ((l r : List Branch) → Outside at (at + size w) l → Outside at (at + size w) r → entered_behind whole ticks inner (l ++ pre) (post ++ r) ≡ row) →
-      Reads ticks at w (pre ++ (row ++ post)) (Some term) → o ≡ Some term → Ends whole ticks at w frame inner pre post o
+pub data Ends (whole : Process) (ticks at : ℕ) (w : Process) (frame inner : Option ℕ) (stays post : List Branch) (o : Option Process) : Type 0 where
+  -- it has ended with it: right sides that waited behind it go, and the frame of the whole decides
+  together : stays ≡ [] → o ≡ None → ((l r : List Branch) → Outside at (at + size w) l → Outside at (at + size w) r → rest_behind whole ticks inner l (post ++ r) ≡ rest_behind whole ticks frame l r) → Ends whole ticks at w frame inner stays post o
+  -- it goes on
+  continues : (rest : List Branch) (term : Process) → ((l r : List Branch) → Outside at (at + size w) l → Outside at (at + size w) r → rest_behind whole ticks inner (l ++ stays) (post ++ r) ≡ rest ++ r) →
+      Reads ticks at w (stays ++ rest) (Some term) → o ≡ Some term → Ends whole ticks at w frame inner stays post o
 
 pub record Context (whole : Process) (ticks at : ℕ) (w : Process) (frame : Option ℕ) (t : Option Process) (b : Branch) (pre post : List Branch) : Type 0 where
-  pub inner : Option ℕ
+  pub place : Node
+  pub here : slice_get (positions whole) b.position ≡ Some place
   pub term : Process
+  pub is : part whole b.position ≡ term
   pub plug : Option Process → Option Process
-  pub stands : Stands whole b.position term (table term b.position inner)
+  -- what stays before it where it goes on
+  pub stays : List Branch
   pub entered : b.entered ≤ ticks
-  pub now : t ≡ plug (Some (waited (ticks - b.entered) term))
-  pub grows : (row : List Branch) (r : Process) → Reads ticks b.position term row (Some r) → Grows ticks at w (pre ++ (row ++ post)) (plug (Some r))
-  pub ends : Ends whole ticks at w frame inner pre post (plug None)
-  pub offering : (r : Process) (store : List Slot) → Offering whole ticks pre plug r store
+  pub keeps : (l : List Branch) → Outside at (at + size w) l → kept_by place.op b.position (l ++ pre) ≡ l ++ stays
+  pub grows : (row : List Branch) (r : Process) → Reads ticks (root place.op b.position) term row (Some r) → Grows ticks at w (stays ++ (row ++ post)) (plug (Some r))
+  pub ends : Ends whole ticks at w frame place.frame stays post (plug None)
+  pub offering : (store : List Slot) → Offering whole ticks t pre plug (waited (ticks - b.entered) term) store
 
 -- offers whose rests are put into another place
 
@@ -88,8 +95,8 @@ three g f h first xs last e =
 abbrev behind_it : (Option Process → Option Process) → Process → Option Process → Option Process
 behind_it plug z o = Some (followed (plug o) z)
 
-offering-follows : (whole : Process) (ticks : ℕ) (pre : List Branch) (plug : Option Process → Option Process) (z r : Process) (store : List Slot) → Offering whole ticks pre plug r store → Offering whole ticks pre (behind_it plug z) r store
-offering-follows whole ticks pre plug z r store k = record {
+offering-follows : (whole : Process) (ticks : ℕ) (t : Process) (pre : List Branch) (plug : Option Process → Option Process) (z r : Process) (store : List Slot) → Offering whole ticks (Some t) pre plug r store → Offering whole ticks (Some (Seq t z)) pre (behind_it plug z) r store
+offering-follows whole ticks t pre plug z r store k = record {
   term = Seq k.term z;
   is = ap (λ (o : Option Process). Some (followed o z)) k.is;
   first = map (before z) k.first;
@@ -119,16 +126,16 @@ beside-right x (Some y) = refl
 left_with : (offered : Offered) (o p : Option Process) → o ≡ p → ◌≡◌ {A = Offered} (record offered { residual = o }) (record offered { residual = p })
 left_with offered o p e = ap (λ (q : Option Process). let w : Offered = record offered { residual = q } in w) e
 
-offering-left : (whole : Process) (ticks : ℕ) (pre : List Branch) (plug : Option Process → Option Process) (t : Option Process) (r : Process) (store : List Slot) → Offering whole ticks pre plug r store → Offering whole ticks pre (left_side plug t) r store
-offering-left whole ticks pre plug None r store k = record {
+offering-left : (whole : Process) (ticks : ℕ) (pre : List Branch) (plug : Option Process → Option Process) (s t : Option Process) (r : Process) (store : List Slot) → Offering whole ticks s pre plug r store → Offering whole ticks (beside s t) pre (left_side plug t) r store
+offering-left whole ticks pre plug s None r store k = record {
   term = k.term;
-  is = beside-none (plug (Some r)) ∙ k.is;
+  is = beside-none s ∙ k.is;
   first = k.first;
   last = k.last;
   are = k.are ∙ ap (λ (l : List Offered). k.first ++ (l ++ k.last)) (map-same (with_left plug) (with_left (left_side plug None)) (offers r store) (λ x. left_with x (plug x.residual) (beside (plug x.residual) None) (sym (beside-none (plug x.residual)))));
   counted_first = k.counted_first;
 }
-offering-left whole ticks pre plug (Some y) r store k = record {
+offering-left whole ticks pre plug s (Some y) r store k = record {
   term = Par k.term y;
   is = ap (λ (o : Option Process). beside o (Some y)) k.is;
   first = map (on_the_left y) k.first;
@@ -141,8 +148,8 @@ offering-left whole ticks pre plug (Some y) r store k = record {
   counted_first = length-mapped (on_the_left y) k.first ∙ k.counted_first;
 }
 
-offering-right : (whole : Process) (ticks : ℕ) (pre one-row : List Branch) (plug : Option Process → Option Process) (s : Option Process) (r : Process) (store : List Slot) → length (offers_of_term s store) ≡ counted whole ticks store one-row → Offering whole ticks pre plug r store → Offering whole ticks (one-row ++ pre) (right_side plug s) r store
-offering-right whole ticks pre one-row plug None r store n k = record {
+offering-right : (whole : Process) (ticks : ℕ) (pre one-row : List Branch) (plug : Option Process → Option Process) (s t : Option Process) (r : Process) (store : List Slot) → length (offers_of_term s store) ≡ counted whole ticks store one-row → Offering whole ticks t pre plug r store → Offering whole ticks (beside s t) (one-row ++ pre) (right_side plug s) r store
+offering-right whole ticks pre one-row plug None t r store n k = record {
   term = k.term;
   is = k.is;
   first = k.first;
@@ -150,7 +157,7 @@ offering-right whole ticks pre one-row plug None r store n k = record {
   are = k.are;
   counted_first = (let c = counted-append ticks whole store one-row pre in let d = k.counted_first in omega arith);
 }
-offering-right whole ticks pre one-row plug (Some x) r store n k = record {
+offering-right whole ticks pre one-row plug (Some x) t r store n k = record {
   term = Par x k.term;
   is = ap (beside (Some x)) k.is;
   first = map (on_the_left k.term) (offers x store) ++ map (on_the_right x) k.first;
@@ -166,6 +173,24 @@ offering-right whole ticks pre one-row plug (Some x) r store n k = record {
       let f = length-mapped (on_the_left k.term) (offers x store) in
       let g = length-mapped (on_the_right x) k.first in
       omega arith);
+}
+
+-- a left side, with its right side in wait
+abbrev until_it : (Option Process → Option Process) → Process → Option Process → Option Process
+until_it plug y o = in_wait_of y (plug o)
+
+offering-until : (whole : Process) (ticks : ℕ) (t : Process) (pre : List Branch) (plug : Option Process → Option Process) (y r : Process) (store : List Slot) → Offering whole ticks (Some t) pre plug r store → Offering whole ticks (Some (Disrupt t y)) pre (until_it plug y) r store
+offering-until whole ticks t pre plug y r store k = record {
+  term = Disrupt k.term y;
+  is = ap (in_wait_of y) k.is;
+  first = map (in_wait y) k.first;
+  last = map (in_wait y) k.last ++ offers y store;
+  are =
+      ap (λ (l : List Offered). map (in_wait y) l ++ offers y store) k.are
+      ∙ ap (λ (l : List Offered). l ++ offers y store) (three (in_wait y) (with_left plug) (with_left (until_it plug y)) k.first (offers r store) k.last (λ x. refl))
+      ∙ append_assoc (map (in_wait y) k.first) (map (with_left (until_it plug y)) (offers r store) ++ map (in_wait y) k.last) (offers y store)
+      ∙ ap (λ (l : List Offered). map (in_wait y) k.first ++ l) (append_assoc (map (with_left (until_it plug y)) (offers r store)) (map (in_wait y) k.last) (offers y store));
+  counted_first = length-mapped (in_wait y) k.first ∙ k.counted_first;
 }
 
 -- the branches before a branch and behind it, in a row of two
@@ -203,51 +228,93 @@ beside_some : (o : Option Process) (x : Process) → (u : Process) × (beside o 
 beside_some None x = (x, refl)
 beside_some (Some y) x = (Par y x, refl)
 
+-- what stands behind where a branch has ended
+
+or-true : (a b : Bool) → b ≡ true → (a || b) ≡ true
+or-true true b e = refl
+or-true false b e = e
+
+both-false : (a b : Bool) → a ≡ false → b ≡ false → (a || b) ≡ false
+both-false a b e f = rw (e, f) refl
+
+-- what stands at the first position of a part
+record Head (whole : Process) (at : ℕ) (frame : Option ℕ) : Type 0 where
+  head : Node
+  there : slice_get (positions whole) at ≡ Some head
+  frame_is : head.frame ≡ frame
+  begins : root head.op at ≡ at
+  keeps : (row : List Branch) → kept_by head.op at row ≡ row
+
+head_of : (whole : Process) (at : ℕ) (w : Process) (frame : Option ℕ) → Stands whole at w (table w at frame) → Head whole at frame
+head_of whole at (At atom age) frame s = record { head = node (op.At atom) frame; there = (stands_here whole at (At atom age) (table (At atom age) at frame) s).0; frame_is = refl; begins = refl; keeps = λ row. refl }
+head_of whole at (Seq x y) frame s = record { head = node (op.Seq (suc at + size x)) frame; there = (stands_here whole at (Seq x y) (table (Seq x y) at frame) s).0; frame_is = refl; begins = refl; keeps = λ row. refl }
+head_of whole at (Alt x y) frame s = record { head = node (op.Alt (suc at + size x)) frame; there = (stands_here whole at (Alt x y) (table (Alt x y) at frame) s).0; frame_is = refl; begins = refl; keeps = λ row. refl }
+head_of whole at (Star x y) frame s = record { head = node (op.Star (suc at + size x)) frame; there = (stands_here whole at (Star x y) (table (Star x y) at frame) s).0; frame_is = refl; begins = refl; keeps = λ row. refl }
+head_of whole at (Par x y) frame s = record { head = node (op.Par (suc at + size x)) frame; there = (stands_here whole at (Par x y) (table (Par x y) at frame) s).0; frame_is = refl; begins = refl; keeps = λ row. refl }
+head_of whole at (Disrupt x y) frame s = record { head = node (op.Disrupt (suc at + size x)) frame; there = (stands_here whole at (Disrupt x y) (table (Disrupt x y) at frame) s).0; frame_is = refl; begins = refl; keeps = λ row. refl }
+head_of whole at (If test x y) frame s = record { head = node (op.If test (suc at + size x)) frame; there = (stands_here whole at (If test x y) (table (If test x y) at frame) s).0; frame_is = refl; begins = refl; keeps = λ row. refl }
+head_of whole at (When test x) frame s = record { head = node (op.When test) frame; there = (stands_here whole at (When test x) (table (When test x) at frame) s).0; frame_is = refl; begins = refl; keeps = λ row. refl }
+head_of whole at (Let settings x) frame s = record { head = node (op.Let settings) frame; there = (stands_here whole at (Let settings x) (table (Let settings x) at frame) s).0; frame_is = refl; begins = refl; keeps = λ row. refl }
+
 module _ (whole : Process) (ticks : ℕ) where
   -- a part that has been entered
 
   waiting : (at : ℕ) (w : Process) (frame : Option ℕ) (entered : ℕ) → entered ≤ ticks → Stands whole at w (table w at frame) → Context whole ticks at w frame (Some (waited (ticks - entered) w)) (branch at entered) [] []
-  waiting at w frame entered h s = record {
-    inner = frame;
-    term = w;
-    plug = λ o. o;
-    stands = s;
-    entered = h;
-    now = refl;
-    grows = λ row r k. record { term = r; is = refl; reads = subst (λ (l : List Branch). Reads ticks at w l (Some r)) (sym (append-nil row)) k };
-    ends = together refl refl refl refl;
-    offering = λ r store. record {
-      term = r;
-      is = refl;
-      first = [];
-      last = [];
-      are = sym (map-id (offers r store)) ∙ sym (append-nil (map (with_left (λ o. o)) (offers r store)));
-      counted_first = refl;
-    };
-  }
+  waiting at w frame entered h s =
+      let k = head_of whole at w frame s in
+      record {
+        place = k.head;
+        here = k.there;
+        term = w;
+        is = (stands_here whole at w (table w at frame) s).1;
+        plug = λ o. o;
+        stays = [];
+        entered = h;
+        keeps = λ l o. k.keeps (l ++ []);
+        grows = λ row r g. record { term = r; is = refl; reads = subst (λ (l : List Branch). Reads ticks at w l (Some r)) (sym (append-nil row)) (subst (λ (n : ℕ). Reads ticks n w row (Some r)) k.begins g) };
+        ends = together refl refl (λ l r f g. ap (λ (i : Option ℕ). rest_behind whole ticks i l r) k.frame_is);
+        offering = λ store. record {
+          term = waited (ticks - entered) w;
+          is = refl;
+          first = [];
+          last = [];
+          are = sym (map-id (offers (waited (ticks - entered) w) store)) ∙ sym (append-nil (map (with_left (λ o. o)) (offers (waited (ticks - entered) w) store)));
+          counted_first = refl;
+        };
+      }
 
   -- a part that is all that is left
 
-  ends-passes : {at : ℕ} {w : Process} {at-x : ℕ} {x : Process} (frame inner : Option ℕ) (pre post : List Branch) (o : Option Process) → Passes at w at-x x → Ends whole ticks at-x x frame inner pre post o → Ends whole ticks at w frame inner pre post o
-  ends-passes frame inner pre post o p (together e f g h) = together e f g h
-  ends-passes {at = at} {w = w} {at-x = at-x} {x = x} frame inner pre post o p (continues row term f k e) =
+  ends-passes : {at : ℕ} {w : Process} {at-x : ℕ} {x : Process} (frame inner : Option ℕ) (stays post : List Branch) (o : Option Process) → Passes at w at-x x → Ends whole ticks at-x x frame inner stays post o → Ends whole ticks at w frame inner stays post o
+  ends-passes {at = at} {w = w} {at-x = at-x} {x = x} frame inner stays post o p (together e f g) =
       let range = passes-range p in
       let lower = range.0 in
       let upper = range.1 in
-      continues row term (λ l r ol or. f l r (narrower at (at + size w) at-x (at-x + size x) l (omega arith) (omega arith) ol) (narrower at (at + size w) at-x (at-x + size x) r (omega arith) (omega arith) or)) (passes at-x x p k) e
+      together e f (λ l r ol or. g l r (narrower at (at + size w) at-x (at-x + size x) l (omega arith) (omega arith) ol) (narrower at (at + size w) at-x (at-x + size x) r (omega arith) (omega arith) or))
+  ends-passes {at = at} {w = w} {at-x = at-x} {x = x} frame inner stays post o p (continues rest term f k e) =
+      let range = passes-range p in
+      let lower = range.0 in
+      let upper = range.1 in
+      continues rest term (λ l r ol or. f l r (narrower at (at + size w) at-x (at-x + size x) l (omega arith) (omega arith) ol) (narrower at (at + size w) at-x (at-x + size x) r (omega arith) (omega arith) or)) (passes at-x x p k) e
 
   context-passes : {at : ℕ} {w : Process} {at-x : ℕ} {x : Process} (frame : Option ℕ) (r : Process) (b : Branch) (pre post : List Branch) → Passes at w at-x x → Context whole ticks at-x x frame (Some r) b pre post → Context whole ticks at w frame (Some r) b pre post
-  context-passes {at-x = at-x} {x = x} frame r b pre post p k = record {
-    inner = k.inner;
-    term = k.term;
-    plug = k.plug;
-    stands = k.stands;
-    entered = k.entered;
-    now = k.now;
-    grows = λ row q h. (let g = k.grows row q h in record { term = g.term; is = g.is; reads = passes at-x x p g.reads });
-    ends = ends-passes frame k.inner pre post (k.plug None) p k.ends;
-    offering = k.offering;
-  }
+  context-passes {at = at} {w = w} {at-x = at-x} {x = x} frame r b pre post p k =
+      let range = passes-range p in
+      let lower = range.0 in
+      let upper = range.1 in
+      record {
+        place = k.place;
+        here = k.here;
+        term = k.term;
+        is = k.is;
+        plug = k.plug;
+        stays = k.stays;
+        entered = k.entered;
+        keeps = λ l o. k.keeps l (narrower at (at + size w) at-x (at-x + size x) l (omega arith) (omega arith) o);
+        grows = λ row q h. (let g = k.grows row q h in record { term = g.term; is = g.is; reads = passes at-x x p g.reads });
+        ends = ends-passes frame k.place.frame k.stays post (k.plug None) p k.ends;
+        offering = k.offering;
+      }
 
   -- a part behind which something follows
 
@@ -259,161 +326,283 @@ module _ (whole : Process) (ticks : ℕ) where
       let e : ticks - ticks ≡ 0 = omega arith in
       subst (λ (n : ℕ). Reads ticks at (Star x y) (branch at ticks ∷ []) (Some (waited n (Star x y)))) e (waits ticks (omega arith))
 
-  enters : (at : ℕ) (w x : Process) (at-z : ℕ) (z : Process) (inner : Option ℕ) (l r pre post : List Branch) → Follows at w x at-z z → part whole at ≡ w → inner ≡ Some at → pre ≡ [] → post ≡ [] → Outside at (at + size w) l → Outside at (at + size w) r → entered_behind whole ticks inner (l ++ pre) (post ++ r) ≡ branch at-z ticks ∷ []
-  enters at w x at-z z inner l r pre post p is ei ep eq ol or =
-      let bound = follows-bound p in
+  enters : (at : ℕ) (w x : Process) (at-z : ℕ) (z : Process) (l r : List Branch) → Follows at w x at-z z → IsFrame whole at (suc at + size x) at-z false → Outside at (at + size w) l → Outside at (at + size w) r → rest_behind whole ticks (Some at) l r ≡ branch at-z ticks ∷ r
+  enters at w x at-z z l r p is ol or =
       let upper = follows-range p in
-      let bw = bound.0 in
-      let before_it : any_inside at (bound_of at w) (l ++ []) ≡ false = subst (λ (m : List Branch). any_inside at (bound_of at w) m ≡ false) (sym (append-nil l)) (ol at (bound_of at w) (omega arith) (omega arith)) in
-      let behind_it : any_inside at (bound_of at w) r ≡ false = or at (bound_of at w) (omega arith) (omega arith) in
-      rw (ei, ep, eq, is, before_it, behind_it, bound.1) refl
+      let before_it : any_inside at (suc at + size x) l ≡ false = ol at (suc at + size x) (omega arith) (omega arith) in
+      let behind_it : any_inside at (suc at + size x) r ≡ false = or at (suc at + size x) (omega arith) (omega arith) in
+      let none : any_there whole at l r ≡ false = ap (λ (n : ℕ). any_inside at n l || any_inside at n r) is.ends ∙ both-false (any_inside at (suc at + size x) l) (any_inside at (suc at + size x) r) before_it behind_it in
+      rest-enters whole ticks at l r none is.goes ∙ ap (λ (n : ℕ). branch n ticks ∷ r) is.enters
 
-  ends-follows : {at : ℕ} {w x : Process} {at-z : ℕ} {z : Process} (frame inner : Option ℕ) (pre post : List Branch) (o : Option Process) → Follows at w x at-z z → part whole at ≡ w → Ends whole ticks (suc at) x (Some at) inner pre post o → Ends whole ticks at w frame inner pre post (Some (followed o z))
-  ends-follows {at = at} {w = w} {x = x} {at-z = at-z} {z = z} frame inner pre post o p is (together e f g h) =
-      continues (branch at-z ticks ∷ []) z (λ l r ol or. enters at w x at-z z inner l r pre post p is e f g ol or)
-      (rw (f, g) (entered-next p))
-      (ap (λ (q : Option Process). Some (followed q z)) h)
-  ends-follows {at = at} {w = w} {x = x} {at-z = at-z} {z = z} frame inner pre post o p is (continues row term f k e) =
+  ends-follows : {at : ℕ} {w x : Process} {at-z : ℕ} {z : Process} (frame inner : Option ℕ) (stays post : List Branch) (o : Option Process) → Follows at w x at-z z → IsFrame whole at (suc at + size x) at-z false → Ends whole ticks (suc at) x (Some at) inner stays post o → Ends whole ticks at w frame inner stays post (Some (followed o z))
+  ends-follows {at = at} {w = w} {x = x} {at-z = at-z} {z = z} frame inner stays post o p is (together e f g) =
       let upper = follows-range p in
-      continues row (Seq term z) (λ l r ol or. f l r (narrower at (at + size w) (suc at) (suc at + size x) l (omega arith) upper ol) (narrower at (at + size w) (suc at) (suc at + size x) r (omega arith) upper or))
+      continues (branch at-z ticks ∷ []) z
+      (λ l r ol or. ap (λ (m : List Branch). rest_behind whole ticks inner (l ++ m) (post ++ r)) e ∙ ap (λ (m : List Branch). rest_behind whole ticks inner m (post ++ r)) (append-nil l)
+      ∙ g l r (narrower at (at + size w) (suc at) (suc at + size x) l (omega arith) upper ol) (narrower at (at + size w) (suc at) (suc at + size x) r (omega arith) upper or)
+      ∙ enters at w x at-z z l r p is ol or)
+      (rw e (entered-next p))
+      (ap (λ (q : Option Process). Some (followed q z)) f)
+  ends-follows {at = at} {w = w} {x = x} {at-z = at-z} {z = z} frame inner stays post o p is (continues rest term f k e) =
+      let upper = follows-range p in
+      continues rest (Seq term z) (λ l r ol or. f l r (narrower at (at + size w) (suc at) (suc at + size x) l (omega arith) upper ol) (narrower at (at + size w) (suc at) (suc at + size x) r (omega arith) upper or))
       (follows x at-z z p k) (ap (λ (q : Option Process). Some (followed q z)) e)
 
-  context-follows : {at : ℕ} {w x : Process} {at-z : ℕ} {z : Process} (frame : Option ℕ) (r : Process) (b : Branch) (pre post : List Branch) → Follows at w x at-z z → part whole at ≡ w → Context whole ticks (suc at) x (Some at) (Some r) b pre post → Context whole ticks at w frame (Some (Seq r z)) b pre post
-  context-follows {x = x} {at-z = at-z} {z = z} frame r b pre post p is k = record {
-    inner = k.inner;
-    term = k.term;
-    plug = behind_it k.plug z;
-    stands = k.stands;
-    entered = k.entered;
-    now = ap (λ (o : Option Process). Some (followed o z)) k.now;
-    grows = λ row q h. (let g = k.grows row q h in record { term = Seq g.term z; is = ap (λ (o : Option Process). Some (followed o z)) g.is; reads = follows x at-z z p g.reads });
-    ends = ends-follows frame k.inner pre post (k.plug None) p is k.ends;
-    offering = λ q store. offering-follows whole ticks pre k.plug z q store (k.offering q store);
-  }
+  context-follows : {at : ℕ} {w x : Process} {at-z : ℕ} {z : Process} (frame : Option ℕ) (r : Process) (b : Branch) (pre post : List Branch) → Follows at w x at-z z → IsFrame whole at (suc at + size x) at-z false → Context whole ticks (suc at) x (Some at) (Some r) b pre post → Context whole ticks at w frame (Some (Seq r z)) b pre post
+  context-follows {at = at} {w = w} {x = x} {at-z = at-z} {z = z} frame r b pre post p is k =
+      let upper = follows-range p in
+      record {
+        place = k.place;
+        here = k.here;
+        term = k.term;
+        is = k.is;
+        plug = behind_it k.plug z;
+        stays = k.stays;
+        entered = k.entered;
+        keeps = λ l o. k.keeps l (narrower at (at + size w) (suc at) (suc at + size x) l (omega arith) upper o);
+        grows = λ row q h. (let g = k.grows row q h in record { term = Seq g.term z; is = ap (λ (o : Option Process). Some (followed o z)) g.is; reads = follows x at-z z p g.reads });
+        ends = ends-follows frame k.place.frame k.stays post (k.plug None) p is k.ends;
+        offering = λ store. offering-follows whole ticks r pre k.plug z (waited (ticks - b.entered) k.term) store (k.offering store);
+      }
 
   -- a merge that has been parted
 
-  or-true : (a b : Bool) → b ≡ true → (a || b) ≡ true
-  or-true true b e = refl
-  or-true false b e = e
-
-  stays_behind : (frame : Option ℕ) (at : ℕ) (w : Process) (pre post : List Branch) (b : Branch) (rest more : List Branch) → Covers whole frame at w → at < b.position → b.position < at + size w → post ≡ (b ∷ rest) ++ more → entered_behind whole ticks frame pre post ≡ []
-  stays_behind None at w pre post b rest more c h k e = refl
-  stays_behind (Some n) at w pre post b rest more c h k e =
+  stays_behind : (frame : Option ℕ) (at : ℕ) (w : Process) (pre : List Branch) (b : Branch) (rest more : List Branch) → Covers whole frame at w → at < b.position → b.position < at + size w → rest_behind whole ticks frame pre ((b ∷ rest) ++ more) ≡ (b ∷ rest) ++ more
+  stays_behind None at w pre b rest more c h k = rest-none whole ticks pre ((b ∷ rest) ++ more)
+  stays_behind (Some n) at w pre b rest more c h k =
       let f = c.0 in
       let g = c.1 in
-      let i : any_inside n (bound_of n (part whole n)) post ≡ true = ap (any_inside n (bound_of n (part whole n))) e ∙ inside-left n (bound_of n (part whole n)) (b ∷ rest) more (inside-first n (bound_of n (part whole n)) b rest (omega arith) (omega arith)) in
-      rw (or-true (any_inside n (bound_of n (part whole n)) pre) (any_inside n (bound_of n (part whole n)) post) i) refl
+      let bound = bound_by (op_at whole n) n in
+      let i : any_inside n (bound_by (op_at whole n) n) ((b ∷ rest) ++ more) ≡ true = inside-left n (bound_by (op_at whole n) n) (b ∷ rest) more (inside-first n (bound_by (op_at whole n) n) b rest (omega arith) (omega arith)) in
+      rest-inside whole ticks n pre ((b ∷ rest) ++ more) (or-true (any_inside n (bound_by (op_at whole n) n) pre) (any_inside n (bound_by (op_at whole n) n) ((b ∷ rest) ++ more)) i)
 
-  stays_before : (frame : Option ℕ) (at : ℕ) (w : Process) (l pre post : List Branch) (b : Branch) (rest more : List Branch) → Covers whole frame at w → at < b.position → b.position < at + size w → pre ≡ (b ∷ rest) ++ more → entered_behind whole ticks frame (l ++ pre) post ≡ []
-  stays_before None at w l pre post b rest more c h k e = refl
-  stays_before (Some n) at w l pre post b rest more c h k e =
+  or-first : (a b : Bool) → a ≡ true → (a || b) ≡ true
+  or-first a b e = rw e refl
+
+  stays_before : (frame : Option ℕ) (at : ℕ) (w : Process) (l : List Branch) (b : Branch) (rest more post : List Branch) → Covers whole frame at w → at < b.position → b.position < at + size w → rest_behind whole ticks frame (l ++ ((b ∷ rest) ++ more)) post ≡ post
+  stays_before None at w l b rest more post c h k = rest-none whole ticks (l ++ ((b ∷ rest) ++ more)) post
+  stays_before (Some n) at w l b rest more post c h k =
       let f = c.0 in
       let g = c.1 in
-      let bound = bound_of n (part whole n) in
-      let i : any_inside n (bound_of n (part whole n)) pre ≡ true = ap (any_inside n (bound_of n (part whole n))) e ∙ inside-left n (bound_of n (part whole n)) (b ∷ rest) more (inside-first n (bound_of n (part whole n)) b rest (omega arith) (omega arith)) in
-      let j : any_inside n (bound_of n (part whole n)) (l ++ pre) ≡ true = inside-append n (bound_of n (part whole n)) l pre ∙ or-true (any_inside n (bound_of n (part whole n)) l) (any_inside n (bound_of n (part whole n)) pre) i in
-      rw j refl
+      let bound = bound_by (op_at whole n) n in
+      let i : any_inside n (bound_by (op_at whole n) n) ((b ∷ rest) ++ more) ≡ true = inside-left n (bound_by (op_at whole n) n) (b ∷ rest) more (inside-first n (bound_by (op_at whole n) n) b rest (omega arith) (omega arith)) in
+      let j : any_inside n (bound_by (op_at whole n) n) (l ++ ((b ∷ rest) ++ more)) ≡ true = inside-append n (bound_by (op_at whole n) n) l ((b ∷ rest) ++ more) ∙ or-true (any_inside n (bound_by (op_at whole n) n) l) (any_inside n (bound_by (op_at whole n) n) ((b ∷ rest) ++ more)) i in
+      rest-inside whole ticks n (l ++ ((b ∷ rest) ++ more)) post (or-first (any_inside n (bound_by (op_at whole n) n) (l ++ ((b ∷ rest) ++ more))) (any_inside n (bound_by (op_at whole n) n) post) j)
 
   module _ (at : ℕ) (x y : Process) (frame : Option ℕ) (covers : Covers whole frame at (Par x y)) where
-    ends-left : (inner : Option ℕ) (pre mid others : List Branch) (o t : Option Process) → Reads ticks (suc at + size x) y others t → Ends whole ticks (suc at) x frame inner pre mid o → Ends whole ticks at (Par x y) frame inner pre (mid ++ others) (beside o t)
-    ends-left inner pre mid others o t reads (together e f g h) = by_end (ends_together ticks reads)
+    ends-left : (inner : Option ℕ) (stays mid others : List Branch) (o t : Option Process) → Reads ticks (suc at + size x) y others t → Ends whole ticks (suc at) x frame inner stays mid o → Ends whole ticks at (Par x y) frame inner stays (mid ++ others) (beside o t)
+    ends-left inner stays mid others o t reads (together e f g) = by_end (ends_together ticks reads)
       where
-        by_end : EndsTogether ticks others t → Ends whole ticks at (Par x y) frame inner pre (mid ++ others) (beside o t)
-        by_end (inl k) = together e f (rw (g, k.0) refl) (rw (h, k.1) refl)
+        others-out : Outside (suc at) (suc at + size x) others
+        others-out = apart (suc at + size x) (suc at + size x + size y) (suc at) (suc at + size x) others (inr (omega arith)) (in_range ticks reads)
+
+        on : (l r : List Branch) → Outside at (at + size (Par x y)) l → Outside at (at + size (Par x y)) r → rest_behind whole ticks inner l ((mid ++ others) ++ r) ≡ rest_behind whole ticks frame l (others ++ r)
+        on l r ol or =
+            ap (rest_behind whole ticks inner l) (append_assoc mid others r)
+            ∙ g l (others ++ r) (narrower at (at + size (Par x y)) (suc at) (suc at + size x) l (omega arith) (omega arith) ol) (outside-append (suc at) (suc at + size x) others r others-out (narrower at (at + size (Par x y)) (suc at) (suc at + size x) r (omega arith) (omega arith) or))
+
+        by_end : EndsTogether ticks others t → Ends whole ticks at (Par x y) frame inner stays (mid ++ others) (beside o t)
+        by_end (inl k) = together e (rw (f, k.1) refl) (λ l r ol or. on l r ol or ∙ ap (λ (m : List Branch). rest_behind whole ticks frame l (m ++ r)) k.0)
         by_end (inr k) =
             let range = subst (InRange (suc at + size x) (suc at + size x + size y)) k.1.1.0 (in_range ticks reads) in
             let low = range.0.0 in
             let high = range.0.1 in
-            continues [] k.1.1.1.0
-            (λ l r ol or. ap (λ (i : Option ℕ). entered_behind whole ticks i (l ++ pre) ((mid ++ others) ++ r)) e
-            ∙ stays_behind frame at (Par x y) (l ++ pre) ((mid ++ others) ++ r) k.0 k.1.0 r covers (omega arith) (omega arith) (ap (λ (m : List Branch). (m ++ others) ++ r) g ∙ ap (λ (m : List Branch). m ++ r) k.1.1.0))
-            (rw (f, g) (subst (λ (q : Option Process). Reads ticks at (Par x y) others q) k.1.1.1.1 (both ended reads)))
-            (ap (λ (q : Option Process). beside q t) h ∙ k.1.1.1.1)
-    ends-left inner pre mid others o t reads (continues row term f k e) =
+            continues others k.1.1.1.0
+            (λ l r ol or. ap (λ (m : List Branch). rest_behind whole ticks inner (l ++ m) ((mid ++ others) ++ r)) e ∙ ap (λ (m : List Branch). rest_behind whole ticks inner m ((mid ++ others) ++ r)) (append-nil l)
+            ∙ on l r ol or ∙ ap (λ (m : List Branch). rest_behind whole ticks frame l (m ++ r)) k.1.1.0 ∙ stays_behind frame at (Par x y) l k.0 k.1.0 r covers (omega arith) (omega arith) ∙ ap (λ (m : List Branch). m ++ r) (sym k.1.1.0))
+            (rw e (subst (λ (q : Option Process). Reads ticks at (Par x y) others q) k.1.1.1.1 (both ended reads)))
+            (ap (λ (q : Option Process). beside q t) f ∙ k.1.1.1.1)
+    ends-left inner stays mid others o t reads (continues rest term f k e) =
         let other-range = in_range ticks reads in
         let u = some_beside term t in
-        let rows : (pre ++ (row ++ mid)) ++ others ≡ pre ++ (row ++ (mid ++ others)) = append_assoc pre (row ++ mid) others ∙ ap (λ (l : List Branch). pre ++ l) (append_assoc row mid others) in
-        continues row u.0
-        (λ l r ol or. ap (entered_behind whole ticks inner (l ++ pre)) (append_assoc mid others r)
+        continues (rest ++ others) u.0
+        (λ l r ol or. ap (rest_behind whole ticks inner (l ++ stays)) (append_assoc mid others r)
         ∙ f l (others ++ r) (narrower at (at + size (Par x y)) (suc at) (suc at + size x) l (omega arith) (omega arith) ol)
-        (outside-append (suc at) (suc at + size x) others r (apart (suc at + size x) (suc at + size x + size y) (suc at) (suc at + size x) others (inr (omega arith)) other-range) (narrower at (at + size (Par x y)) (suc at) (suc at + size x) r (omega arith) (omega arith) or)))
-        (subst (λ (l : List Branch). Reads ticks at (Par x y) l (Some u.0)) rows (subst (λ (q : Option Process). Reads ticks at (Par x y) ((pre ++ (row ++ mid)) ++ others) q) u.1 (both k reads)))
+        (outside-append (suc at) (suc at + size x) others r (apart (suc at + size x) (suc at + size x + size y) (suc at) (suc at + size x) others (inr (omega arith)) other-range) (narrower at (at + size (Par x y)) (suc at) (suc at + size x) r (omega arith) (omega arith) or))
+        ∙ sym (append_assoc rest others r))
+        (subst (λ (l : List Branch). Reads ticks at (Par x y) l (Some u.0)) (append_assoc stays rest others) (subst (λ (q : Option Process). Reads ticks at (Par x y) ((stays ++ rest) ++ others) q) u.1 (both k reads)))
         (ap (λ (q : Option Process). beside q t) e ∙ u.1)
 
-    ends-right : (inner : Option ℕ) (ones mid post : List Branch) (s o : Option Process) → Reads ticks (suc at) x ones s → Ends whole ticks (suc at + size x) y frame inner mid post o → Ends whole ticks at (Par x y) frame inner (ones ++ mid) post (beside s o)
-    ends-right inner ones mid post s o reads (together e f g h) = by_end (ends_together ticks reads)
+    ends-right : (inner : Option ℕ) (ones stays post : List Branch) (s o : Option Process) → Reads ticks (suc at) x ones s → Ends whole ticks (suc at + size x) y frame inner stays post o → Ends whole ticks at (Par x y) frame inner (ones ++ stays) post (beside s o)
+    ends-right inner ones stays post s o reads (together e f g) = by_end (ends_together ticks reads)
       where
-        by_end : EndsTogether ticks ones s → Ends whole ticks at (Par x y) frame inner (ones ++ mid) post (beside s o)
-        by_end (inl k) = together e (rw (f, k.0) refl) g (rw (h, k.1) refl)
+        on : (l r : List Branch) → Outside at (at + size (Par x y)) l → Outside at (at + size (Par x y)) r → rest_behind whole ticks inner (l ++ ones) (post ++ r) ≡ rest_behind whole ticks frame (l ++ ones) r
+        on l r ol or =
+            g (l ++ ones) r
+            (outside-append (suc at + size x) (suc at + size x + size y) l ones (narrower at (at + size (Par x y)) (suc at + size x) (suc at + size x + size y) l (omega arith) (omega arith) ol) (apart (suc at) (suc at + size x) (suc at + size x) (suc at + size x + size y) ones (inl (omega arith)) (in_range ticks reads)))
+            (narrower at (at + size (Par x y)) (suc at + size x) (suc at + size x + size y) r (omega arith) (omega arith) or)
+
+        by_end : EndsTogether ticks ones s → Ends whole ticks at (Par x y) frame inner (ones ++ stays) post (beside s o)
+        by_end (inl k) = together (rw (e, k.0) refl) (rw (f, k.1) refl) (λ l r ol or.
+            ap (λ (m : List Branch). rest_behind whole ticks inner m (post ++ r)) (sym (append-nil l) ∙ ap (λ (m : List Branch). l ++ m) (sym k.0)) ∙ on l r ol or ∙ ap (λ (m : List Branch). rest_behind whole ticks frame m r) (ap (λ (m : List Branch). l ++ m) k.0 ∙ append-nil l))
         by_end (inr k) =
             let range = subst (InRange (suc at) (suc at + size x)) k.1.1.0 (in_range ticks reads) in
             let low = range.0.0 in
             let high = range.0.1 in
             let u = k.1.1.1 in
-            let rows : ones ++ [] ≡ (ones ++ mid) ++ ([] ++ post) = rw (f, g, append-nil (ones ++ [])) refl in
+            let all : ones ++ stays ≡ ones = ap (λ (m : List Branch). ones ++ m) e ∙ append-nil ones in
             continues [] u.0
-            (λ l r ol or. ap (λ (i : Option ℕ). entered_behind whole ticks i (l ++ (ones ++ mid)) (post ++ r)) e
-            ∙ stays_before frame at (Par x y) l (ones ++ mid) (post ++ r) k.0 k.1.0 mid covers (omega arith) (omega arith) (ap (λ (m : List Branch). m ++ mid) k.1.1.0))
-            (subst (λ (l : List Branch). Reads ticks at (Par x y) l (Some u.0)) rows (subst (λ (q : Option Process). Reads ticks at (Par x y) (ones ++ []) q) (beside-none s ∙ u.1) (both reads ended)))
-            (ap (beside s) h ∙ beside-none s ∙ u.1)
-    ends-right inner ones mid post s o reads (continues row term f k e) =
+            (λ l r ol or. ap (λ (m : List Branch). rest_behind whole ticks inner (l ++ m) (post ++ r)) all ∙ on l r ol or
+            ∙ ap (λ (m : List Branch). rest_behind whole ticks frame (l ++ m) r) (k.1.1.0 ∙ sym (append-nil (k.0 ∷ k.1.0)))
+            ∙ stays_before frame at (Par x y) l k.0 k.1.0 [] r covers (omega arith) (omega arith))
+            (rw (all) (subst (λ (q : Option Process). Reads ticks at (Par x y) (ones ++ []) q) (beside-none s ∙ u.1) (both reads ended)))
+            (ap (beside s) f ∙ beside-none s ∙ u.1)
+    ends-right inner ones stays post s o reads (continues rest term f k e) =
         let one-range = in_range ticks reads in
         let u = beside_some s term in
-        continues row u.0
-        (λ l r ol or. ap (λ (q : List Branch). entered_behind whole ticks inner q (post ++ r)) (sym (append_assoc l ones mid))
+        continues rest u.0
+        (λ l r ol or. ap (λ (q : List Branch). rest_behind whole ticks inner q (post ++ r)) (sym (append_assoc l ones stays))
         ∙ f (l ++ ones) r
         (outside-append (suc at + size x) (suc at + size x + size y) l ones (narrower at (at + size (Par x y)) (suc at + size x) (suc at + size x + size y) l (omega arith) (omega arith) ol) (apart (suc at) (suc at + size x) (suc at + size x) (suc at + size x + size y) ones (inl (omega arith)) one-range))
         (narrower at (at + size (Par x y)) (suc at + size x) (suc at + size x + size y) r (omega arith) (omega arith) or))
-        (subst (λ (l : List Branch). Reads ticks at (Par x y) l (Some u.0)) (sym (append_assoc ones mid (row ++ post))) (subst (λ (q : Option Process). Reads ticks at (Par x y) (ones ++ (mid ++ (row ++ post))) q) u.1 (both reads k)))
+        (subst (λ (l : List Branch). Reads ticks at (Par x y) l (Some u.0)) (sym (append_assoc ones stays rest)) (subst (λ (q : Option Process). Reads ticks at (Par x y) (ones ++ (stays ++ rest)) q) u.1 (both reads k)))
         (ap (beside s) e ∙ u.1)
 
     context-left : (s t : Option Process) (b : Branch) (pre mid others : List Branch) → Reads ticks (suc at + size x) y others t → Context whole ticks (suc at) x frame s b pre mid → Context whole ticks at (Par x y) frame (beside s t) b pre (mid ++ others)
     context-left s t b pre mid others reads k = record {
-      inner = k.inner;
+      place = k.place;
+      here = k.here;
       term = k.term;
+      is = k.is;
       plug = left_side k.plug t;
-      stands = k.stands;
+      stays = k.stays;
       entered = k.entered;
-      now = ap (λ (q : Option Process). beside q t) k.now;
+      keeps = λ l o. k.keeps l (narrower at (at + size (Par x y)) (suc at) (suc at + size x) l (omega arith) (omega arith) o);
       grows = λ row r h.
           (let g = k.grows row r h in
           let u = some_beside g.term t in
-          let rows : (pre ++ (row ++ mid)) ++ others ≡ pre ++ (row ++ (mid ++ others)) = append_assoc pre (row ++ mid) others ∙ ap (λ (l : List Branch). pre ++ l) (append_assoc row mid others) in
+          let rows : (k.stays ++ (row ++ mid)) ++ others ≡ k.stays ++ (row ++ (mid ++ others)) = append_assoc k.stays (row ++ mid) others ∙ ap (λ (l : List Branch). k.stays ++ l) (append_assoc row mid others) in
           record {
             term = u.0;
             is = ap (λ (q : Option Process). beside q t) g.is ∙ u.1;
-            reads = subst (λ (l : List Branch). Reads ticks at (Par x y) l (Some u.0)) rows (subst (λ (q : Option Process). Reads ticks at (Par x y) ((pre ++ (row ++ mid)) ++ others) q) u.1 (both g.reads reads));
+            reads = subst (λ (l : List Branch). Reads ticks at (Par x y) l (Some u.0)) rows (subst (λ (q : Option Process). Reads ticks at (Par x y) ((k.stays ++ (row ++ mid)) ++ others) q) u.1 (both g.reads reads));
           });
-      ends = ends-left k.inner pre mid others (k.plug None) t reads k.ends;
-      offering = λ r store. offering-left whole ticks pre k.plug t r store (k.offering r store);
+      ends = ends-left k.place.frame k.stays mid others (k.plug None) t reads k.ends;
+      offering = λ store. offering-left whole ticks pre k.plug s t (waited (ticks - b.entered) k.term) store (k.offering store);
     }
 
     context-right : (s t : Option Process) (b : Branch) (ones mid post : List Branch) → Stands whole (suc at) x (table x (suc at) frame) → Reads ticks (suc at) x ones s → Context whole ticks (suc at + size x) y frame t b mid post → Context whole ticks at (Par x y) frame (beside s t) b (ones ++ mid) post
     context-right s t b ones mid post stands reads k = record {
-      inner = k.inner;
+      place = k.place;
+      here = k.here;
       term = k.term;
+      is = k.is;
       plug = right_side k.plug s;
-      stands = k.stands;
+      stays = ones ++ k.stays;
       entered = k.entered;
-      now = ap (beside s) k.now;
+      keeps = λ l o.
+          ap (kept_by k.place.op b.position) (sym (append_assoc l ones mid))
+          ∙ k.keeps (l ++ ones) (outside-append (suc at + size x) (suc at + size x + size y) l ones (narrower at (at + size (Par x y)) (suc at + size x) (suc at + size x + size y) l (omega arith) (omega arith) o) (apart (suc at) (suc at + size x) (suc at + size x) (suc at + size x + size y) ones (inl (omega arith)) (in_range ticks reads)))
+          ∙ append_assoc l ones k.stays;
       grows = λ row r h.
           (let g = k.grows row r h in
           let u = beside_some s g.term in
           record {
             term = u.0;
             is = ap (beside s) g.is ∙ u.1;
-            reads = subst (λ (l : List Branch). Reads ticks at (Par x y) l (Some u.0)) (sym (append_assoc ones mid (row ++ post))) (subst (λ (q : Option Process). Reads ticks at (Par x y) (ones ++ (mid ++ (row ++ post))) q) u.1 (both reads g.reads));
+            reads = subst (λ (l : List Branch). Reads ticks at (Par x y) l (Some u.0)) (sym (append_assoc ones k.stays (row ++ post))) (subst (λ (q : Option Process). Reads ticks at (Par x y) (ones ++ (k.stays ++ (row ++ post))) q) u.1 (both reads g.reads));
           });
-      ends = ends-right k.inner ones mid post s (k.plug None) reads k.ends;
-      offering = λ r store. offering-right whole ticks mid ones k.plug s r store (counts ticks whole store frame reads stands) (k.offering r store);
+      ends = ends-right k.place.frame ones k.stays post s (k.plug None) reads k.ends;
+      offering = λ store. offering-right whole ticks mid ones k.plug s t (waited (ticks - b.entered) k.term) store (counts ticks whole store frame reads stands) (k.offering store);
     }
 
-  covers-frame : (at : ℕ) (w x : Process) (at-z : ℕ) (z : Process) → Follows at w x at-z z → part whole at ≡ w → Covers whole (Some at) (suc at) x
-  covers-frame at w x at-z z p is =
-      let b = (follows-bound p).0 in
-      let e : bound_of at (part whole at) ≡ suc at + size x = ap (bound_of at) is ∙ b in
-      (omega arith, omega arith)
+  -- a disrupt whose left side has begun
+
+  module _ (at : ℕ) (x y : Process) (frame : Option ℕ) (stands : Stands whole at (Disrupt x y) (table (Disrupt x y) at frame)) where
+    abbrev waits_at : ℕ
+    waits_at = suc at + size x
+
+    above : frame_above whole (Some at) ≡ frame
+    above = ap frame_in (stands_here whole at (Disrupt x y) (table (Disrupt x y) at frame) stands).0
+
+    last-out : (entered : ℕ) → Outside (suc at) (suc at + size x) (branch waits_at entered ∷ [])
+    last-out entered = apart (suc at + size x) (suc (suc at + size x)) (suc at) (suc at + size x) (branch waits_at entered ∷ []) (inr (omega arith)) ((omega arith, omega arith), tt)
+
+    -- the right side goes, where all of the left side has ended
+    goes_too : (entered : ℕ) (l r : List Branch) → Outside at (at + size (Disrupt x y)) l → Outside at (at + size (Disrupt x y)) r → rest_behind whole ticks (Some at) l (branch waits_at entered ∷ r) ≡ rest_behind whole ticks frame l r
+    goes_too entered l r ol or =
+        let before_it : any_inside at (suc at + size x) l ≡ false = ol at (suc at + size x) (omega arith) (omega arith) in
+        let behind_it : any_inside at (suc at + size x) r ≡ false = or at (suc at + size x) (omega arith) (omega arith) in
+        let it : any_inside at (suc at + size x) (branch waits_at entered ∷ []) ≡ false = apart (suc at + size x) (suc (suc at + size x)) at (suc at + size x) (branch waits_at entered ∷ []) (inr (omega arith)) ((omega arith, omega arith), tt) at (suc at + size x) (omega arith) (omega arith) in
+        let both_it : any_inside at (suc at + size x) (branch waits_at entered ∷ r) ≡ false = inside-append at (suc at + size x) (branch waits_at entered ∷ []) r ∙ both-false (any_inside at (suc at + size x) (branch waits_at entered ∷ [])) (any_inside at (suc at + size x) r) it behind_it in
+        let none : any_there whole at l (branch waits_at entered ∷ r) ≡ false = ap (λ (n : ℕ). any_inside at n l || any_inside at n (branch waits_at entered ∷ r)) (until-frame whole frame at x y stands).ends ∙ both-false (any_inside at (suc at + size x) l) (any_inside at (suc at + size x) (branch waits_at entered ∷ r)) before_it both_it in
+        rest-falls whole ticks at frame l (branch waits_at entered) r none (until-frame whole frame at x y stands).goes above
+
+    ends-until : (entered : ℕ) → entered ≤ ticks → (inner : Option ℕ) (stays mid : List Branch) (o : Option Process) → Ends whole ticks (suc at) x (Some at) inner stays mid o → Ends whole ticks at (Disrupt x y) frame inner stays (mid ++ branch waits_at entered ∷ []) (in_wait_of (waited (ticks - entered) y) o)
+    ends-until entered le inner stays mid o (together e f g) =
+        together e (ap (in_wait_of (waited (ticks - entered) y)) f)
+        (λ l r ol or. ap (rest_behind whole ticks inner l) (append_assoc mid (branch waits_at entered ∷ []) r)
+        ∙ g l (branch waits_at entered ∷ r) (narrower at (at + size (Disrupt x y)) (suc at) (suc at + size x) l (omega arith) (omega arith) ol)
+        (outside-append (suc at) (suc at + size x) (branch waits_at entered ∷ []) r (last-out entered) (narrower at (at + size (Disrupt x y)) (suc at) (suc at + size x) r (omega arith) (omega arith) or))
+        ∙ goes_too entered l r ol or)
+    ends-until entered le inner stays mid o (continues rest term f k e) =
+        continues (rest ++ branch waits_at entered ∷ []) (Disrupt term (waited (ticks - entered) y))
+        (λ l r ol or. ap (rest_behind whole ticks inner (l ++ stays)) (append_assoc mid (branch waits_at entered ∷ []) r)
+        ∙ f l (branch waits_at entered ∷ r) (narrower at (at + size (Disrupt x y)) (suc at) (suc at + size x) l (omega arith) (omega arith) ol)
+        (outside-append (suc at) (suc at + size x) (branch waits_at entered ∷ []) r (last-out entered) (narrower at (at + size (Disrupt x y)) (suc at) (suc at + size x) r (omega arith) (omega arith) or))
+        ∙ sym (append_assoc rest (branch waits_at entered ∷ []) r))
+        (subst (λ (l : List Branch). Reads ticks at (Disrupt x y) l (Some (Disrupt term (waited (ticks - entered) y)))) (append_assoc stays rest (branch waits_at entered ∷ [])) (until entered le k))
+        (ap (in_wait_of (waited (ticks - entered) y)) e)
+
+    -- a branch of the left side
+    context-until : (r : Process) (b : Branch) (pre mid : List Branch) (entered : ℕ) → entered ≤ ticks → Context whole ticks (suc at) x (Some at) (Some r) b pre mid → Context whole ticks at (Disrupt x y) frame (Some (Disrupt r (waited (ticks - entered) y))) b pre (mid ++ branch waits_at entered ∷ [])
+    context-until r b pre mid entered le k = record {
+      place = k.place;
+      here = k.here;
+      term = k.term;
+      is = k.is;
+      plug = until_it k.plug (waited (ticks - entered) y);
+      stays = k.stays;
+      entered = k.entered;
+      keeps = λ l o. k.keeps l (narrower at (at + size (Disrupt x y)) (suc at) (suc at + size x) l (omega arith) (omega arith) o);
+      grows = λ row q h.
+          (let g = k.grows row q h in
+          let last = branch waits_at entered ∷ [] in
+          let rows : (k.stays ++ (row ++ mid)) ++ (branch waits_at entered ∷ []) ≡ k.stays ++ (row ++ (mid ++ (branch waits_at entered ∷ []))) = append_assoc k.stays (row ++ mid) last ∙ ap (λ (l : List Branch). k.stays ++ l) (append_assoc row mid last) in
+          record {
+            term = Disrupt g.term (waited (ticks - entered) y);
+            is = ap (in_wait_of (waited (ticks - entered) y)) g.is;
+            reads = subst (λ (l : List Branch). Reads ticks at (Disrupt x y) l (Some (Disrupt g.term (waited (ticks - entered) y)))) rows (until entered le g.reads);
+          });
+      ends = ends-until entered le k.place.frame k.stays mid (k.plug None) k.ends;
+      offering = λ store. offering-until whole ticks r pre k.plug (waited (ticks - entered) y) (waited (ticks - b.entered) k.term) store (k.offering store);
+    }
+
+    -- the right side, before which all of the left goes
+    context-transfers : (r : Process) (row : List Branch) (entered : ℕ) → entered ≤ ticks → Reads ticks (suc at) x row (Some r) → Context whole ticks at (Disrupt x y) frame (Some (Disrupt r (waited (ticks - entered) y))) (branch waits_at entered) row []
+    context-transfers r row entered le k = record {
+      place = node (op.Waits at) frame;
+      here = (waits_there whole at x y frame stands).0;
+      term = y;
+      is = (waits_there whole at x y frame stands).1;
+      plug = λ o. o;
+      stays = [];
+      entered = le;
+      keeps = λ l o.
+          without-append at waits_at l row
+          ∙ ap (λ (m : List Branch). m ++ without at waits_at row) (without-none at waits_at l (o at waits_at (omega arith) (omega arith)))
+          ∙ ap (λ (m : List Branch). l ++ m) (without-all at waits_at row (in_range ticks k));
+      grows = λ new q h. record {
+        term = q;
+        is = refl;
+        reads = subst (λ (l : List Branch). Reads ticks at (Disrupt x y) l (Some q)) (sym (append-nil new)) (passes (suc waits_at) y transfers h);
+      };
+      ends = together refl refl (λ l r f g. refl);
+      offering = λ store. record {
+        term = Disrupt r (waited (ticks - entered) y);
+        is = refl;
+        first = map (in_wait (waited (ticks - entered) y)) (offers r store);
+        last = [];
+        are = ap (λ (l : List Offered). map (in_wait (waited (ticks - entered) y)) (offers r store) ++ l) (sym (map-id (offers (waited (ticks - entered) y) store)) ∙ sym (append-nil (map (with_left (λ o. o)) (offers (waited (ticks - entered) y) store))));
+        counted_first = length-mapped (in_wait (waited (ticks - entered) y)) (offers r store) ∙ counts ticks whole store (Some at) k (stands_until whole at x y frame stands);
+      };
+    }
+
+    covers-until : Covers whole (Some at) (suc at) x
+    covers-until = (let e = (until-frame whole frame at x y stands).ends in (omega arith, omega arith))
+
+  covers-frame : (at : ℕ) (w x : Process) (at-z : ℕ) (z : Process) → IsFrame whole at (suc at + size x) at-z false → Covers whole (Some at) (suc at) x
+  covers-frame at w x at-z z is = (let e = is.ends in (omega arith, omega arith))
 
   -- each branch of a row has its context
   pub context : (frame : Option ℕ) {at : ℕ} {w : Process} {row : List Branch} {t : Option Process} → Reads ticks at w row t → Stands whole at w (table w at frame) → Covers whole frame at w → (pre : List Branch) (b : Branch) (post : List Branch) → row ≡ pre ++ (b ∷ post) → Context whole ticks at w frame t b pre post
@@ -430,8 +619,8 @@ module _ (whole : Process) (ticks : ℕ) where
       let lower = range.0 in
       context-passes frame r b pre post p (context frame k (passes-stands whole frame p s) (covers-within whole frame at w at-x x (omega arith) range.1 c) pre b post e)
   context frame (follows {at = at} {term = w} x at-z z {r = r} p k) s c pre b post e =
-      let is = (stands_here whole at w (table w at frame) s).1 in
-      context-follows frame r b pre post p is (context (Some at) k (follows-stands whole frame p s) (covers-frame at w x at-z z p is) pre b post e)
+      let is = follows-frame whole frame p s in
+      context-follows frame r b pre post p is (context (Some at) k (follows-stands whole frame p s) (covers-frame at w x at-z z is) pre b post e)
   context frame (both {at = at} {x = x} {y = y} {one = one-row} {other = other-row} {s = one-left} {t = other-left} k l) s c pre b post e =
       by_side (split_at one-row other-row pre b post e)
       (λ mid h. context frame k (par-first whole frame at x y s) (covers-within whole frame at (Par x y) (suc at) x (omega arith) (omega arith) c) pre b mid h)
@@ -443,3 +632,18 @@ module _ (whole : Process) (ticks : ℕ) where
           Context whole ticks at (Par x y) frame (beside one-left other-left) b pre post
       by_side (inl h) f g = subst (λ (q : List Branch). Context whole ticks at (Par x y) frame (beside one-left other-left) b pre q) (sym h.1.1) (context-left at x y frame c one-left other-left b pre h.0 other-row l (f h.0 h.1.0))
       by_side (inr h) f g = subst (λ (q : List Branch). Context whole ticks at (Par x y) frame (beside one-left other-left) b q post) (sym h.1.0) (context-right at x y frame c one-left other-left b one-row h.0 post (par-first whole frame at x y s) k (g h.0 h.1.1))
+  context frame (until {at = at} {x = x} {y = y} {row = row} {r = r} entered le k) s c pre b post e =
+      by_side (split_at row (branch (suc at + size x) entered ∷ []) pre b post e)
+      (λ mid h. context (Some at) k (stands_until whole at x y frame s) (covers-until at x y frame s) pre b mid h)
+    where
+      by_side : SplitAt row (branch (suc at + size x) entered ∷ []) pre b post →
+          ((mid : List Branch) → row ≡ pre ++ (b ∷ mid) → Context whole ticks (suc at) x (Some at) (Some r) b pre mid) →
+          Context whole ticks at (Disrupt x y) frame (Some (Disrupt r (waited (ticks - entered) y))) b pre post
+      by_side (inl h) f = subst (λ (q : List Branch). Context whole ticks at (Disrupt x y) frame (Some (Disrupt r (waited (ticks - entered) y))) b pre q) (sym h.1.1) (context-until at x y frame s r b pre h.0 entered le (f h.0 h.1.0))
+      by_side (inr h) f =
+          let a = alone (branch (suc at + size x) entered) b h.0 post h.1.1 in
+          let same : pre ≡ row = h.1.0 ∙ ap (λ (m : List Branch). row ++ m) a.0 ∙ append-nil row in
+          subst (λ (q : Branch). Context whole ticks at (Disrupt x y) frame (Some (Disrupt r (waited (ticks - entered) y))) q pre post) a.1.0
+          (subst (λ (q : List Branch). Context whole ticks at (Disrupt x y) frame (Some (Disrupt r (waited (ticks - entered) y))) (branch (suc at + size x) entered) q post) (sym same)
+          (subst (λ (q : List Branch). Context whole ticks at (Disrupt x y) frame (Some (Disrupt r (waited (ticks - entered) y))) (branch (suc at + size x) entered) row q) (sym a.1.1)
+          (context-transfers at x y frame s r row entered le k)))

@@ -1,11 +1,11 @@
 -- What is left of a term is what its row is read as.
-use Rattle.std.proofs.Common.{◌≡◌, ℕ, suc, ◌+◌, ◌-◌, ◌<◌, ◌≤◌, List, ◌++◌, Option, Some, None, refl, ◌∙◌, arith, inl, inr}
-use Rattle.tb_algebra.specs.Processes.{Process, At, Seq, Alt, Star, Par, If, When, Let}
+use Rattle.std.proofs.Common.{◌≡◌, ℕ, suc, ◌+◌, ◌-◌, ◌<◌, ◌≤◌, List, [], ◌∷◌, ◌++◌, Option, Some, None, refl, ◌∙◌, arith, inl, inr}
+use Rattle.tb_algebra.specs.Processes.{Process, At, Seq, Alt, Star, Par, Disrupt, If, When, Let}
 use Rattle.tb_algebra.specs.Helpers.Runnings.{waited}
 use Rattle.tb_code.specs.Positions.{size}
 use Rattle.tb_code.proofs.Parts.{some_size}
 use Rattle.tb_walk.specs.Lefts.{entered_at, beside, left}
-use Rattle.tb_walk.specs.Helpers.Reads.{Passes, behind, one, other, leaves, then_side, else_side, when, set, Follows, sequence, turn, Reads, ended, waits, passes, follows, both}
+use Rattle.tb_walk.specs.Helpers.Reads.{branch, Passes, behind, one, other, leaves, transfers, then_side, else_side, when, set, Follows, sequence, turn, Reads, ended, waits, passes, follows, both, stands_until as until}
 use Rattle.tb_walk.specs.declared.branch.Branch.{Branch}
 use Rattle.tb_walk.proofs.Ranges.{wider, range-append, entered-left, entered-right, entered-none, entered-only}
 use Rattle.tb_walk.proofs.ReadLemmas.{passes-range, follows-range, in_range}
@@ -17,6 +17,7 @@ module _ (ticks : ℕ) (row : List Branch) where
   left-here at (Alt x y) entered h = rw h refl
   left-here at (Star x y) entered h = rw h refl
   left-here at (Par x y) entered h = rw h refl
+  left-here at (Disrupt x y) entered h = rw h refl
   left-here at (If test x y) entered h = rw h refl
   left-here at (When test x) entered h = rw h refl
   left-here at (Let settings x) entered h = rw h refl
@@ -33,6 +34,7 @@ module _ (ticks : ℕ) (row : List Branch) where
   quiet at (Alt x y) q = rw (q at (omega arith) (omega arith), quiet (suc at) x (less at (at + size (Alt x y)) (suc at) (suc at + size x) (omega arith) (omega arith) q), quiet (suc at + size x) y (less at (at + size (Alt x y)) (suc at + size x) (suc at + size x + size y) (omega arith) (omega arith) q)) refl
   quiet at (Star x y) q = rw (q at (omega arith) (omega arith), quiet (suc at) x (less at (at + size (Star x y)) (suc at) (suc at + size x) (omega arith) (omega arith) q), quiet (suc at + size x) y (less at (at + size (Star x y)) (suc at + size x) (suc at + size x + size y) (omega arith) (omega arith) q)) refl
   quiet at (Par x y) q = rw (q at (omega arith) (omega arith), quiet (suc at) x (less at (at + size (Par x y)) (suc at) (suc at + size x) (omega arith) (omega arith) q), quiet (suc at + size x) y (less at (at + size (Par x y)) (suc at + size x) (suc at + size x + size y) (omega arith) (omega arith) q)) refl
+  quiet at (Disrupt x y) q = rw (q at (omega arith) (omega arith), quiet (suc at) x (less at (at + size (Disrupt x y)) (suc at) (suc at + size x) (omega arith) (omega arith) q), q (suc at + size x) (omega arith) (omega arith), quiet (suc (suc at + size x)) y (less at (at + size (Disrupt x y)) (suc (suc at + size x)) (suc (suc at + size x) + size y) (omega arith) (omega arith) q)) refl
   quiet at (If test x y) q = rw (q at (omega arith) (omega arith), quiet (suc at) x (less at (at + size (If test x y)) (suc at) (suc at + size x) (omega arith) (omega arith) q), quiet (suc at + size x) y (less at (at + size (If test x y)) (suc at + size x) (suc at + size x + size y) (omega arith) (omega arith) q)) refl
   quiet at (When test x) q = rw (q at (omega arith) (omega arith), quiet (suc at) x (less at (at + size (When test x)) (suc at) (suc at + size x) (omega arith) (omega arith) q)) refl
   quiet at (Let settings x) q = rw (q at (omega arith) (omega arith), quiet (suc at) x (less at (at + size (Let settings x)) (suc at) (suc at + size x) (omega arith) (omega arith) q)) refl
@@ -42,6 +44,7 @@ module _ (ticks : ℕ) (row : List Branch) where
   left-passes (one {at = at}) r h q = rw (q at (omega arith) (omega arith), h) refl
   left-passes (other {at = at} {x = x} {y = y}) r h q = rw (q at (omega arith) (omega arith), quiet (suc at) x (less at (suc at + size x) (suc at) (suc at + size x) (omega arith) (omega arith) q), h) refl
   left-passes (leaves {at = at} {x = x} {y = y}) r h q = rw (q at (omega arith) (omega arith), quiet (suc at) x (less at (suc at + size x) (suc at) (suc at + size x) (omega arith) (omega arith) q), h) refl
+  left-passes (transfers {at = at} {x = x} {y = y}) r h q = rw (q at (omega arith) (omega arith), quiet (suc at) x (less at (suc (suc at + size x)) (suc at) (suc at + size x) (omega arith) (omega arith) q), q (suc at + size x) (omega arith) (omega arith), h) refl
   left-passes (then_side {at = at}) r h q = rw (q at (omega arith) (omega arith), h) refl
   left-passes (else_side {at = at} {test = test} {x = x} {y = y}) r h q = rw (q at (omega arith) (omega arith), quiet (suc at) x (less at (suc at + size x) (suc at) (suc at + size x) (omega arith) (omega arith) q), h) refl
   left-passes (when {at = at}) r h q = rw (q at (omega arith) (omega arith), h) refl
@@ -53,6 +56,9 @@ module _ (ticks : ℕ) (row : List Branch) where
 
   left-both : (at : ℕ) (x y : Process) (s t : Option Process) → left ticks row (suc at) x ≡ s → left ticks row (suc at + size x) y ≡ t → entered_at row at ≡ None → left ticks row at (Par x y) ≡ beside s t
   left-both at x y s t h k e = rw (e, h, k) refl
+
+  left-until : (at : ℕ) (x y r : Process) (entered : ℕ) → left ticks row (suc at) x ≡ Some r → entered_at row (suc at + size x) ≡ Some entered → entered_at row at ≡ None → left ticks row at (Disrupt x y) ≡ Some (Disrupt r (waited (ticks - entered) y))
+  left-until at x y r entered h k e = rw (e, h, k) refl
 
 -- the row agrees with another at all positions of the term
 abbrev Agrees : List Branch → List Branch → ℕ → ℕ → Type 0
@@ -88,6 +94,15 @@ left-reads ticks (both {at = at} {x = x} {y = y} {one = one-row} {other = other-
     (left-reads ticks k full (λ i f g. a i (omega arith) (omega arith) ∙ entered-left one-row other-row i (entered-none (suc at + size x) (suc at + size x + size y) i other-row (inl g) others)))
     (left-reads ticks l full (λ i f g. a i (omega arith) (omega arith) ∙ entered-right one-row other-row i (entered-none (suc at) (suc at + size x) i one-row (inr f) rows)))
     (a at (omega arith) (omega arith) ∙ entered-none (suc at) (suc at + size x + size y) at (one-row ++ other-row) (inl (omega arith)) all)
+left-reads ticks (until {at = at} {x = x} {y = y} {row = row} {r = r} entered h k) full a =
+    let rows = in_range ticks k in
+    let n = some_size y in
+    let last = branch (suc at + size x) entered in
+    let all = in_range ticks (until {y = y} entered h k) in
+    left-until ticks full at x y r entered
+    (left-reads ticks k full (λ i f g. a i (omega arith) (omega arith) ∙ entered-left row (last ∷ []) i (entered-none (suc at + size x) (suc (suc at + size x)) i (last ∷ []) (inl g) ((omega arith, omega arith), tt))))
+    (a (suc at + size x) (omega arith) (omega arith) ∙ entered-right row (last ∷ []) (suc at + size x) (entered-none (suc at) (suc at + size x) (suc at + size x) row (inr (omega arith)) rows) ∙ entered-only (suc at + size x) entered)
+    (a at (omega arith) (omega arith) ∙ entered-left row (last ∷ []) at (entered-none (suc at + size x) (suc (suc at + size x)) at (last ∷ []) (inl (omega arith)) ((omega arith, omega arith), tt)) ∙ entered-none (suc at) (suc at + size x) at row (inl (omega arith)) rows)
 
 pub left-read : (ticks : ℕ) {at : ℕ} {w : Process} {row : List Branch} {t : Option Process} → Reads ticks at w row t → left ticks row at w ≡ t
 left-read ticks {row = row} r = left-reads ticks r row (λ i f g. refl)

@@ -3,6 +3,7 @@ pub mod ReadLemmas
 pub mod LeftLemmas
 pub mod Contexts
 pub mod Steps
+pub mod EndingLemmas
 pub mod TakeLemmas
 pub mod SightLemmas
 pub mod LookLemmas

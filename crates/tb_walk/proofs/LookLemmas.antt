@@ -1,5 +1,5 @@
 -- What is seen of the part at a position, and where its parts stand, as the code names them.
-use Rattle.std.proofs.Common.{◌≡◌, ◌==◌, ℕ, suc, ◌+◌, ◌-◌, ◌<◌, ◌≤◌, Bool, true, false, List, [], ◌∷◌, ◌++◌, Option, Some, None, refl, ap, sym, subst, ◌∙◌, arith, append_assoc, length, All, flat_map, map, drop, get_or, if◌then◌else◌, ◌⊎◌, inl, inr}
+use Rattle.std.proofs.Common.{◌≡◌, ◌==◌, ℕ, suc, ◌+◌, ◌-◌, ◌<◌, ◌≤◌, Bool, true, false, List, [], ◌∷◌, ◌++◌, Option, Some, None, refl, ap, sym, subst, ◌∙◌, arith, append_assoc, length, All, flat_map, map, drop, get_or}
 use Rattle.std.proofs.lemmas.List.{append-nil, drop_more, drop_all}
 use Rattle.std.proofs.lemmas.List.Concat.{flat_map-append}
 use Rattle.std.proofs.lemmas.List.Elements.{All-append, All-cons, All-map, All-nil, All-weaker}
@@ -9,22 +9,33 @@ use Rattle.tb_body.specs.declared.atom.Atom.{Atom}
 use Rattle.tb_body.specs.declared.atom.Time.{Time}
 use Rattle.tb_body.specs.declared.tree.Setting.{Setting}
 use Rattle.tb_algebra.specs.Atoms.{is_ready, times_of}
-use Rattle.tb_algebra.specs.Processes.{Process, At, Seq, Alt, Star, Par, If, When, Let}
+use Rattle.tb_algebra.specs.Processes.{Process, At, Seq, Alt, Star, Par, Disrupt, If, When, Let}
 use Rattle.tb_algebra.specs.Settings.{tested, with_settings}
-use Rattle.tb_code.specs.Entries.{all_led, entries_of, entry, followed, gate, is_timed, led, what_by}
-use Rattle.tb_code.specs.Positions.{size, part, table, IsTwo, IsOne}
-use Rattle.tb_code.proofs.EntryLemmas.{followed-ended}
-use Rattle.tb_code.proofs.Parts.{Stands, stands_first, stands_here, stands_second, whole_at}
+use Rattle.tb_code.specs.Entries.{all_led, entries_of, entry, followed, gate, is_timed, led, list_of, outset, what_by}
+use Rattle.tb_code.specs.Positions.{size, part, table, op_at, root, is_wait, Begins, IsTwo, IsUntil, IsWait, IsOne}
+use Rattle.tb_code.proofs.EntryLemmas.{followed-ended, outset_begins}
+use Rattle.tb_code.proofs.Parts.{Stands, stands_first, stands_here, stands_second, stands_until, stands_behind, stands_begins, root_begins, root_at}
 use Rattle.tb_code.proofs.Tables.{length-table}
 use Rattle.tb_code.specs.declared.behind.Behind.{Behind}
 use Rattle.tb_code.specs.declared.behind.Behind.TheVariants as behind
 use Rattle.tb_code.specs.declared.entry.Entry.{Entry}
-use Rattle.tb_walk.specs.Helpers.Sights.{Sighting, entry_sightings, seen_by, Looking, sightings, sightings_if, sightings_after, sighting_at, branch_sightings, row_sightings}
+use Rattle.tb_code.specs.declared.node.Op.{Op}
+use Rattle.tb_code.specs.declared.node.Op.TheVariants as op
+use Rattle.tb_walk.specs.Helpers.Sights.{Sighting, entry_sightings, seen_by, Looking, sightings, sightings_at, sightings_if, sightings_after, sighting_at, branch_sightings, row_sightings}
 use Rattle.tb_walk.specs.declared.branch.Branch.{Branch}
 
 -- the part at a position stands behind the whole, and nearer to its end
 abbrev pub IsNearer : Process → ℕ → ℕ → Type 0
 IsNearer whole at position = (size whole - position < size whole - at) × (position < size whole)
+
+-- where a part begins, what is seen at its position is what is seen of it
+pub begun : (whole : Process) (by : Looking) (so_far : Behind) (position : ℕ) (store : List Slot) → Begins whole position → sightings_at whole by so_far position store ≡ sightings by so_far position (part whole position) store
+begun whole by so_far position store b =
+    ap (λ (o : Behind). sightings by (followed o so_far) (root (op_at whole position) position) (part whole position) store) (outset_begins (op_at whole position) b)
+    ∙ ap (λ (n : ℕ). sightings by so_far n (part whole position) store) (root_begins (op_at whole position) position b)
+
+pub begins_with : (whole : Process) (at : ℕ) (o : Op) → op_at whole at ≡ o → is_wait o ≡ false → Begins whole at
+begins_with whole at o e f = ap is_wait e ∙ f
 
 module _ (whole : Process) (at first : ℕ) (f : first ≡ suc at) where
   pub two_nearer : (make : Process → Process → Process) (right : ℕ) → IsTwo whole make at right → IsNearer whole at first × IsNearer whole at right
@@ -37,80 +48,106 @@ module _ (whole : Process) (at first : ℕ) (f : first ≡ suc at) where
   pub one_nearer : (make : Process → Process) → IsOne whole make at → IsNearer whole at first
   one_nearer make one = (let a = one.first in (omega arith, omega arith))
 
+  pub until_nearer : (waits : ℕ) → IsUntil whole at waits → IsNearer whole at first × IsNearer whole at (suc waits)
+  until_nearer waits two =
+      let a = two.first in
+      let b = two.second in
+      let c = two.behind in
+      ((omega arith, omega arith), (omega arith, omega arith))
+
+  pub wait_nearer : (disrupt : ℕ) → IsWait whole at disrupt → IsNearer whole at first
+  wait_nearer disrupt one = (let a = one.first in (omega arith, omega arith))
+
   module _ (by : Looking) where
     abbrev pub seen_at : Behind → ℕ → List Slot → List Sighting
-    seen_at so_far position store = sightings by so_far position (part whole position) store
+    seen_at so_far position store = sightings_at whole by so_far position store
 
-    pub look_atom : (so_far : Behind) (atom age : ℕ) (store : List Slot) → part whole at ≡ At atom age → seen_at so_far at store ≡ sighting_at by so_far at atom store ∷ []
+    abbrev pub plain_at : Behind → ℕ → List Slot → List Sighting
+    plain_at so_far position store = sightings by so_far position (part whole position) store
+
+    pub look_atom : (so_far : Behind) (atom age : ℕ) (store : List Slot) → part whole at ≡ At atom age → plain_at so_far at store ≡ sighting_at by so_far at atom store ∷ []
     look_atom so_far atom age store e = ap (λ (p : Process). sightings by so_far at p store) e
 
-    at-first : (so_far : Behind) (store : List Slot) → seen_at so_far (suc at) store ≡ seen_at so_far first store
-    at-first so_far store = ap (λ (p : ℕ). seen_at so_far p store) (sym f)
+    at-first : Begins whole (suc at) → (so_far : Behind) (store : List Slot) → plain_at so_far (suc at) store ≡ seen_at so_far first store
+    at-first b so_far store = sym (begun whole by so_far (suc at) store b) ∙ ap (λ (p : ℕ). seen_at so_far p store) (sym f)
 
     at-right : (so_far : Behind) (make : Process → Process → Process) (right : ℕ) (store : List Slot) → (two : IsTwo whole make at right) → sightings by so_far (suc at + size (part whole (suc at))) (part whole right) store ≡ seen_at so_far right store
-    at-right so_far make right store two = ap (λ (p : ℕ). sightings by so_far p (part whole right) store) (sym two.behind)
+    at-right so_far make right store two = ap (λ (p : ℕ). sightings by so_far p (part whole right) store) (sym two.behind) ∙ sym (begun whole by so_far right store two.second_begins)
 
     in_order : (a b : Behind) (make : Process → Process → Process) (right : ℕ) (store : List Slot) → (two : IsTwo whole make at right) →
-        seen_at a (suc at) store ++ sightings by b (suc at + size (part whole (suc at))) (part whole right) store ≡ seen_at a first store ++ seen_at b right store
-    in_order a b make right store two = ap (λ (l : List Sighting). seen_at a (suc at) store ++ l) (at-right b make right store two) ∙ ap (λ (l : List Sighting). l ++ seen_at b right store) (at-first a store)
+        plain_at a (suc at) store ++ sightings by b (suc at + size (part whole (suc at))) (part whole right) store ≡ seen_at a first store ++ seen_at b right store
+    in_order a b make right store two = ap (λ (l : List Sighting). plain_at a (suc at) store ++ l) (at-right b make right store two) ∙ ap (λ (l : List Sighting). l ++ seen_at b right store) (at-first two.first_begins a store)
 
-    pub look_seq : (so_far : Behind) (right : ℕ) (store : List Slot) → IsTwo whole Seq at right → seen_at so_far at store ≡ seen_at (followed (behind.Entered right) so_far) first store
+    pub look_seq : (so_far : Behind) (right : ℕ) (store : List Slot) → IsTwo whole Seq at right → plain_at so_far at store ≡ seen_at (followed (behind.Entered right) so_far) first store
     look_seq so_far right store two =
         ap (λ (p : Process). sightings by so_far at p store) two.here
-        ∙ ap (λ (n : ℕ). seen_at (followed (behind.Entered n) so_far) (suc at) store) (sym two.behind)
-        ∙ at-first (followed (behind.Entered right) so_far) store
+        ∙ ap (λ (n : ℕ). plain_at (followed (behind.Entered n) so_far) (suc at) store) (sym two.behind)
+        ∙ at-first two.first_begins (followed (behind.Entered right) so_far) store
 
     two_alike : (so_far a b : Behind) (make : Process → Process → Process) (right : ℕ) (store : List Slot) →
-        ((x y : Process) → sightings by so_far at (make x y) store ≡ sightings by a (suc at) x store ++ sightings by b (suc at + size x) y store) → IsTwo whole make at right → seen_at so_far at store ≡ seen_at a first store ++ seen_at b right store
+        ((x y : Process) → sightings by so_far at (make x y) store ≡ sightings by a (suc at) x store ++ sightings by b (suc at + size x) y store) → IsTwo whole make at right → plain_at so_far at store ≡ seen_at a first store ++ seen_at b right store
     two_alike so_far a b make right store each two = ap (λ (p : Process). sightings by so_far at p store) two.here ∙ each (part whole (suc at)) (part whole right) ∙ in_order a b make right store two
 
-    pub look_alt : (so_far : Behind) (right : ℕ) (store : List Slot) → IsTwo whole Alt at right → seen_at so_far at store ≡ seen_at so_far first store ++ seen_at so_far right store
+    pub look_alt : (so_far : Behind) (right : ℕ) (store : List Slot) → IsTwo whole Alt at right → plain_at so_far at store ≡ seen_at so_far first store ++ seen_at so_far right store
     look_alt so_far right store two = two_alike so_far so_far so_far Alt right store (λ x y. refl) two
 
-    pub look_star : (so_far : Behind) (right : ℕ) (store : List Slot) → IsTwo whole Star at right → seen_at so_far at store ≡ seen_at (followed (behind.Entered at) so_far) first store ++ seen_at so_far right store
+    pub look_star : (so_far : Behind) (right : ℕ) (store : List Slot) → IsTwo whole Star at right → plain_at so_far at store ≡ seen_at (followed (behind.Entered at) so_far) first store ++ seen_at so_far right store
     look_star so_far right store two = two_alike so_far (followed (behind.Entered at) so_far) so_far Star right store (λ x y. refl) two
 
-    pub look_par : (so_far : Behind) (right : ℕ) (store : List Slot) → IsTwo whole Par at right → seen_at so_far at store ≡ seen_at behind.Parted first store ++ seen_at behind.Parted right store
+    pub look_par : (so_far : Behind) (right : ℕ) (store : List Slot) → IsTwo whole Par at right → plain_at so_far at store ≡ seen_at behind.Parted first store ++ seen_at behind.Parted right store
     look_par so_far right store two = two_alike so_far behind.Parted behind.Parted Par right store (λ x y. refl) two
 
-    look_if : (so_far : Behind) (test : Expr) (right : ℕ) (store : List Slot) (says : Option Bool) → IsTwo whole (If test) at right → tested store test ≡ says → seen_at so_far at store ≡ sightings_if says (seen_at so_far first store) (seen_at so_far right store)
+    pub look_until : (so_far : Behind) (waits : ℕ) (store : List Slot) → IsUntil whole at waits → plain_at so_far at store ≡ seen_at behind.Parted first store ++ seen_at so_far (suc waits) store
+    look_until so_far waits store two =
+        ap (λ (p : Process). sightings by so_far at p store) two.here
+        ∙ ap (λ (n : ℕ). plain_at behind.Parted (suc at) store ++ sightings by so_far (suc n) (part whole (suc waits)) store) (sym two.behind)
+        ∙ ap (λ (l : List Sighting). plain_at behind.Parted (suc at) store ++ l) (sym (begun whole by so_far (suc waits) store two.second_begins))
+        ∙ ap (λ (l : List Sighting). l ++ seen_at so_far (suc waits) store) (at-first two.first_begins behind.Parted store)
+
+    pub look_wait : (so_far : Behind) (disrupt : ℕ) (store : List Slot) → op_at whole at ≡ op.Waits disrupt → IsWait whole at disrupt → seen_at so_far at store ≡ seen_at behind.Parted first store
+    look_wait so_far disrupt store here one =
+        ap (λ (o : Op). sightings by (followed (outset o) so_far) (root o at) (part whole at) store) here
+        ∙ ap (λ (p : Process). sightings by behind.Parted (suc at) p store) one.here
+        ∙ at-first one.first_begins behind.Parted store
+
+    look_if : (so_far : Behind) (test : Expr) (right : ℕ) (store : List Slot) (says : Option Bool) → IsTwo whole (If test) at right → tested store test ≡ says → plain_at so_far at store ≡ sightings_if says (seen_at so_far first store) (seen_at so_far right store)
     look_if so_far test right store says two t =
         ap (λ (p : Process). sightings by so_far at p store) two.here
-        ∙ ap (λ (o : Option Bool). sightings_if o (seen_at so_far (suc at) store) (sightings by so_far (suc at + size (part whole (suc at))) (part whole right) store)) t
-        ∙ ap (λ (l : List Sighting). sightings_if says (seen_at so_far (suc at) store) l) (at-right so_far (If test) right store two)
-        ∙ ap (λ (l : List Sighting). sightings_if says l (seen_at so_far right store)) (at-first so_far store)
+        ∙ ap (λ (o : Option Bool). sightings_if o (plain_at so_far (suc at) store) (sightings by so_far (suc at + size (part whole (suc at))) (part whole right) store)) t
+        ∙ ap (λ (l : List Sighting). sightings_if says (plain_at so_far (suc at) store) l) (at-right so_far (If test) right store two)
+        ∙ ap (λ (l : List Sighting). sightings_if says l (seen_at so_far right store)) (at-first two.first_begins so_far store)
 
-    pub look_true : (so_far : Behind) (test : Expr) (right : ℕ) (store : List Slot) → IsTwo whole (If test) at right → tested store test ≡ Some true → seen_at so_far at store ≡ seen_at so_far first store
+    pub look_true : (so_far : Behind) (test : Expr) (right : ℕ) (store : List Slot) → IsTwo whole (If test) at right → tested store test ≡ Some true → plain_at so_far at store ≡ seen_at so_far first store
     look_true so_far test right store two t = look_if so_far test right store (Some true) two t
 
-    pub look_false : (so_far : Behind) (test : Expr) (right : ℕ) (store : List Slot) → IsTwo whole (If test) at right → tested store test ≡ Some false → seen_at so_far at store ≡ seen_at so_far right store
+    pub look_false : (so_far : Behind) (test : Expr) (right : ℕ) (store : List Slot) → IsTwo whole (If test) at right → tested store test ≡ Some false → plain_at so_far at store ≡ seen_at so_far right store
     look_false so_far test right store two t = look_if so_far test right store (Some false) two t
 
-    pub look_untold : (so_far : Behind) (test : Expr) (right : ℕ) (store : List Slot) → IsTwo whole (If test) at right → tested store test ≡ None → seen_at so_far at store ≡ []
+    pub look_untold : (so_far : Behind) (test : Expr) (right : ℕ) (store : List Slot) → IsTwo whole (If test) at right → tested store test ≡ None → plain_at so_far at store ≡ []
     look_untold so_far test right store two t = look_if so_far test right store None two t
 
-    look_one : (so_far : Behind) (test : Expr) (store : List Slot) (says : Option Bool) → IsOne whole (When test) at → tested store test ≡ says → seen_at so_far at store ≡ sightings_if says (seen_at so_far first store) []
+    look_one : (so_far : Behind) (test : Expr) (store : List Slot) (says : Option Bool) → IsOne whole (When test) at → tested store test ≡ says → plain_at so_far at store ≡ sightings_if says (seen_at so_far first store) []
     look_one so_far test store says one t =
         ap (λ (p : Process). sightings by so_far at p store) one.here
-        ∙ ap (λ (o : Option Bool). sightings_if o (seen_at so_far (suc at) store) []) t
-        ∙ ap (λ (l : List Sighting). sightings_if says l []) (at-first so_far store)
+        ∙ ap (λ (o : Option Bool). sightings_if o (plain_at so_far (suc at) store) []) t
+        ∙ ap (λ (l : List Sighting). sightings_if says l []) (at-first one.first_begins so_far store)
 
-    pub look_when : (so_far : Behind) (test : Expr) (store : List Slot) → IsOne whole (When test) at → tested store test ≡ Some true → seen_at so_far at store ≡ seen_at so_far first store
+    pub look_when : (so_far : Behind) (test : Expr) (store : List Slot) → IsOne whole (When test) at → tested store test ≡ Some true → plain_at so_far at store ≡ seen_at so_far first store
     look_when so_far test store one t = look_one so_far test store (Some true) one t
 
-    pub look_unless : (so_far : Behind) (test : Expr) (store : List Slot) → IsOne whole (When test) at → tested store test ≡ Some false → seen_at so_far at store ≡ []
+    pub look_unless : (so_far : Behind) (test : Expr) (store : List Slot) → IsOne whole (When test) at → tested store test ≡ Some false → plain_at so_far at store ≡ []
     look_unless so_far test store one t = look_one so_far test store (Some false) one t
 
-    pub look_unsaid : (so_far : Behind) (test : Expr) (store : List Slot) → IsOne whole (When test) at → tested store test ≡ None → seen_at so_far at store ≡ []
+    pub look_unsaid : (so_far : Behind) (test : Expr) (store : List Slot) → IsOne whole (When test) at → tested store test ≡ None → plain_at so_far at store ≡ []
     look_unsaid so_far test store one t = look_one so_far test store None one t
 
-    look_let : (so_far : Behind) (settings : List Setting) (store : List Slot) (after : Option (List Slot)) → IsOne whole (Let settings) at → with_settings store settings ≡ after → seen_at so_far at store ≡ sightings_after after (seen_at so_far (suc at))
-    look_let so_far settings store after one t = ap (λ (p : Process). sightings by so_far at p store) one.here ∙ ap (λ (o : Option (List Slot)). sightings_after o (seen_at so_far (suc at))) t
+    look_let : (so_far : Behind) (settings : List Setting) (store : List Slot) (after : Option (List Slot)) → IsOne whole (Let settings) at → with_settings store settings ≡ after → plain_at so_far at store ≡ sightings_after after (plain_at so_far (suc at))
+    look_let so_far settings store after one t = ap (λ (p : Process). sightings by so_far at p store) one.here ∙ ap (λ (o : Option (List Slot)). sightings_after o (plain_at so_far (suc at))) t
 
-    pub look_set : (so_far : Behind) (settings : List Setting) (store after : List Slot) → IsOne whole (Let settings) at → with_settings store settings ≡ Some after → seen_at so_far at store ≡ seen_at so_far first after
-    look_set so_far settings store after one t = look_let so_far settings store (Some after) one t ∙ at-first so_far after
+    pub look_set : (so_far : Behind) (settings : List Setting) (store after : List Slot) → IsOne whole (Let settings) at → with_settings store settings ≡ Some after → plain_at so_far at store ≡ seen_at so_far first after
+    look_set so_far settings store after one t = look_let so_far settings store (Some after) one t ∙ at-first one.first_begins so_far after
 
-    pub look_unset : (so_far : Behind) (settings : List Setting) (store : List Slot) → IsOne whole (Let settings) at → with_settings store settings ≡ None → seen_at so_far at store ≡ []
+    pub look_unset : (so_far : Behind) (settings : List Setting) (store : List Slot) → IsOne whole (Let settings) at → with_settings store settings ≡ None → plain_at so_far at store ≡ []
     look_unset so_far settings store one t = look_let so_far settings store None one t
 
 pub nothing_more : (xs ys : List Sighting) → ys ≡ [] → xs ≡ xs ++ ys
@@ -189,8 +226,8 @@ module _ (whole : Process) (by : Looking) (store : List Slot) where
   atom_listed so_far at atom =
       stands_listed so_far at atom (is_timed (times_of by.atoms atom)) refl ∙ sym (append-nil (seen_by whole by store at so_far (what_by (is_timed (times_of by.atoms atom)) atom)))
 
-  gate_listed : (so_far : Behind) (at : ℕ) (w : Process) → part whole at ≡ w → sightings by so_far at w store ≡ listed_as so_far (gate at ∷ [])
-  gate_listed so_far at w e = ap (λ (p : Process). sightings by so_far at p store) (sym e) ∙ sym (append-nil (sightings by so_far at (part whole at) store))
+  gate_listed : (so_far : Behind) (at : ℕ) (w : Process) → Begins whole at → part whole at ≡ w → sightings by so_far at w store ≡ listed_as so_far (gate at ∷ [])
+  gate_listed so_far at w b e = ap (λ (p : Process). sightings by so_far at p store) (sym e) ∙ sym (begun whole by so_far at store b) ∙ sym (append-nil (sightings_at whole by so_far at store))
 
   both_listed : (so_far : Behind) (s t : List Sighting) (l m : List Entry) → s ≡ listed_as so_far l → t ≡ listed_as so_far m → s ++ t ≡ listed_as so_far (l ++ m)
   both_listed so_far s t l m e f = ap (λ (r : List Sighting). r ++ t) e ∙ ap (λ (r : List Sighting). listed_as so_far l ++ r) f ∙ sym (flat_map-append (listed_one so_far) l m)
@@ -218,17 +255,25 @@ module _ (whole : Process) (by : Looking) (store : List Slot) where
       both_listed so_far (sightings by behind.Parted (suc at) x store) (sightings by behind.Parted (suc at + size x) y store) (all_led behind.Parted (entries_of by.atoms (suc at) x)) (all_led behind.Parted (entries_of by.atoms (suc at + size x) y))
       (listed frame behind.Parted (suc at) x first ∙ led_all behind.Parted so_far (entries_of by.atoms (suc at) x))
       (listed frame behind.Parted (suc at + size x) y second ∙ led_all behind.Parted so_far (entries_of by.atoms (suc at + size x) y))
-  listed frame so_far at (If test x y) s = gate_listed so_far at (If test x y) (stands_here whole at (If test x y) (table (If test x y) at frame) s).1
-  listed frame so_far at (When test x) s = gate_listed so_far at (When test x) (stands_here whole at (When test x) (table (When test x) at frame) s).1
-  listed frame so_far at (Let settings x) s = gate_listed so_far at (Let settings x) (stands_here whole at (Let settings x) (table (Let settings x) at frame) s).1
+  listed frame so_far at (Disrupt x y) s =
+      let first = stands_until whole at x y frame s in
+      let second = stands_behind whole at x y frame s in
+      both_listed so_far (sightings by behind.Parted (suc at) x store) (sightings by so_far (suc (suc at + size x)) y store) (all_led behind.Parted (entries_of by.atoms (suc at) x)) (entries_of by.atoms (suc (suc at + size x)) y)
+      (listed (Some at) behind.Parted (suc at) x first ∙ led_all behind.Parted so_far (entries_of by.atoms (suc at) x))
+      (listed frame so_far (suc (suc at + size x)) y second)
+  listed frame so_far at (If test x y) s = gate_listed so_far at (If test x y) (stands_begins whole at (If test x y) frame s) (stands_here whole at (If test x y) (table (If test x y) at frame) s).1
+  listed frame so_far at (When test x) s = gate_listed so_far at (When test x) (stands_begins whole at (When test x) frame s) (stands_here whole at (When test x) (table (When test x) at frame) s).1
+  listed frame so_far at (Let settings x) s = gate_listed so_far at (Let settings x) (stands_begins whole at (Let settings x) frame s) (stands_here whole at (Let settings x) (table (Let settings x) at frame) s).1
 
-  pub all_listed : (at : ℕ) (list : List Entry) → at < size whole → entries_of by.atoms at (part whole at) ≡ list → sightings by behind.Ended at (part whole at) store ≡ flat_map (entry_sightings whole by store) list
+  pub all_listed : (at : ℕ) (list : List Entry) → at < size whole → list_of by.atoms whole at ≡ list → sightings_at whole by behind.Ended at store ≡ flat_map (entry_sightings whole by store) list
   all_listed at list h e =
-      let p = whole_at whole at h in
-      let here = (stands_here whole at p.x (table p.x at p.frame) p.stands).1 in
-      ap (λ (q : Process). sightings by behind.Ended at q store) here
-      ∙ listed p.frame behind.Ended at p.x p.stands
-      ∙ ap (λ (q : Process). listed_as behind.Ended (entries_of by.atoms at q)) (sym here)
+      let p = root_at whole at h in
+      let o = outset (op_at whole at) in
+      let from = root (op_at whole at) at in
+      ap (λ (q : Process). sightings by (followed (outset (op_at whole at)) behind.Ended) (root (op_at whole at) at) q store) p.here
+      ∙ listed p.frame (followed o behind.Ended) from p.x p.stands
+      ∙ led_all o behind.Ended (entries_of by.atoms from p.x)
+      ∙ ap (λ (q : Process). listed_as behind.Ended (all_led (outset (op_at whole at)) (entries_of by.atoms (root (op_at whole at) at) q))) (sym p.here)
       ∙ ap (listed_as behind.Ended) e
       ∙ alike list
 
@@ -262,14 +307,19 @@ module _ (atoms : List Atom) where
       All-append (IsBelow (at + size (Par x y))) (all_led behind.Parted (entries_of atoms (suc at) x)) (all_led behind.Parted (entries_of atoms (suc at + size x) y))
       (below-led behind.Parted (suc at + size x) (at + size (Par x y)) (entries_of atoms (suc at) x) (omega arith) (entries-below (suc at) x))
       (below-led behind.Parted (suc at + size x + size y) (at + size (Par x y)) (entries_of atoms (suc at + size x) y) (omega arith) (entries-below (suc at + size x) y))
+  entries-below at (Disrupt x y) =
+      All-append (IsBelow (at + size (Disrupt x y))) (all_led behind.Parted (entries_of atoms (suc at) x)) (entries_of atoms (suc (suc at + size x)) y)
+      (below-led behind.Parted (suc at + size x) (at + size (Disrupt x y)) (entries_of atoms (suc at) x) (omega arith) (entries-below (suc at) x))
+      (below-wider (suc (suc at + size x) + size y) (at + size (Disrupt x y)) (entries_of atoms (suc (suc at + size x)) y) (omega arith) (entries-below (suc (suc at + size x)) y))
   entries-below at (If test x y) = below-one (at + size (If test x y)) (gate at) (omega arith)
   entries-below at (When test x) = below-one (at + size (When test x)) (gate at) (omega arith)
   entries-below at (Let settings x) = below-one (at + size (Let settings x)) (gate at) (omega arith)
 
-pub all_within : (whole : Process) (atoms : List Atom) (at : ℕ) (list : List Entry) → at < size whole → entries_of atoms at (part whole at) ≡ list → All (λ (e : Entry). e.position < size whole) list
+pub all_within : (whole : Process) (atoms : List Atom) (at : ℕ) (list : List Entry) → at < size whole → list_of atoms whole at ≡ list → All (λ (e : Entry). e.position < size whole) list
 all_within whole atoms at list h e =
-    let p = whole_at whole at h in
-    let here = (stands_here whole at p.x (table p.x at p.frame) p.stands).1 in
-    let below : All (IsBelow (at + size p.x)) list = subst (All (IsBelow (at + size p.x))) (ap (entries_of atoms at) (sym here) ∙ e) (entries-below atoms at p.x) in
+    let p = root_at whole at h in
+    let o = outset (op_at whole at) in
+    let from = root (op_at whole at) at in
     let within = p.stands.within in
-    below-wider atoms (at + size p.x) (size whole) list (omega arith) below
+    let below = below-led atoms o (from + size p.x) (size whole) (entries_of atoms from p.x) (omega arith) (entries-below atoms from p.x) in
+    subst (All (IsBelow (size whole))) (ap (λ (q : Process). all_led (outset (op_at whole at)) (entries_of atoms (root (op_at whole at) at) q)) (sym p.here) ∙ e) below

@@ -8,15 +8,22 @@ use Rattle.tb_algebra.specs.Processes.{Process}
 use Rattle.tb_algebra.specs.Reached.{IsNew}
 use Rattle.tb_algebra.specs.Helpers.OfferViews.{offer_views}
 use Rattle.tb_code.specs.Positions.{part}
+use Rattle.tb_code.specs.Entries.{followed}
+use Rattle.tb_code.specs.declared.behind.Behind.{Behind}
 use Rattle.tb_code.specs.declared.behind.Behind.TheVariants as behind
+use Rattle.tb_code.proofs.EntryLemmas.{followed-ended}
 use Rattle.tb_walk.specs.Helpers.Goings.{term_at, counted, row_sights}
 use Rattle.tb_walk.specs.Helpers.Partings.{GoesOn, branch_by}
+use Rattle.tb_walk.specs.Helpers.Places.{outset_at, root_at}
 use Rattle.tb_walk.specs.Helpers.Sights.{Looking, Sighting, branch_sightings, row_sightings}
 use Rattle.tb_walk.specs.Helpers.Takings.{AreThere, LeavesRow, Picks}
 use Rattle.tb_walk.specs.declared.branch.Branch.{Branch}
 use Rattle.tb_walk.proofs.SightLemmas.{leads, leaving, seen_of, seen-sightings, length-sightings, is_of, new-part, split_get, seen-two}
 
 module _ (whole : Process) (new : IsNew whole) (atoms : List Atom) (now ticks : ℕ) (store : List Slot) where
+  abbrev so_far : Branch → Behind
+  so_far b = followed (outset_at whole b.position) behind.Ended
+
   abbrev one_branch : ℕ → Branch → List Sighting
   one_branch at b = branch_sightings whole atoms now ticks store at b
 
@@ -25,11 +32,11 @@ module _ (whole : Process) (new : IsNew whole) (atoms : List Atom) (now ticks : 
 
   seen-branch : (at : ℕ) (b : Branch) → map seen_of (one_branch at b) ≡ offer_views atoms now (term_at whole ticks b) store
   unfolding term_at
-  seen-branch at b = seen-sightings (record { atoms = atoms; branch = at; age = ticks - b.entered; now = now }) behind.Ended b.position (part whole b.position) store (new-part whole b.position new)
+  seen-branch at b = seen-sightings (record { atoms = atoms; branch = at; age = ticks - b.entered; now = now }) (so_far b) (root_at whole b.position) (part whole b.position) store (new-part whole b.position new)
 
   length-branch : (at : ℕ) (b : Branch) → length (one_branch at b) ≡ length (offers (term_at whole ticks b) store)
   unfolding term_at
-  length-branch at b = length-sightings (record { atoms = atoms; branch = at; age = ticks - b.entered; now = now }) behind.Ended b.position (part whole b.position) store (new-part whole b.position new)
+  length-branch at b = length-sightings (record { atoms = atoms; branch = at; age = ticks - b.entered; now = now }) (so_far b) (root_at whole b.position) (part whole b.position) store (new-part whole b.position new)
 
   pub seen-row : (at : ℕ) (row : List Branch) → map seen_of (rows at row) ≡ row_sights whole atoms now ticks store row
   seen-row at [] = refl
@@ -39,7 +46,7 @@ module _ (whole : Process) (new : IsNew whole) (atoms : List Atom) (now ticks : 
   leaves_row : (at j : ℕ) (b : Branch) (s : Sighting) → b.entered ≤ ticks → slice_get (one_branch at b) j ≡ Some s → LeavesRow whole ticks b.position b.entered store j (branch_by whole ticks b s.position) s.seen.store
   unfolding term_at selected
   leaves_row at j b s le e =
-      let l = leaving atoms now at ticks b.entered le behind.Ended b.position (part whole b.position) store j s (new-part whole b.position new) e in
+      let l = leaving atoms now at ticks b.entered le (so_far b) (root_at whole b.position) (part whole b.position) store j s (new-part whole b.position new) e in
       record { left = l.left; selects = l.selects; reads = l.reads }
 
   -- the branch of what was found, and how many offers stand before it
@@ -63,7 +70,7 @@ module _ (whole : Process) (new : IsNew whole) (atoms : List Atom) (now ticks : 
             index = 0;
             one = b;
             here = refl;
-            branch = (is_of (record { atoms = atoms; branch = at; age = ticks - b.entered; now = now }) behind.Ended b.position (part whole b.position) store k s h).1 ∙ z;
+            branch = (is_of (record { atoms = atoms; branch = at; age = ticks - b.entered; now = now }) (so_far b) (root_at whole b.position) (part whole b.position) store k s h).1 ∙ z;
             rest = k;
             counts = omega arith;
             found = subst (λ (n : ℕ). slice_get (one_branch n b) k ≡ Some s) z h;
@@ -82,12 +89,19 @@ module _ (whole : Process) (new : IsNew whole) (atoms : List Atom) (now ticks : 
           }
 
   -- its part goes on as it says
-  pub goes : (row : List Branch) (k : ℕ) (s : Sighting) → slice_get (rows 0 row) k ≡ Some s → (b : Branch) × ((slice_get row s.branch ≡ Some b) × GoesOn b.position (part whole b.position) s.position behind.Ended s.behind)
+  pub goes : (row : List Branch) (k : ℕ) (s : Sighting) → slice_get (rows 0 row) k ≡ Some s → (b : Branch) × ((slice_get row s.branch ≡ Some b) × GoesOn (root_at whole b.position) (part whole b.position) s.position (outset_at whole b.position) s.behind)
   goes row k s e =
       let p = placed 0 row k s e in
       let z : p.index ≡ s.branch = (let h = p.branch in omega arith) in
       let by : Looking = record { atoms = atoms; branch = 0 + p.index; age = ticks - p.one.entered; now = now } in
-      (p.one, (subst (λ (n : ℕ). slice_get row n ≡ Some p.one) z p.here, leads by behind.Ended p.one.position (part whole p.one.position) store p.rest s p.found))
+      let goes_on = leads by (so_far p.one) (root_at whole p.one.position) (part whole p.one.position) store p.rest s p.found in
+      let ended = followed-ended (outset_at whole p.one.position) in (
+        p.one,
+        (
+          subst (λ (n : ℕ). slice_get row n ≡ Some p.one) z p.here,
+          subst (λ (b : Behind). GoesOn (root_at whole p.one.position) (part whole p.one.position) s.position b s.behind) ended goes_on,
+        ),
+      )
 
   pub picks : (row : List Branch) (k : ℕ) (s : Sighting) → AreThere whole ticks row → slice_get (rows 0 row) k ≡ Some s → (b : Branch) × ((slice_get row s.branch ≡ Some b) × Picks whole ticks row store k s.branch (branch_by whole ticks b s.position) s.seen.store)
   picks row k s there e =

@@ -1,9 +1,10 @@
 -- Where the branches of a row stand.
-use Rattle.std.proofs.Common.{◌≡◌, ℕ, ◌<◌, ◌≤◌, Bool, true, false, ◌||◌, nat_lt, ◌==◌, if◌then◌else◌, List, [], ◌∷◌, ◌++◌, Option, Some, None, refl, ap, ◌∙◌, arith, ◌⊎◌, inl, inr}
+use Rattle.std.proofs.Common.{◌≡◌, ℕ, suc, ◌<◌, ◌≤◌, Bool, true, false, ◌||◌, nat_lt, ◌==◌, if◌then◌else◌, List, [], ◌∷◌, ◌++◌, Option, Some, None, refl, ap, ◌∙◌, arith, ◌⊎◌, inl, inr}
 use Rattle.std.specs.Prelude.{⊤}
 use Rattle.std.proofs.lemmas.Bool.{ltb-true, lt-ltb}
 use Rattle.tb_walk.specs.Lefts.{entered_at}
 use Rattle.tb_walk.specs.Helpers.Reads.{branch, is_inside, any_inside}
+use Rattle.tb_walk.specs.Helpers.Rests.{without}
 use Rattle.tb_walk.specs.declared.branch.Branch.{Branch}
 
 abbrev pub InRange : ℕ → ℕ → List Branch → Type 0
@@ -103,3 +104,29 @@ entered-none low high at (b ∷ row) s r =
 
 pub entered-only : (at entered : ℕ) → entered_at (branch at entered ∷ []) at ≡ Some entered
 entered-only at entered = let e : (at == at) ≡ true = grind arith in rw e refl
+
+-- a row without what stands between two positions
+
+if-append : (c : Bool) (b : Branch) (l r whole : List Branch) → whole ≡ l ++ r → (if c then whole else b ∷ whole) ≡ (if c then l else b ∷ l) ++ r
+if-append true b l r whole e = e
+if-append false b l r whole e = ap (λ (m : List Branch). b ∷ m) e
+
+pub without-append : (at bound : ℕ) (l r : List Branch) → without at bound (l ++ r) ≡ without at bound l ++ without at bound r
+without-append at bound [] r = refl
+without-append at bound (b ∷ l) r = if-append (is_inside at bound b) b (without at bound l) (without at bound r) (without at bound (l ++ r)) (without-append at bound l r)
+
+if-none : (c d : Bool) (b : Branch) (l row : List Branch) → (c || d) ≡ false → (d ≡ false → l ≡ row) → (if c then l else b ∷ l) ≡ b ∷ row
+if-none true d b l row e f = (let t : true ≡ false = e in cc)
+if-none false d b l row e f = ap (λ (m : List Branch). b ∷ m) (f e)
+
+pub without-none : (at bound : ℕ) (row : List Branch) → any_inside at bound row ≡ false → without at bound row ≡ row
+without-none at bound [] e = refl
+without-none at bound (b ∷ row) e = if-none (is_inside at bound b) (any_inside at bound row) b (without at bound row) row e (without-none at bound row)
+
+pub without-all : (at bound : ℕ) (row : List Branch) → InRange (suc at) bound row → without at bound row ≡ []
+without-all at bound [] r = refl
+without-all at bound (b ∷ row) r =
+    let h = r.0 in
+    let p : at < b.position = omega arith in
+    let e : is_inside at bound b ≡ true = rw (lt-ltb at b.position p, lt-ltb b.position bound h.1) refl in
+    rw e (without-all at bound row r.1)

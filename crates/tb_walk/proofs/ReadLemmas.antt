@@ -1,21 +1,23 @@
 -- Where a row that is read stands, and how many offers it has.
-use Rattle.std.proofs.Common.{◌≡◌, ℕ, suc, ◌+◌, ◌-◌, ◌<◌, ◌≤◌, List, [], ◌∷◌, ◌++◌, map, length, Option, Some, None, refl, ap, sym, ◌∙◌, arith, append_assoc, length-append, ◌⊎◌, inl, inr}
+use Rattle.std.proofs.Common.{◌≡◌, ℕ, suc, ◌+◌, ◌-◌, ◌<◌, ◌≤◌, Bool, true, false, List, [], ◌∷◌, ◌++◌, map, length, slice_get, Option, Some, None, refl, ap, sym, ◌∙◌, arith, append_assoc, length-append, ◌⊎◌, inl, inr}
 use Rattle.std.proofs.lemmas.List.{append-nil}
 use Rattle.tb_func.specs.declared.slot.Slot.{Slot}
 use Rattle.tb_body.specs.declared.atom.Atom.{Atom}
-use Rattle.tb_algebra.specs.Processes.{Process, Seq, Alt, Star, Par, If, When, Let}
-use Rattle.tb_algebra.specs.Offers.{offers, before, on_the_left, on_the_right}
+use Rattle.tb_algebra.specs.Processes.{Process, Seq, Alt, Star, Par, Disrupt, If, When, Let}
+use Rattle.tb_algebra.specs.Offers.{offers, before, on_the_left, on_the_right, in_wait}
 use Rattle.tb_algebra.specs.Helpers.Runnings.{waited}
 use Rattle.tb_algebra.specs.Helpers.OfferViews.{OfferView, offer_view, offer_views}
 use Rattle.tb_algebra.specs.Walks.{offers_of_term}
-use Rattle.tb_algebra.proofs.OfferViewLemmas.{offer_views-Seq, offer_views-Par}
-use Rattle.tb_code.specs.Positions.{size, table}
+use Rattle.tb_algebra.proofs.OfferViewLemmas.{offer_views-Seq, offer_views-Par, offer_views-Disrupt}
+use Rattle.tb_code.specs.Positions.{size, table, positions, node, op_in, op_at}
 use Rattle.tb_code.specs.declared.node.Node.{Node}
+use Rattle.tb_code.specs.declared.node.Op.TheVariants as op
 use Rattle.tb_code.proofs.Tables.{length-table}
-use Rattle.tb_code.proofs.Parts.{Stands, some_size, stands_first, stands_second, stands_only, stands_here}
+use Rattle.tb_code.proofs.Parts.{Stands, some_size, stands_first, stands_second, stands_only, stands_here, stands_behind, stands_until, waits_there}
 use Rattle.tb_walk.specs.Helpers.Goings.{term_at, counted, row_sights}
 use Rattle.tb_walk.specs.Lefts.{beside}
-use Rattle.tb_walk.specs.Helpers.Reads.{branch, Passes, behind, one, other, leaves, then_side, else_side, when, set, Follows, sequence, turn, Reads, ended, waits, passes, follows, both, bound_of, next_of}
+use Rattle.tb_walk.specs.Helpers.Reads.{branch, Passes, behind, one, other, leaves, transfers, then_side, else_side, when, set, Follows, sequence, turn, Reads, ended, waits, passes, follows, both, stands_until as until}
+use Rattle.tb_walk.specs.Helpers.Rests.{bound_by, next_by, falls_by}
 use Rattle.tb_walk.specs.declared.branch.Branch.{Branch}
 use Rattle.tb_walk.proofs.Ranges.{InRange, wider, range-append}
 
@@ -30,6 +32,7 @@ passes-range behind = (omega arith, omega arith)
 passes-range one = (omega arith, omega arith)
 passes-range other = (omega arith, omega arith)
 passes-range leaves = (omega arith, omega arith)
+passes-range transfers = (omega arith, omega arith)
 passes-range then_side = (omega arith, omega arith)
 passes-range else_side = (omega arith, omega arith)
 passes-range when = (omega arith, omega arith)
@@ -39,10 +42,6 @@ pub follows-range : {at : ℕ} {w x : Process} {at-z : ℕ} {z : Process} → Fo
 follows-range sequence = omega arith
 follows-range turn = omega arith
 
-pub follows-bound : {at : ℕ} {w x : Process} {at-z : ℕ} {z : Process} → Follows at w x at-z z → (bound_of at w ≡ suc at + size x) × (next_of at w ≡ at-z)
-follows-bound sequence = (refl, refl)
-follows-bound turn = (refl, refl)
-
 -- they stand where the whole does, with its frame or in it
 
 pub passes-stands : (whole : Process) (frame : Option ℕ) {at : ℕ} {w : Process} {at-x : ℕ} {x : Process} → Passes at w at-x x → Stands whole at w (table w at frame) → Stands whole at-x x (table x at-x frame)
@@ -50,6 +49,7 @@ passes-stands whole frame (behind {at = at} {x = x} {y = y}) s = stands_second w
 passes-stands whole frame (one {at = at} {x = x} {y = y}) s = stands_first whole at (Alt x y) x y _ (table x (suc at) frame) (table y (suc at + size x) frame) (refl, λ i. refl) (length-table x (suc at) frame) s
 passes-stands whole frame (other {at = at} {x = x} {y = y}) s = stands_second whole at (Alt x y) x y _ (table x (suc at) frame) (table y (suc at + size x) frame) (refl, λ i. refl) (length-table x (suc at) frame) s
 passes-stands whole frame (leaves {at = at} {x = x} {y = y}) s = stands_second whole at (Star x y) x y _ (table x (suc at) (Some at)) (table y (suc at + size x) frame) (refl, λ i. refl) (length-table x (suc at) (Some at)) s
+passes-stands whole frame (transfers {at = at} {x = x} {y = y}) s = stands_behind whole at x y frame s
 passes-stands whole frame (then_side {at = at} {test = test} {x = x} {y = y}) s = stands_first whole at (If test x y) x y _ (table x (suc at) frame) (table y (suc at + size x) frame) (refl, λ i. refl) (length-table x (suc at) frame) s
 passes-stands whole frame (else_side {at = at} {test = test} {x = x} {y = y}) s = stands_second whole at (If test x y) x y _ (table x (suc at) frame) (table y (suc at + size x) frame) (refl, λ i. refl) (length-table x (suc at) frame) s
 passes-stands whole frame (when {at = at} {test = test} {x = x}) s = stands_only whole at (When test x) x _ (table x (suc at) frame) refl (λ i. refl) s
@@ -58,6 +58,22 @@ passes-stands whole frame (set {at = at} {settings = settings} {x = x}) s = stan
 pub follows-stands : (whole : Process) (frame : Option ℕ) {at : ℕ} {w x : Process} {at-z : ℕ} {z : Process} → Follows at w x at-z z → Stands whole at w (table w at frame) → Stands whole (suc at) x (table x (suc at) (Some at))
 follows-stands whole frame (sequence {at = at} {x = x} {y = y}) s = stands_first whole at (Seq x y) x y _ (table x (suc at) (Some at)) (table y (suc at + size x) frame) (refl, λ i. refl) (length-table x (suc at) (Some at)) s
 follows-stands whole frame (turn {at = at} {x = x} {y = y}) s = stands_first whole at (Star x y) x y _ (table x (suc at) (Some at)) (table y (suc at + size x) frame) (refl, λ i. refl) (length-table x (suc at) (Some at)) s
+
+-- what the table says of a frame
+pub record IsFrame (whole : Process) (at bound next : ℕ) (falls : Bool) : Type 0 where
+  pub ends : bound_by (op_at whole at) at ≡ bound
+  pub enters : next_by (op_at whole at) at ≡ next
+  pub goes : falls_by (op_at whole at) ≡ falls
+
+is_frame : (whole : Process) (at : ℕ) (n : Node) → slice_get (positions whole) at ≡ Some n → IsFrame whole at (bound_by n.op at) (next_by n.op at) (falls_by n.op)
+is_frame whole at n e = record { ends = ap (λ (o : Option Node). bound_by (op_in o) at) e; enters = ap (λ (o : Option Node). next_by (op_in o) at) e; goes = ap (λ (o : Option Node). falls_by (op_in o)) e }
+
+pub follows-frame : (whole : Process) (frame : Option ℕ) {at : ℕ} {w x : Process} {at-z : ℕ} {z : Process} → Follows at w x at-z z → Stands whole at w (table w at frame) → IsFrame whole at (suc at + size x) at-z false
+follows-frame whole frame (sequence {at = at} {x = x} {y = y}) s = is_frame whole at (node (op.Seq (suc at + size x)) frame) (stands_here whole at (Seq x y) (table (Seq x y) at frame) s).0
+follows-frame whole frame (turn {at = at} {x = x} {y = y}) s = is_frame whole at (node (op.Star (suc at + size x)) frame) (stands_here whole at (Star x y) (table (Star x y) at frame) s).0
+
+pub until-frame : (whole : Process) (frame : Option ℕ) (at : ℕ) (x y : Process) → Stands whole at (Disrupt x y) (table (Disrupt x y) at frame) → IsFrame whole at (suc at + size x) at true
+until-frame whole frame at x y s = is_frame whole at (node (op.Disrupt (suc at + size x)) frame) (stands_here whole at (Disrupt x y) (table (Disrupt x y) at frame) s).0
 
 pub par-first : (whole : Process) (frame : Option ℕ) (at : ℕ) (x y : Process) → Stands whole at (Par x y) (table (Par x y) at frame) → Stands whole (suc at) x (table x (suc at) frame)
 par-first whole frame at x y s = stands_first whole at (Par x y) x y _ (table x (suc at) frame) (table y (suc at + size x) frame) (refl, λ i. refl) (length-table x (suc at) frame) s
@@ -79,6 +95,10 @@ module _ (ticks : ℕ) where
       range-append at (at + size (Par x y)) one-row other-row
       (wider (suc at) (suc at + size x) at (at + size (Par x y)) one-row (omega arith) (omega arith) (in_range r))
       (wider (suc at + size x) (suc at + size x + size y) at (at + size (Par x y)) other-row (omega arith) (omega arith) (in_range s))
+  in_range (until {at = at} {x = x} {y = y} {row = row} entered h r) =
+      (let k = some_size y in range-append at (at + size (Disrupt x y)) row (branch (suc at + size x) entered ∷ [])
+      (wider (suc at) (suc at + size x) at (at + size (Disrupt x y)) row (omega arith) (omega arith) (in_range r))
+      ((omega arith, omega arith), tt))
 
   -- a row is empty exactly where nothing is left
 
@@ -107,6 +127,11 @@ module _ (ticks : ℕ) where
   ends_together (passes at-x x {row = row} {r = r} p k) = inr (some_row row (Some r) r (ends_together k) refl r)
   ends_together (follows x at-z z {row = row} {r = r} p k) = inr (some_row row (Some r) r (ends_together k) refl (Seq r z))
   ends_together (both {one = one-row} {other = other-row} {s = s} {t = t} k l) = two_rows one-row other-row s t (ends_together k) (ends_together l)
+  ends_together (until {at = at} {x = x} {y = y} {row = row} {r = r} entered h k) = by_end (ends_together k)
+    where
+      by_end : EndsTogether row (Some r) → EndsTogether (row ++ branch (suc at + size x) entered ∷ []) (Some (Disrupt r (waited (ticks - entered) y)))
+      by_end (inl e) = (let t : ◌≡◌ {A = Option Process} (Some r) None = e.1 in cc)
+      by_end (inr e) = inr (e.0, (e.1.0 ++ branch (suc at + size x) entered ∷ [], (ap (λ (l : List Branch). l ++ branch (suc at + size x) entered ∷ []) e.1.1.0, (Disrupt r (waited (ticks - entered) y), refl))))
 
   -- as many offers as the branches have, and what is seen of them
 
@@ -114,6 +139,11 @@ module _ (ticks : ℕ) where
     term-here : (at : ℕ) (w : Process) (nodes : List Node) (entered : ℕ) → Stands whole at w nodes → term_at whole ticks (branch at entered) ≡ waited (ticks - entered) w
     unfolding term_at
     term-here at w nodes entered s = ap (waited (ticks - entered)) (stands_here whole at w nodes s).1
+
+    -- what a right side in wait stands for
+    pub wait-here : (at : ℕ) (x y : Process) (frame : Option ℕ) (entered : ℕ) → Stands whole at (Disrupt x y) (table (Disrupt x y) at frame) → term_at whole ticks (branch (suc at + size x) entered) ≡ waited (ticks - entered) y
+    unfolding term_at
+    wait-here at x y frame entered s = ap (waited (ticks - entered)) (waits_there whole at x y frame s).1
 
     pub counted-append : (store : List Slot) (l r : List Branch) → counted whole ticks store (l ++ r) ≡ counted whole ticks store l + counted whole ticks store r
     counted-append store [] r = omega arith
@@ -140,6 +170,13 @@ module _ (ticks : ℕ) where
         let b = counts store frame r (par-first whole frame at x y s) in
         let c = counts store frame q (par-second whole frame at x y s) in
         let d = counted-append store one-row other-row in
+        omega arith
+    counts store frame (until {at = at} {x = x} {y = y} {row = row} {r = r} entered h k) s =
+        let a = counts store (Some at) k (stands_until whole at x y frame s) in
+        let there = ap (λ (p : Process). length (offers p store)) (wait-here at x y frame entered s) in
+        let b = counted-append store row (branch (suc at + size x) entered ∷ []) in
+        let l = length-append (map (in_wait (waited (ticks - entered) y)) (offers r store)) (offers (waited (ticks - entered) y) store) in
+        let m = length-mapped (in_wait (waited (ticks - entered) y)) (offers r store) in
         omega arith
 
     module _ (atoms : List Atom) (now : ℕ) (store : List Slot) where
@@ -178,3 +215,11 @@ module _ (ticks : ℕ) where
           ∙ ap (λ (l : List OfferView). l ++ seen_of right) (seen_all frame r (par-first whole frame at x y s))
           ∙ ap (λ (l : List OfferView). row_sights whole atoms now ticks store one-row ++ l) (seen_all frame q (par-second whole frame at x y s))
           ∙ sym (offer_views-append one-row other-row)
+      seen_all frame (until {at = at} {x = x} {y = y} {row = row} {r = r} entered h k) s =
+          let last = branch (suc at + size x) entered in
+          let behind_it = waited (ticks - entered) y in
+          seen_some (Disrupt r behind_it) ∙ offer_views-Disrupt atoms now r behind_it store
+          ∙ ap (λ (l : List OfferView). l ++ offer_views atoms now behind_it store) (sym (seen_some r) ∙ seen_all (Some at) k (stands_until whole at x y frame s))
+          ∙ ap (λ (p : Process). row_sights whole atoms now ticks store row ++ offer_views atoms now p store) (sym (wait-here at x y frame entered s))
+          ∙ ap (λ (l : List OfferView). row_sights whole atoms now ticks store row ++ l) (sym (append-nil (offer_views atoms now (term_at whole ticks last) store)))
+          ∙ sym (offer_views-append row (last ∷ []))

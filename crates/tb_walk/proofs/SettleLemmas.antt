@@ -1,65 +1,36 @@
--- What a frame's first part is, and what becomes of a row whose branch goes on.
-use Rattle.std.proofs.Common.{◌≡◌, ℕ, zero, suc, ◌<◌, true, List, [], ◌∷◌, ◌++◌, map, take, drop, length, slice_get, get_or, set, remove, Option, Some, None, refl, ap, sym, subst, ◌∙◌, arith}
+-- What becomes of a row whose branch goes on, and of a walk whose offer is taken.
+use Rattle.std.proofs.Common.{◌≡◌, ℕ, zero, suc, ◌<◌, true, List, [], ◌∷◌, ◌++◌, map, take, drop, length, slice_get, get_or, Option, Some, None, refl, ap, sym, subst, ◌∙◌, arith}
 use Rattle.std.specs.Option.{ForSome}
 use Rattle.std.proofs.lemmas.Option.{slice_get-get_or, slice_get_within}
-use Rattle.tb_terms.specs.declared.expr.Expr.{Expr}
 use Rattle.tb_func.specs.declared.slot.Slot.{Slot}
-use Rattle.tb_body.specs.declared.tree.Setting.{Setting}
 use Rattle.tb_algebra.specs.Helpers.Selections.{On}
-use Rattle.tb_algebra.specs.Processes.{Process, At, Seq, Alt, Star, Par, If, When, Let, fresh}
+use Rattle.tb_algebra.specs.Processes.{Process, fresh}
 use Rattle.tb_algebra.specs.Helpers.OfferViews.{or_own}
 use Rattle.tb_algebra.specs.Offers.{Offered}
 use Rattle.tb_algebra.specs.Walks.{offers_of}
 use Rattle.tb_algebra.proofs.RewriterLemmas.{hit_is}
-use Rattle.tb_code.specs.Positions.{size, part, positions, node, IsTwo, IsOne}
+use Rattle.tb_code.specs.Positions.{size, part, positions, node, root}
 use Rattle.tb_code.specs.declared.code.Code.{Code}
 use Rattle.tb_code.specs.declared.node.Node.{Node}
+use Rattle.tb_code.specs.declared.node.Op.{Op}
 use Rattle.tb_code.specs.declared.node.Op.TheVariants as op
-use Rattle.tb_code.proofs.Parts.{length-positions}
+use Rattle.tb_code.proofs.Parts.{length-positions, op_here}
 use Rattle.tb_walk.specs.Lefts.{left}
-use Rattle.tb_walk.specs.Helpers.Reads.{Reads, bound_of, next_of, entered_behind}
+use Rattle.tb_walk.specs.Helpers.Reads.{Reads}
 use Rattle.tb_walk.specs.Helpers.Partings.{branch_by}
 use Rattle.tb_walk.specs.Helpers.Sights.{sighted}
-use Rattle.tb_walk.specs.Helpers.Takings.{Picks, IsBehind, IsInRow, IsMadeBy, IsSettled, IsTakenBy, SettlesTo, row_after}
+use Rattle.tb_walk.specs.Helpers.Takings.{Picks, IsInRow, IsMadeBy, IsTakenBy, SettlesTo, row_after}
 use Rattle.tb_walk.specs.WalkViews.{walking_of, IsOnCode, IsFound, IsLeft, IsMade}
 use Rattle.tb_walk.specs.declared.branch.Branch.{Branch}
-use Rattle.tb_walk.specs.declared.settle.Step.TheVariants as step
 use Rattle.tb_walk.specs.declared.sight.Sight.{Sight}
 use Rattle.tb_walk.specs.declared.taken.Outcome.{Outcome}
 use Rattle.tb_walk.specs.declared.taken.Taken.{Taken}
 use Rattle.tb_walk.specs.declared.taken.Taken.TheVariants as taken
 use Rattle.tb_walk.specs.declared.walk.Walk.{Walk}
+use Rattle.tb_walk.proofs.EndingLemmas.{IsBegun}
 use Rattle.tb_walk.proofs.LeftLemmas.{left-read}
 use Rattle.tb_walk.proofs.Steps.{went}
 use Rattle.tb_walk.proofs.WalkLemmas.{are_there, read_left, hits_of, all_of, found_length, is_in_row, one_found, picked}
-
-module _ (whole : Process) (at : ℕ) where
-  abbrev IsFirstPart : ℕ → ℕ → Type 0
-  IsFirstPart bound next = (bound ≡ bound_of at (part whole at)) × (next ≡ next_of at (part whole at))
-
-  pub frame_seq : (right : ℕ) → IsTwo whole Seq at right → IsFirstPart right right
-  frame_seq right two = (two.behind ∙ sym (ap (bound_of at) two.here), two.behind ∙ sym (ap (next_of at) two.here))
-
-  pub frame_star : (right : ℕ) → IsTwo whole Star at right → IsFirstPart right at
-  frame_star right two = (two.behind ∙ sym (ap (bound_of at) two.here), sym (ap (next_of at) two.here))
-
-  pub frame_at : (atom age : ℕ) → part whole at ≡ At atom age → IsFirstPart at at
-  frame_at atom age e = (sym (ap (bound_of at) e), sym (ap (next_of at) e))
-
-  pub frame_alt : (right : ℕ) → IsTwo whole Alt at right → IsFirstPart at at
-  frame_alt right two = (sym (ap (bound_of at) two.here), sym (ap (next_of at) two.here))
-
-  pub frame_par : (right : ℕ) → IsTwo whole Par at right → IsFirstPart at at
-  frame_par right two = (sym (ap (bound_of at) two.here), sym (ap (next_of at) two.here))
-
-  pub frame_if : (test : Expr) (right : ℕ) → IsTwo whole (If test) at right → IsFirstPart at at
-  frame_if test right two = (sym (ap (bound_of at) two.here), sym (ap (next_of at) two.here))
-
-  pub frame_when : (test : Expr) → IsOne whole (When test) at → IsFirstPart at at
-  frame_when test one = (sym (ap (bound_of at) one.here), sym (ap (next_of at) one.here))
-
-  pub frame_let : (settings : List Setting) → IsOne whole (Let settings) at → IsFirstPart at at
-  frame_let settings one = (sym (ap (bound_of at) one.here), sym (ap (next_of at) one.here))
 
 -- a row round one of its branches
 
@@ -68,52 +39,7 @@ row_round [] at b e = (let t : ◌≡◌ {A = Option Branch} None (Some b) = e i
 row_round (c ∷ row) zero b e = (let same : c ≡ b = (let t : ◌≡◌ {A = Option Branch} (Some c) (Some b) = e in cc) in ap (λ (d : Branch). d ∷ row) same)
 row_round (c ∷ row) (suc at) b e = ap (λ (l : List Branch). c ∷ l) (row_round row at b e)
 
-pub row_put : (row : List Branch) (at : ℕ) (b : Branch) → at < length row → set row at b ≡ take at row ++ (b ∷ drop (suc at) row)
-row_put [] at b h = absurd (omega arith)
-row_put (c ∷ row) zero b h = refl
-row_put (c ∷ row) (suc at) b h = ap (λ (l : List Branch). c ∷ l) (row_put row at b (omega arith))
-
-pub row_less : (row : List Branch) (at : ℕ) → at < length row → remove row at ≡ take at row ++ drop (suc at) row
-row_less [] at h = absurd (omega arith)
-row_less (c ∷ row) zero h = refl
-row_less (c ∷ row) (suc at) h = ap (λ (l : List Branch). c ∷ l) (row_less row at (omega arith))
-
 -- what becomes of a row
-
-pub behind_is : (whole : Process) (ticks : ℕ) (row : List Branch) (at : ℕ) (b : Branch) (n : Node) (nodes : List Node) (next : List Branch) → nodes ≡ positions whole → slice_get row at ≡ Some b → slice_get nodes b.position ≡ Some n → next ≡ entered_behind whole ticks n.frame (take at row) (drop (suc at) row) → IsBehind whole ticks row at next
-behind_is whole ticks row at b n nodes next numbered here node-here e c m there node-there =
-    let same : b ≡ c = (let t : ◌≡◌ {A = Option Branch} (Some b) (Some c) = sym here ∙ there in cc) in
-    let found : slice_get nodes b.position ≡ Some m = ap (λ (l : List Node). slice_get l b.position) numbered ∙ ap (λ (d : Branch). slice_get (positions whole) d.position) same ∙ node-there in
-    let node-same : n ≡ m = (let t : ◌≡◌ {A = Option Node} (Some n) (Some m) = sym node-here ∙ found in cc) in
-    e ∙ ap (λ (k : Node). entered_behind whole ticks k.frame (take at row) (drop (suc at) row)) node-same
-
--- the same, where the branch is read at its index
-pub behind_at : (whole : Process) (ticks : ℕ) (row : List Branch) (at : ℕ) (d : Branch) (n : Node) (nodes : List Node) (next : List Branch) → nodes ≡ positions whole → at < length row → slice_get nodes (get_or row at d).position ≡ Some n → next ≡ entered_behind whole ticks n.frame (take at row) (drop (suc at) row) → IsBehind whole ticks row at next
-behind_at whole ticks row at d n nodes next numbered within node-here e = behind_is whole ticks row at (get_or row at d) n nodes next numbered (slice_get-get_or row at d within) node-here e
-
-module _ (whole : Process) (ticks : ℕ) (row : List Branch) (at : ℕ) (within : at < length row) where
-  pub settled_on : (one : Branch) → IsSettled whole ticks row at (one ∷ []) (step.Put at one)
-  settled_on one = record { within = within; after = λ b n e f. row_put row at one within }
-
-  pub settled_put : (next : Branch) → IsBehind whole ticks row at (next ∷ []) → IsSettled whole ticks row at [] (step.Put at next)
-  settled_put next behind = record {
-    within = within;
-    after = λ b n e f. row_put row at next within ∙ ap (λ (l : List Branch). take at row ++ (l ++ drop (suc at) row)) (behind b n e f);
-  }
-
-  pub settled_leave : IsBehind whole ticks row at [] → IsSettled whole ticks row at [] (step.Leave at)
-  settled_leave behind = record {
-    within = within;
-    after = λ b n e f. row_less row at within ∙ ap (λ (l : List Branch). take at row ++ (l ++ drop (suc at) row)) (behind b n e f);
-  }
-
-  pub settled_part : (inside new : List Branch) → (inside ≡ [] → ⊥) → new ≡ take at row ++ (inside ++ drop (suc at) row) → IsSettled whole ticks row at inside (step.Part new)
-  settled_part [] new some e = absurd (some refl)
-  settled_part (one ∷ inside) new some e = record { within = tt; after = λ b n f g. e }
-
--- a branch goes on as another
-pub put_settles : (whole : Process) (ticks : ℕ) (row : List Branch) (at : ℕ) (one : Branch) (new : List Branch) → at < length row → new ≡ set row at one → SettlesTo whole ticks row at (one ∷ []) new
-put_settles whole ticks row at one new within e = λ b n f g. e ∙ row_put row at one within
 
 -- an offer that is taken
 
@@ -138,7 +64,7 @@ goes_on code walk k at inside new own offered on p settles here =
     let there = are_there walk.ticks whole walk.row (left walk.ticks walk.row 0 whole) on.reads at p.one p.here in
     let n = node_there whole p.one.position there.0 in
     let w = went whole walk.ticks walk.row (take at walk.row) p.one (drop (suc at) walk.row) (left walk.ticks walk.row 0 whole) n.0 inside p.takes.left walk.store own k p.rest
-    on.reads (row_round walk.row at p.one p.here) n.1 p.takes.reads p.takes.selects p.counts in
+    on.reads (row_round walk.row at p.one p.here) n.1 (subst (λ (o : Op). Reads walk.ticks (root o p.one.position) (part whole p.one.position) inside p.takes.left) (op_here whole (positions whole) p.one.position n.0 refl n.1) p.takes.reads) p.takes.selects p.counts in
     let after = settles p.one n.0 p.here n.1 in
     let reads = subst (λ (l : List Branch). Reads walk.ticks 0 whole l w.left) (sym after) w.reads in
     let both : On w.left own ≡ On offered.residual offered.store = sym (hits_of code walk k ∙ w.selects) ∙ hit_is k (offers_of (walking_of code walk)) offered here in
@@ -181,11 +107,15 @@ in_row_at code walk on seen k one g = (let all = on.found seen in is_in_row code
 
 -- it may be taken by its index
 pub found_at : (code : Code) (walk : Walk) (k : ℕ) (inside : List Branch) (one : Sight) → walk.fresh ≡ true → slice_get walk.found k ≡ Some one →
+    IsBegun (fresh code.body.tree) walk.row one.branch →
     ((b : Branch) → slice_get walk.row one.branch ≡ Some b → branch_by (fresh code.body.tree) walk.ticks b one.position ≡ inside) →
     ForSome (slice_get (offers_of (walking_of code walk)) k) (IsFound code walk k inside)
-found_at code walk k inside one seen g leaves offered here = record {
+found_at code walk k inside one seen g begun leaves offered here = record {
   seen = seen;
   offer = here;
+  begins = λ other b i j.
+      (let same : one ≡ other = (let t : ◌≡◌ {A = Option Sight} (Some one) (Some other) = sym g ∙ i in cc) in
+      begun b (ap (λ (s : Sight). slice_get walk.row s.branch) same ∙ j));
   leaves = λ other b i j.
       (let same : one ≡ other = (let t : ◌≡◌ {A = Option Sight} (Some one) (Some other) = sym g ∙ i in cc) in
       ap (λ (s : Sight). branch_by (fresh code.body.tree) walk.ticks b s.position) (sym same) ∙ leaves b (ap (λ (s : Sight). slice_get walk.row s.branch) same ∙ j));
@@ -195,6 +125,7 @@ pub record Here (code : Code) (walk : Walk) (k : ℕ) (inside : List Branch) (of
   pub one : Sight
   pub found : slice_get walk.found k ≡ Some one
   pub in_row : IsInRow (fresh code.body.tree) walk.row one
+  pub begun : IsBegun (fresh code.body.tree) walk.row one.branch
   pub goes : (new : List Branch) → SettlesTo (fresh code.body.tree) walk.ticks walk.row one.branch inside new → Goes code walk new (or_own one.own walk.store) offered
 
 pub here_found : (code : Code) (walk : Walk) (k : ℕ) (inside : List Branch) (offered : Offered) → IsOnCode code walk → IsFound code walk k inside offered → Here code walk k inside offered
@@ -209,5 +140,6 @@ here_found code walk k inside offered on f =
       one = one.0;
       found = one.1;
       in_row = is_in_row code walk on all.0 walk.found all.1 k one.0 one.1;
+      begun = λ b h. f.begins one.0 b one.1 h;
       goes = λ new settles. goes_on code walk k one.0.branch inside new (or_own one.0.own walk.store) offered on picks settles f.offer;
     }

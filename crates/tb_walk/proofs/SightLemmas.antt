@@ -5,22 +5,22 @@ use Rattle.tb_terms.specs.declared.expr.Expr.{Expr}
 use Rattle.tb_func.specs.declared.slot.Slot.{Slot}
 use Rattle.tb_body.specs.declared.atom.Atom.{Atom}
 use Rattle.tb_algebra.specs.Helpers.Selections.{Selected, On, selected_at, selected_with, or_past}
-use Rattle.tb_algebra.specs.Offers.{Offered, offers, before, on_the_left, on_the_right, offers_if, offers_after, followed, left_of, right_of}
-use Rattle.tb_algebra.specs.Processes.{Process, At, Seq, Alt, Star, Par, If, When, Let}
+use Rattle.tb_algebra.specs.Offers.{Offered, offers, before, on_the_left, on_the_right, in_wait, until as in_wait_of, offers_if, offers_after, followed, left_of, right_of}
+use Rattle.tb_algebra.specs.Processes.{Process, At, Seq, Alt, Star, Par, Disrupt, If, When, Let}
 use Rattle.tb_algebra.specs.Reached.{IsNew}
 use Rattle.tb_algebra.specs.Helpers.Runnings.{waited}
 use Rattle.tb_algebra.specs.Settings.{tested, with_settings}
 use Rattle.tb_algebra.specs.Helpers.OfferViews.{OfferView, offer_view, offer_views}
-use Rattle.tb_algebra.proofs.EntryLemmas.{waited-At, waited-Seq, waited-Alt, waited-Par, waited-When, waited-If, waited-Let, star-offers}
+use Rattle.tb_algebra.proofs.EntryLemmas.{waited-At, waited-Seq, waited-Alt, waited-Par, waited-Disrupt, waited-When, waited-If, waited-Let, star-offers}
 use Rattle.tb_algebra.proofs.SelectedLemmas.{at-append, at-map, with_left, then as followed_by, beside, along}
-use Rattle.tb_algebra.proofs.OfferViewLemmas.{offer_views-Seq, offer_views-Alt, offer_views-Par}
+use Rattle.tb_algebra.proofs.OfferViewLemmas.{offer_views-Seq, offer_views-Alt, offer_views-Par, offer_views-Disrupt}
 use Rattle.tb_code.specs.Entries.{followed as and_behind}
 use Rattle.tb_code.specs.Positions.{size, part, of_two}
 use Rattle.tb_code.specs.declared.behind.Behind.{Behind}
 use Rattle.tb_code.specs.declared.behind.Behind.TheVariants as behind
 use Rattle.tb_walk.specs.Lefts as lefts
-use Rattle.tb_walk.specs.Helpers.Reads.{branch, Passes, one, other, leaves, then_side, else_side, when, set, Follows, sequence, turn, Reads, ended, waits, passes, follows, both, or_entered}
-use Rattle.tb_walk.specs.Helpers.Partings.{row_by, GoesOn}
+use Rattle.tb_walk.specs.Helpers.Reads.{branch, Passes, one, other, leaves, transfers, then_side, else_side, when, set, Follows, sequence, turn, Reads, ended, waits, passes, follows, both, stands_until as until, or_entered}
+use Rattle.tb_walk.specs.Helpers.Partings.{and_waits, row_by, GoesOn}
 use Rattle.tb_walk.specs.Helpers.Sights.{Sighting, Looking, sightings, sightings_if, sightings_after, sighting_at}
 use Rattle.tb_walk.specs.declared.branch.Branch.{Branch}
 use Rattle.tb_walk.proofs.Contexts.{entered-next, beside-left, beside-right}
@@ -44,6 +44,7 @@ new-part (Seq x y) (suc at) h = new-two (size x) at (part x at) (part y (at - si
 new-part (Alt x y) (suc at) h = new-two (size x) at (part x at) (part y (at - size x)) (new-part x at h.0) (new-part y (at - size x) h.1)
 new-part (Star x y) (suc at) h = new-two (size x) at (part x at) (part y (at - size x)) (new-part x at h.0) (new-part y (at - size x) h.1)
 new-part (Par x y) (suc at) h = new-two (size x) at (part x at) (part y (at - size x)) (new-part x at h.0) (new-part y (at - size x) h.1)
+new-part (Disrupt x y) (suc at) h = new-two (size x) at (part x at) (part y (at - suc (size x))) (new-part x at h.0) (new-part y (at - suc (size x)) h.1)
 new-part (If test x y) (suc at) h = new-two (size x) at (part x at) (part y (at - size x)) (new-part x at h.0) (new-part y (at - size x) h.1)
 new-part (When test x) (suc at) h = new-part x at h
 new-part (Let settings x) (suc at) h = new-part x at h
@@ -100,6 +101,10 @@ module _ (by : Looking) where
       seen-two (sightings by behind.Parted (suc at) x store) (sightings by behind.Parted (suc at + size x) y store) _ _ (seen-sightings behind.Parted (suc at) x store new.0) (seen-sightings behind.Parted (suc at + size x) y store new.1)
       ∙ sym (offer_views-Par by.atoms by.now (waited by.age x) (waited by.age y) store)
       ∙ sym (ap (λ (p : Process). offer_views by.atoms by.now p store) (waited-Par by.age x y))
+  seen-sightings so_far at (Disrupt x y) store new =
+      seen-two (sightings by behind.Parted (suc at) x store) (sightings by so_far (suc (suc at + size x)) y store) _ _ (seen-sightings behind.Parted (suc at) x store new.0) (seen-sightings so_far (suc (suc at + size x)) y store new.1)
+      ∙ sym (offer_views-Disrupt by.atoms by.now (waited by.age x) (waited by.age y) store)
+      ∙ sym (ap (λ (p : Process). offer_views by.atoms by.now p store) (waited-Disrupt by.age x y))
   seen-sightings so_far at (If test x y) store new =
       seen-if (tested store test) (sightings by so_far (suc at) x store) (sightings by so_far (suc at + size x) y store) (offers (waited by.age x) store) (offers (waited by.age y) store)
       (seen-sightings so_far (suc at) x store new.0) (seen-sightings so_far (suc at + size x) y store new.1)
@@ -186,6 +191,10 @@ module _ (by : Looking) where
       of_either at (suc at + size x) (at + size (Par x y)) (sightings by behind.Parted (suc at) x store) (sightings by behind.Parted (suc at + size x) y store) j s (omega arith) (omega arith)
       (λ i h. is_of behind.Parted (suc at) x store i s h) (λ i h. of_wider (suc at + size x) (suc at + size x + size y) (suc at + size x) (at + size (Par x y)) s (omega arith) (omega arith) (is_of behind.Parted (suc at + size x) y store i s h))
       (split_get (sightings by behind.Parted (suc at) x store) (sightings by behind.Parted (suc at + size x) y store) j s e)
+  is_of so_far at (Disrupt x y) store j s e =
+      of_either at (suc at + size x) (at + size (Disrupt x y)) (sightings by behind.Parted (suc at) x store) (sightings by so_far (suc (suc at + size x)) y store) j s (omega arith) (omega arith)
+      (λ i h. is_of behind.Parted (suc at) x store i s h) (λ i h. of_wider (suc (suc at + size x)) (suc (suc at + size x) + size y) (suc at + size x) (at + size (Disrupt x y)) s (omega arith) (omega arith) (is_of so_far (suc (suc at + size x)) y store i s h))
+      (split_get (sightings by behind.Parted (suc at) x store) (sightings by so_far (suc (suc at + size x)) y store) j s e)
   is_of so_far at (If test x y) store j s e =
       of_if at (suc at + size x) (at + size (If test x y)) (sightings by so_far (suc at) x store) (sightings by so_far (suc at + size x) y store) j s (omega arith) (omega arith)
       (λ i h. is_of so_far (suc at) x store i s h) (λ i h. of_wider (suc at + size x) (suc at + size x + size y) (suc at + size x) (at + size (If test x y)) s (omega arith) (omega arith) (is_of so_far (suc at + size x) y store i s h))
@@ -234,6 +243,15 @@ module _ (by : Looking) (at : ℕ) (x y : Process) (store : List Slot) (j : ℕ)
   leads_par so_far f g (inl h) = goes_parted at (Par x y) s.position so_far s.behind (f j h)
   leads_par so_far f g (inr h) = goes_parted at (Par x y) s.position so_far s.behind (g h.0 h.1.1)
 
+  leads_until : (so_far : Behind) → Leads by behind.Parted (suc at) x store s → Leads by so_far (suc ends) y store s →
+      (slice_get (sightings by behind.Parted (suc at) x store) j ≡ Some s) ⊎ ((i : ℕ) × ((j ≡ length (sightings by behind.Parted (suc at) x store) + i) × (slice_get (sightings by so_far (suc ends) y store) i ≡ Some s))) →
+      GoesOn at (Disrupt x y) s.position so_far s.behind
+  leads_until so_far f g (inl h) = goes_parted at (Disrupt x y) s.position so_far s.behind (f j h)
+  leads_until so_far f g (inr h) =
+      let low = (is_of by so_far (suc ends) y store h.0 s h.1.1).0.0 in
+      goes_same at (suc ends) (Disrupt x y) y s.position so_far s.behind
+      (λ ticks entered. on_second_side s.position ends (and_waits (row_by ticks entered (suc at) x s.position) (branch ends entered)) (row_by ticks entered (suc ends) y s.position) (omega arith)) (g h.0 h.1.1)
+
   leads_if : (test : Expr) (so_far : Behind) → Leads by so_far (suc at) x store s → Leads by so_far ends y store s → IsOfSide (sightings by so_far (suc at) x store) (sightings by so_far ends y store) [] [] [] j s → GoesOn at (If test x y) s.position so_far s.behind
   leads_if test so_far f g (inl h) =
       goes_same at (suc at) (If test x y) x s.position so_far s.behind (λ ticks entered. first_side so_far (row_by ticks entered (suc at) x s.position) (row_by ticks entered ends y s.position) h.0) (f j h.0)
@@ -261,6 +279,9 @@ module _ (by : Looking) where
   leads so_far at (Par x y) store j s e =
       leads_par by at x y store j s so_far (λ i h. leads behind.Parted (suc at) x store i s h) (λ i h. leads behind.Parted (suc at + size x) y store i s h)
       (split_get (sightings by behind.Parted (suc at) x store) (sightings by behind.Parted (suc at + size x) y store) j s e)
+  leads so_far at (Disrupt x y) store j s e =
+      leads_until by at x y store j s so_far (λ i h. leads behind.Parted (suc at) x store i s h) (λ i h. leads so_far (suc (suc at + size x)) y store i s h)
+      (split_get (sightings by behind.Parted (suc at) x store) (sightings by so_far (suc (suc at + size x)) y store) j s e)
   leads so_far at (If test x y) store j s e =
       leads_if by at x y store j s test so_far (λ i h. leads so_far (suc at) x store i s h) (λ i h. leads so_far (suc at + size x) y store i s h)
       (sides by (tested store test) (sightings by so_far (suc at) x store) (sightings by so_far (suc at + size x) y store) j s e)
@@ -314,7 +335,7 @@ module _ (ticks at : ℕ) where
             reads = subst (λ (l : List Branch). Reads ticks at w l (Some (Seq u z))) (sym stays) (follows x at-z z p inside);
           }
 
-  -- a side of a merge
+  -- a side of a merge, or of a disrupt
   module _ (x y : Process) (entered : ℕ) (le : entered ≤ ticks) where
     leaving_left : (row : List Branch) (j k : ℕ) (os all : List Offered) (own : List Slot) → (l : Leaving ticks (suc at) x row j os own) → selected_at k all ≡ On (Some (left_of l.left (waited (ticks - entered) y))) own → Leaving ticks at (Par x y) (row ++ branch (suc at + size x) entered ∷ []) k all own
     leaving_left row j k os all own l h =
@@ -330,6 +351,21 @@ module _ (ticks at : ℕ) where
           left = lefts.beside (Some (waited (ticks - entered) x)) l.left;
           selects = h ∙ ap (λ (o : Option Process). On o own) (beside-right (waited (ticks - entered) x) l.left);
           reads = both (waits entered le) l.reads;
+        }
+
+    -- the left side of a disrupt, and its right side in wait
+    until_row : (row : List Branch) (l : Option Process) → Reads ticks (suc at) x row l → EndsTogether ticks row l → Reads ticks at (Disrupt x y) (and_waits row (branch (suc at + size x) entered)) (in_wait_of (waited (ticks - entered) y) l)
+    until_row row l reads (inl k) = rw (k.0, k.1) ended
+    until_row row l reads (inr k) =
+        let some : Reads ticks (suc at) x (k.0 ∷ k.1.0) (Some k.1.1.1.0) = subst (λ (o : Option Process). Reads ticks (suc at) x (k.0 ∷ k.1.0) o) k.1.1.1.1 (subst (λ (m : List Branch). Reads ticks (suc at) x m l) k.1.1.0 reads) in
+        rw (k.1.1.0, k.1.1.1.1) (until entered le some)
+
+    leaving_held : (row : List Branch) (j k : ℕ) (os all : List Offered) (own : List Slot) → (l : Leaving ticks (suc at) x row j os own) → selected_at k all ≡ On (in_wait_of (waited (ticks - entered) y) l.left) own → Leaving ticks at (Disrupt x y) (and_waits row (branch (suc at + size x) entered)) k all own
+    leaving_held row j k os all own l h =
+        record {
+          left = in_wait_of (waited (ticks - entered) y) l.left;
+          selects = h;
+          reads = until_row row l.left l.reads (ends_together ticks l.reads);
         }
 
 -- one of the first offers, and one of those behind them
@@ -425,6 +461,30 @@ module _ (atoms : List Atom) (now index ticks entered : ℕ) (le : entered ≤ t
       (length-sightings by a (suc at) x store new ∙ sym (length-mapped (on_the_left (aged y)) (offers (aged x) store)))
       (at-map (along (aged x)) h.0 (offers (aged y) store) ∙ ap (selected_with (along (aged x))) l.selects)))
 
+  leaving_until : (a b : Behind) (at : ℕ) (x y : Process) (store : List Slot) (j : ℕ) (s : Sighting) → IsNew x → Each a (suc at) x store s → Each b (suc (suc at + size x)) y store s →
+      (slice_get (sightings by a (suc at) x store) j ≡ Some s) ⊎ ((i : ℕ) × ((j ≡ length (sightings by a (suc at) x store) + i) × (slice_get (sightings by b (suc (suc at + size x)) y store) i ≡ Some s))) → Leaves at (Disrupt x y) store j s
+  leaving_until a b at x y store j s new f g (inl h) =
+      let l = f j h in
+      let all = offers (aged (Disrupt x y)) store in
+      let row = and_waits (by_row (suc at) x s) (branch (suc at + size x) entered) in
+      leaving_as ticks at (Disrupt x y) row (by_row at (Disrupt x y) s) j all all s.seen.store
+      (on_first_side s.position (suc at + size x) row (by_row (suc (suc at + size x)) y s) (is_of by a (suc at) x store j s h).0.1) refl
+      (leaving_held ticks at x y entered le (by_row (suc at) x s) j j (offers (aged x) store) all s.seen.store l
+      (ap (λ (p : Process). selected_at j (offers p store)) (waited-Disrupt (ticks - entered) x y)
+      ∙ at-first (in_wait_of (aged y)) j (offers (aged x) store) (offers (aged y) store) l.left s.seen.store l.selects))
+  leaving_until a b at x y store j s new f g (inr h) =
+      let l = g h.0 h.1.1 in
+      let all = offers (aged (Disrupt x y)) store in
+      let row = by_row (suc (suc at + size x)) y s in
+      let first = map (in_wait (aged y)) (offers (aged x) store) in
+      let low = (is_of by b (suc (suc at + size x)) y store h.0 s h.1.1).0.0 in
+      leaving_as ticks at (Disrupt x y) row (by_row at (Disrupt x y) s) j all all s.seen.store
+      (on_second_side s.position (suc at + size x) (and_waits (by_row (suc at) x s) (branch (suc at + size x) entered)) row (omega arith)) refl
+      (leaving_part ticks at (Disrupt x y) y (suc (suc at + size x)) row h.0 j (offers (aged y) store) all s.seen.store transfers l
+      (ap (λ (p : Process). selected_at j (offers p store)) (waited-Disrupt (ticks - entered) x y)
+      ∙ behind-all j h.0 (length (sightings by a (suc at) x store)) first (offers (aged y) store) l.left s.seen.store h.1.0
+      (length-sightings by a (suc at) x store new ∙ sym (length-mapped (in_wait (aged y)) (offers (aged x) store))) l.selects))
+
   leaving_if : (a b : Behind) (at : ℕ) (test : Expr) (x y : Process) (store : List Slot) (j : ℕ) (s : Sighting) → Each a (suc at) x store s → Each b (suc at + size x) y store s →
       IsOfSide (sightings by a (suc at) x store) (sightings by b (suc at + size x) y store) (offers (aged x) store) (offers (aged y) store) (offers_if (tested store test) (offers (aged x) store) (offers (aged y) store)) j s → Leaves at (If test x y) store j s
   leaving_if a b at test x y store j s f g (inl h) =
@@ -469,6 +529,9 @@ module _ (atoms : List Atom) (now index ticks entered : ℕ) (le : entered ≤ t
       leaving_star (and_behind (behind.Entered at) so_far) so_far at x y store j s new.0 (λ i h. leaving (and_behind (behind.Entered at) so_far) (suc at) x store i s new.0 h) (λ i h. leaving so_far (suc at + size x) y store i s new.1 h) (split_get (sightings by (and_behind (behind.Entered at) so_far) (suc at) x store) (sightings by so_far (suc at + size x) y store) j s e)
   leaving so_far at (Par x y) store j s new e =
       leaving_par behind.Parted behind.Parted at x y store j s new.0 (λ i h. leaving behind.Parted (suc at) x store i s new.0 h) (λ i h. leaving behind.Parted (suc at + size x) y store i s new.1 h) (split_get (sightings by behind.Parted (suc at) x store) (sightings by behind.Parted (suc at + size x) y store) j s e)
+  leaving so_far at (Disrupt x y) store j s new e =
+      leaving_until behind.Parted so_far at x y store j s new.0 (λ i h. leaving behind.Parted (suc at) x store i s new.0 h) (λ i h. leaving so_far (suc (suc at + size x)) y store i s new.1 h)
+      (split_get (sightings by behind.Parted (suc at) x store) (sightings by so_far (suc (suc at + size x)) y store) j s e)
   leaving so_far at (If test x y) store j s new e =
       leaving_if so_far so_far at test x y store j s (λ i h. leaving so_far (suc at) x store i s new.0 h) (λ i h. leaving so_far (suc at + size x) y store i s new.1 h)
       (get_if (tested store test) (sightings by so_far (suc at) x store) (sightings by so_far (suc at + size x) y store) (offers (aged x) store) (offers (aged y) store) j s e)

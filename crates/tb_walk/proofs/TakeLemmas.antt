@@ -1,14 +1,18 @@
 -- The row that is left of the part at a position, by the row that is left of a part of it.
-use Rattle.std.proofs.Common.{◌≡◌, ℕ, suc, ◌+◌, ◌<◌, ◌≤◌, Bool, true, false, nat_lt, if◌then◌else◌, List, [], ◌∷◌, ◌++◌, length, refl, ap, sym, subst, ◌∙◌, arith, length-append}
+use Rattle.std.proofs.Common.{◌≡◌, ℕ, suc, ◌+◌, ◌<◌, ◌≤◌, Bool, true, false, nat_lt, if◌then◌else◌, List, [], ◌∷◌, ◌++◌, refl, ap, sym, subst, ◌∙◌, arith}
 use Rattle.std.proofs.lemmas.Bool.{ltb-true, lt-ltb}
-use Rattle.std.proofs.lemmas.List.{append-nil}
 use Rattle.tb_terms.specs.declared.expr.Expr.{Expr}
 use Rattle.tb_body.specs.declared.tree.Setting.{Setting}
 use Rattle.tb_algebra.specs.Processes.{Process, At, Seq, Alt, Star, Par, If, When, Let}
-use Rattle.tb_code.specs.Entries.{followed}
-use Rattle.tb_code.specs.Positions.{size, part, IsTwo, IsOne}
+use Rattle.tb_code.specs.Entries.{followed, outset}
+use Rattle.tb_code.specs.Positions.{size, part, op_at, root, is_wait, Begins, IsTwo, IsWait, IsOne}
 use Rattle.tb_code.specs.declared.behind.Behind.{Behind}
 use Rattle.tb_code.specs.declared.behind.Behind.TheVariants as behind
+use Rattle.tb_code.specs.declared.node.Op.{Op}
+use Rattle.tb_code.specs.declared.node.Op.TheVariants as op
+use Rattle.tb_code.proofs.EntryLemmas.{outset_begins}
+use Rattle.tb_code.proofs.Parts.{root_begins}
+use Rattle.tb_walk.specs.Helpers.Places.{root_at, outset_at}
 use Rattle.tb_walk.specs.Helpers.Reads.{branch, or_entered}
 use Rattle.tb_walk.specs.Helpers.Partings.{row_by, branch_by, AreRows, GoesOn}
 use Rattle.tb_walk.specs.declared.branch.Branch.{Branch}
@@ -31,53 +35,64 @@ on_second_side to bound x y h = by_cases (nat_lt to bound) refl
 
 module _ (whole : Process) (at first : ℕ) (f : first ≡ suc at) (to : ℕ) where
   module _ (ticks entered : ℕ) where
+    -- what is left of the part of a position
     abbrev pub left_at : ℕ → List Branch
-    left_at position = row_by ticks entered position (part whole position) to
+    left_at position = row_by ticks entered (root_at whole position) (part whole position) to
 
-    at-first : left_at (suc at) ≡ left_at first
-    at-first = ap left_at (sym f)
+    -- the same where it begins there
+    abbrev pub own_at : ℕ → List Branch
+    own_at position = row_by ticks entered position (part whole position) to
+
+    pub here_by : (o : Op) → op_at whole at ≡ o → left_at at ≡ row_by ticks entered (root o at) (part whole at) to
+    here_by o is = ap (λ (p : Op). row_by ticks entered (root p at) (part whole at) to) is
+
+    begun : (position : ℕ) → Begins whole position → own_at position ≡ left_at position
+    begun position e = ap (λ (n : ℕ). row_by ticks entered n (part whole position) to) (sym (root_begins (op_at whole position) position e))
+
+    at-first : Begins whole (suc at) → own_at (suc at) ≡ left_at first
+    at-first e = begun (suc at) e ∙ ap left_at (sym f)
 
     at-right : (make : Process → Process → Process) (right : ℕ) → (two : IsTwo whole make at right) → row_by ticks entered (suc at + size (part whole (suc at))) (part whole right) to ≡ left_at right
-    at-right make right two = ap (λ (p : ℕ). row_by ticks entered p (part whole right) to) (sym two.behind)
+    at-right make right two = ap (λ (p : ℕ). row_by ticks entered p (part whole right) to) (sym two.behind) ∙ begun right two.second_begins
 
-    pub by_seq : (right : ℕ) → IsTwo whole Seq at right → left_at at ≡ or_entered (left_at first) (branch right ticks ∷ [])
+    pub by_seq : (right : ℕ) → IsTwo whole Seq at right → own_at at ≡ or_entered (left_at first) (branch right ticks ∷ [])
     by_seq right two =
         ap (λ (p : Process). row_by ticks entered at p to) two.here
-        ∙ ap (λ (n : ℕ). or_entered (left_at (suc at)) (branch n ticks ∷ [])) (sym two.behind)
-        ∙ ap (λ (l : List Branch). or_entered l (branch right ticks ∷ [])) at-first
+        ∙ ap (λ (n : ℕ). or_entered (own_at (suc at)) (branch n ticks ∷ [])) (sym two.behind)
+        ∙ ap (λ (l : List Branch). or_entered l (branch right ticks ∷ [])) (at-first two.first_begins)
 
     sides : (make : Process → Process → Process) (right : ℕ) (g h : List Branch → List Branch) → (two : IsTwo whole make at right) →
-        (if nat_lt to (suc at + size (part whole (suc at))) then g (left_at (suc at)) else h (row_by ticks entered (suc at + size (part whole (suc at))) (part whole right) to))
+        (if nat_lt to (suc at + size (part whole (suc at))) then g (own_at (suc at)) else h (row_by ticks entered (suc at + size (part whole (suc at))) (part whole right) to))
         ≡ (if nat_lt to right then g (left_at first) else h (left_at right))
     sides make right g h two =
-        ap (λ (l : List Branch). if nat_lt to (suc at + size (part whole (suc at))) then g (left_at (suc at)) else h l) (at-right make right two)
-        ∙ ap (λ (n : ℕ). if nat_lt to n then g (left_at (suc at)) else h (left_at right)) (sym two.behind)
-        ∙ ap (λ (l : List Branch). if nat_lt to right then g l else h (left_at right)) at-first
+        ap (λ (l : List Branch). if nat_lt to (suc at + size (part whole (suc at))) then g (own_at (suc at)) else h l) (at-right make right two)
+        ∙ ap (λ (n : ℕ). if nat_lt to n then g (own_at (suc at)) else h (left_at right)) (sym two.behind)
+        ∙ ap (λ (l : List Branch). if nat_lt to right then g l else h (left_at right)) (at-first two.first_begins)
 
-    pub by_alt : (right : ℕ) → IsTwo whole Alt at right → left_at at ≡ (if nat_lt to right then left_at first else left_at right)
+    pub by_alt : (right : ℕ) → IsTwo whole Alt at right → own_at at ≡ (if nat_lt to right then left_at first else left_at right)
     by_alt right two = ap (λ (p : Process). row_by ticks entered at p to) two.here ∙ sides Alt right (λ l. l) (λ l. l) two
 
-    pub by_star : (right : ℕ) → IsTwo whole Star at right → left_at at ≡ (if nat_lt to right then or_entered (left_at first) (branch at ticks ∷ []) else left_at right)
+    pub by_star : (right : ℕ) → IsTwo whole Star at right → own_at at ≡ (if nat_lt to right then or_entered (left_at first) (branch at ticks ∷ []) else left_at right)
     by_star right two = ap (λ (p : Process). row_by ticks entered at p to) two.here ∙ sides Star right (λ l. or_entered l (branch at ticks ∷ [])) (λ l. l) two
 
-    pub by_par : (right : ℕ) → IsTwo whole Par at right → left_at at ≡ (if nat_lt to right then left_at first ++ branch right entered ∷ [] else branch first entered ∷ left_at right)
+    pub by_par : (right : ℕ) → IsTwo whole Par at right → own_at at ≡ (if nat_lt to right then left_at first ++ branch right entered ∷ [] else branch first entered ∷ left_at right)
     by_par right two =
         ap (λ (p : Process). row_by ticks entered at p to) two.here
         ∙ sides Par right (λ l. l ++ branch (suc at + size (part whole (suc at))) entered ∷ []) (λ l. branch (suc at) entered ∷ l) two
         ∙ ap (λ (n : ℕ). if nat_lt to right then left_at first ++ branch n entered ∷ [] else branch (suc at) entered ∷ left_at right) (sym two.behind)
         ∙ ap (λ (n : ℕ). if nat_lt to right then left_at first ++ branch right entered ∷ [] else branch n entered ∷ left_at right) (sym f)
 
-    pub by_if : (test : Expr) (right : ℕ) → IsTwo whole (If test) at right → left_at at ≡ (if nat_lt to right then left_at first else left_at right)
+    pub by_wait : (disrupt : ℕ) → IsWait whole at disrupt → row_by ticks entered (suc at) (part whole at) to ≡ left_at first
+    by_wait disrupt wait = ap (λ (p : Process). row_by ticks entered (suc at) p to) wait.here ∙ at-first wait.first_begins
+
+    pub by_if : (test : Expr) (right : ℕ) → IsTwo whole (If test) at right → own_at at ≡ (if nat_lt to right then left_at first else left_at right)
     by_if test right two = ap (λ (p : Process). row_by ticks entered at p to) two.here ∙ sides (If test) right (λ l. l) (λ l. l) two
 
-    pub by_when : (test : Expr) → IsOne whole (When test) at → left_at at ≡ left_at first
-    by_when test one = ap (λ (p : Process). row_by ticks entered at p to) one.here ∙ at-first
+    pub by_when : (test : Expr) → IsOne whole (When test) at → own_at at ≡ left_at first
+    by_when test one = ap (λ (p : Process). row_by ticks entered at p to) one.here ∙ at-first one.first_begins
 
-    pub by_let : (settings : List Setting) → IsOne whole (Let settings) at → left_at at ≡ left_at first
-    by_let settings one = ap (λ (p : Process). row_by ticks entered at p to) one.here ∙ at-first
-
-    pub by_atom : (atom age : ℕ) → part whole at ≡ At atom age → left_at at ≡ []
-    by_atom atom age e = ap (λ (p : Process). row_by ticks entered at p to) e
+    pub by_let : (settings : List Setting) → IsOne whole (Let settings) at → own_at at ≡ left_at first
+    by_let settings one = ap (λ (p : Process). row_by ticks entered at p to) one.here ∙ at-first one.first_begins
 
     -- the side in which the atom stands
     pub of_side : (right : ℕ) (side : ℕ) → side ≡ (if nat_lt to right then first else right) → (if nat_lt to right then left_at first else left_at right) ≡ left_at side
@@ -120,26 +135,34 @@ module _ (at at-x : ℕ) (w x : Process) (to : ℕ) where
       (λ ticks entered. ap (λ (l : List Branch). or_entered l (branch last ticks ∷ [])) (e ticks entered) ∙ or-twice (row_by ticks entered at-x x to) (branch next ticks) (branch last ticks ∷ [])) g
   goes_first next behind.Parted result e g = g
 
--- what is left of the part of a branch
+-- a branch of which it is known what comes doesn't wait
 
-pub left_ended : (whole : Process) (ticks : ℕ) (b : Branch) (to : ℕ) (result : Behind) → GoesOn b.position (part whole b.position) to behind.Ended result → result ≡ behind.Ended → branch_by whole ticks b to ≡ []
-left_ended whole ticks b to result g e = subst (GoesOn b.position (part whole b.position) to behind.Ended) e g ticks b.entered
+not_parted : (at : ℕ) (x : Process) (to : ℕ) (result : Behind) (o : Op) → GoesOn at x to (outset o) result → (result ≡ behind.Parted → ⊥) → is_wait o ≡ false
+not_parted at x to result (op.At atom) g n = refl
+not_parted at x to result (op.Seq right) g n = refl
+not_parted at x to result (op.Alt right) g n = refl
+not_parted at x to result (op.Star right) g n = refl
+not_parted at x to result (op.Par right) g n = refl
+not_parted at x to result (op.Disrupt waits) g n = refl
+not_parted at x to result (op.Waits disrupt) g n = absurd (n g)
+not_parted at x to result (op.If test right) g n = refl
+not_parted at x to result (op.When test) g n = refl
+not_parted at x to result (op.Let settings) g n = refl
 
-pub left_entered : (whole : Process) (ticks : ℕ) (b : Branch) (to position : ℕ) (result : Behind) → GoesOn b.position (part whole b.position) to behind.Ended result → result ≡ behind.Entered position → branch_by whole ticks b to ≡ branch position ticks ∷ []
-left_entered whole ticks b to position result g e = subst (GoesOn b.position (part whole b.position) to behind.Ended) e g ticks b.entered
+module _ (whole : Process) (ticks : ℕ) (b : Branch) (to : ℕ) (result : Behind) (g : GoesOn (root_at whole b.position) (part whole b.position) to (outset_at whole b.position) result) where
+  -- what is left of the part of a branch
 
--- a row is longer exactly where something was added
+  ends : Begins whole b.position → GoesOn (root_at whole b.position) (part whole b.position) to behind.Ended result
+  ends n = subst (λ (o : Behind). GoesOn (root_at whole b.position) (part whole b.position) to o result) (outset_begins (op_at whole b.position) n) g
 
-pub more-nothing : (old row : List Branch) → length (old ++ row) ≡ length old → row ≡ []
-more-nothing old [] e = refl
-more-nothing old (b ∷ row) e = (let l = length-append old (b ∷ row) in absurd (omega arith))
+  pub ended_begins : result ≡ behind.Ended → Begins whole b.position
+  ended_begins e = not_parted (root_at whole b.position) (part whole b.position) to result (op_at whole b.position) g (λ f. (let t : behind.Ended ≡ behind.Parted = sym e ∙ f in cc))
 
-pub first_ended : (old new row : List Branch) (next : Branch) → new ≡ old ++ row → length new ≡ length old → new ++ next ∷ [] ≡ old ++ or_entered row (next ∷ [])
-first_ended old new row next e l =
-    let none : row ≡ [] = more-nothing old row (ap length (sym e) ∙ l) in
-    ap (λ (r : List Branch). r ++ next ∷ []) (e ∙ ap (λ (r : List Branch). old ++ r) none ∙ append-nil old)
-    ∙ sym (ap (λ (r : List Branch). old ++ or_entered r (next ∷ [])) none)
+  pub entered_begins : (position : ℕ) → result ≡ behind.Entered position → Begins whole b.position
+  entered_begins position e = not_parted (root_at whole b.position) (part whole b.position) to result (op_at whole b.position) g (λ f. (let t : behind.Entered position ≡ behind.Parted = sym e ∙ f in cc))
 
-pub first_goes_on : (old new row : List Branch) (next : Branch) → new ≡ old ++ row → (length new ≡ length old → ⊥) → new ≡ old ++ or_entered row (next ∷ [])
-first_goes_on old new [] next e l = absurd (l (ap length (e ∙ append-nil old)))
-first_goes_on old new (b ∷ row) next e l = e
+  pub left_ended : result ≡ behind.Ended → branch_by whole ticks b to ≡ []
+  left_ended e = subst (GoesOn (root_at whole b.position) (part whole b.position) to behind.Ended) e (ends (ended_begins e)) ticks b.entered
+
+  pub left_entered : (position : ℕ) → result ≡ behind.Entered position → branch_by whole ticks b to ≡ branch position ticks ∷ []
+  left_entered position e = subst (GoesOn (root_at whole b.position) (part whole b.position) to behind.Ended) e (ends (entered_begins position e)) ticks b.entered

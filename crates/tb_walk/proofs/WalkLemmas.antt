@@ -5,7 +5,7 @@ use Rattle.std.proofs.lemmas.Option.{slice_get-map, slice_get_within}
 use Rattle.tb_func.specs.declared.slot.Slot.{Slot}
 use Rattle.tb_body.specs.declared.atom.Atom.{Atom}
 use Rattle.tb_algebra.specs.Helpers.Selections.{selected_at}
-use Rattle.tb_algebra.specs.Processes.{Process, Par, fresh, aged}
+use Rattle.tb_algebra.specs.Processes.{Process, Par, Disrupt, fresh, aged}
 use Rattle.tb_algebra.specs.Helpers.Rewritings.{Kept, kept}
 use Rattle.tb_algebra.specs.Helpers.Runnings.{waited}
 use Rattle.tb_algebra.specs.Helpers.OfferViews.{OfferView, offer_view, or_own}
@@ -15,13 +15,13 @@ use Rattle.tb_algebra.specs.declared.offer.Offer.{Offer}
 use Rattle.tb_algebra.proofs.Ages.{fresh-new}
 use Rattle.tb_algebra.proofs.RewriterLemmas.{length-map, by_kept, inside}
 use Rattle.tb_code.specs.Positions.{size, part}
-use Rattle.tb_code.specs.declared.behind.Behind.TheVariants as behind
 use Rattle.tb_code.specs.declared.code.Code.{Code}
 use Rattle.tb_code.proofs.Parts.{stands_whole}
 use Rattle.tb_walk.specs.Helpers.Goings.{counted, row_sights}
 use Rattle.tb_walk.specs.Lefts.{beside, left}
-use Rattle.tb_walk.specs.Helpers.Reads.{branch, Reads, ended, waits, passes, follows, both}
+use Rattle.tb_walk.specs.Helpers.Reads.{branch, Reads, ended, waits, passes, follows, both, stands_until as until}
 use Rattle.tb_walk.specs.Helpers.Partings.{GoesOn, branch_by}
+use Rattle.tb_walk.specs.Helpers.Places.{outset_at, root_at}
 use Rattle.tb_walk.specs.Helpers.Sights.{Sighting, offer_of, sighted, row_sightings}
 use Rattle.tb_walk.specs.Helpers.Takings.{AreThere, IsInRow, Picks}
 use Rattle.tb_walk.specs.WalkViews.{walking_of, seen_of, IsOnCode}
@@ -67,13 +67,19 @@ get_two [] r i b P f g e = g i b e
 get_two (c ∷ l) r zero b P f g e = f zero b e
 get_two (c ∷ l) r (suc i) b P f g e = get_two l r i b P (λ j d h. f (suc j) d h) g e
 
+one_entered : (ticks at entered : ℕ) → entered ≤ ticks → (i : ℕ) (b : Branch) → slice_get (branch at entered ∷ []) i ≡ Some b → b.entered ≤ ticks
+one_entered ticks at entered h zero b e = (let same : branch at entered ≡ b = (let t : ◌≡◌ {A = Option Branch} (Some (branch at entered)) (Some b) = e in cc) in subst (λ (d : Branch). d.entered ≤ ticks) same h)
+one_entered ticks at entered h (suc i) b e = (let t : ◌≡◌ {A = Option Branch} None (Some b) = e in cc)
+
 pub entered_by : (ticks : ℕ) {at : ℕ} {w : Process} {row : List Branch} {t : Option Process} → Reads ticks at w row t → (i : ℕ) (b : Branch) → slice_get row i ≡ Some b → b.entered ≤ ticks
 entered_by ticks ended i b e = (let t : ◌≡◌ {A = Option Branch} None (Some b) = e in cc)
-entered_by ticks (waits {at = at} entered h) zero b e = (let same : branch at entered ≡ b = (let t : ◌≡◌ {A = Option Branch} (Some (branch at entered)) (Some b) = e in cc) in subst (λ (d : Branch). d.entered ≤ ticks) same h)
-entered_by ticks (waits entered h) (suc i) b e = (let t : ◌≡◌ {A = Option Branch} None (Some b) = e in cc)
+entered_by ticks (waits {at = at} entered h) i b e = one_entered ticks at entered h i b e
 entered_by ticks (passes at-x x p r) i b e = entered_by ticks r i b e
 entered_by ticks (follows x at-z z p r) i b e = entered_by ticks r i b e
 entered_by ticks (both {one = one-row} {other = other-row} r s) i b e = get_two one-row other-row i b (λ c. c.entered ≤ ticks) (λ j c h. entered_by ticks r j c h) (λ j c h. entered_by ticks s j c h) e
+entered_by ticks (until {at = at} {x = x} {y = y} {row = row} {r = r} entered h k) i b e =
+    get_two row (branch (suc at + size x) entered ∷ []) i b (λ c. c.entered ≤ ticks) (λ j c g. entered_by ticks k j c g)
+    (λ j c g. one_entered ticks (suc at + size x) entered h j c g) e
 
 pub are_there : (ticks : ℕ) (whole : Process) (row : List Branch) (t : Option Process) → Reads ticks 0 whole row t → AreThere whole ticks row
 are_there ticks whole row t r i b e =
@@ -183,7 +189,7 @@ module _ (code : Code) (walk : Walk) (on : IsOnCode code walk) (now : ℕ) (foun
           λ b h. (
             (there one.branch b h).0,
             (let same : g.0 ≡ b = (let t : ◌≡◌ {A = Option Branch} (Some g.0) (Some b) = sym g.1.0 ∙ h in cc) in
-                subst (λ (c : Branch). GoesOn c.position (part whole c.position) one.position behind.Ended one.behind) same g.1.1),
+                subst (λ (c : Branch). GoesOn (root_at whole c.position) (part whole c.position) one.position (outset_at whole c.position) one.behind) same g.1.1),
           ),
         )
 
@@ -231,6 +237,9 @@ reads_later ticks (passes at-x x p r) = passes at-x x p (reads_later ticks r)
 reads_later ticks (follows x at-z z p r) = follows x at-z z p (reads_later ticks r)
 reads_later ticks (both {at = at} {x = x} {y = y} {one = one-row} {other = other-row} {s = s} {t = t} r q) =
     subst (λ (o : Option Process). Reads (ticks + 1) at (Par x y) (one-row ++ other-row) o) (sym (aged-beside s t)) (both (reads_later ticks r) (reads_later ticks q))
+reads_later ticks (until {at = at} {x = x} {y = y} {row = row} {r = r} entered h k) =
+    let e : ticks + 1 - entered ≡ suc (ticks - entered) = omega arith in
+    subst (λ (n : ℕ). Reads (ticks + 1) at (Disrupt x y) (row ++ branch (suc at + size x) entered ∷ []) (Some (Disrupt (aged r) (waited n y)))) e (until entered (omega arith) (reads_later ticks k))
 
 pub walking-ticked : (code : Code) (walk : Walk) (fresh_then : Bool) → IsOnCode code walk → walking_of code (record walk { ticks = walk.ticks + 1; fresh = fresh_then }) ≡ ticked (walking_of code walk)
 walking-ticked code walk fresh_then on =

@@ -2,6 +2,8 @@
 pub mod Goings
 pub mod Numbers
 pub mod Partings
+pub mod Places
 pub mod Reads
+pub mod Rests
 pub mod Sights
 pub mod Takings

@@ -1,6 +1,6 @@
 -- What is left of a term whose branches stand in a row.
 use Rattle.std.specs.Prelude.{ℕ, suc, ◌+◌, ◌-◌, ◌==◌, List, [], ◌∷◌, Option, Some, None, if◌then◌else◌}
-use Rattle.tb_algebra.specs.Processes.{Process, At, Seq, Alt, Star, Par, If, When, Let}
+use Rattle.tb_algebra.specs.Processes.{Process, At, Seq, Alt, Star, Par, Disrupt, If, When, Let}
 use Rattle.tb_algebra.specs.Helpers.Runnings.{waited}
 use Rattle.tb_code.specs.Positions.{size}
 use Rattle.tb_walk.specs.declared.branch.Branch.{Branch}
@@ -31,14 +31,21 @@ beside None y = y
 beside (Some x) None = Some x
 beside (Some x) (Some y) = Some (Par x y)
 
+-- the one until the other where both are left
+abbrev pub against : Option Process → Option Process → Option Process
+against None y = y
+against (Some x) None = Some x
+against (Some x) (Some y) = Some (Disrupt x y)
+
 -- What is left of the term whose positions begin here, after so many ticks. There is nothing where no branch stands
--- within it.
+-- within it. The right side of a disrupt stands where it waits, or within its own positions once it has begun.
 abbrev pub left : ℕ → List Branch → ℕ → Process → Option Process
 left ticks row at (At atom age) = or_within ticks (entered_at row at) (At atom age) None
 left ticks row at (Seq x y) = or_within ticks (entered_at row at) (Seq x y) (either (and_then (left ticks row (suc at) x) y) (left ticks row (suc at + size x) y))
 left ticks row at (Alt x y) = or_within ticks (entered_at row at) (Alt x y) (either (left ticks row (suc at) x) (left ticks row (suc at + size x) y))
 left ticks row at (Star x y) = or_within ticks (entered_at row at) (Star x y) (either (and_then (left ticks row (suc at) x) (Star x y)) (left ticks row (suc at + size x) y))
 left ticks row at (Par x y) = or_within ticks (entered_at row at) (Par x y) (beside (left ticks row (suc at) x) (left ticks row (suc at + size x) y))
+left ticks row at (Disrupt x y) = or_within ticks (entered_at row at) (Disrupt x y) (against (left ticks row (suc at) x) (or_within ticks (entered_at row (suc at + size x)) y (left ticks row (suc (suc at + size x)) y)))
 left ticks row at (If test x y) = or_within ticks (entered_at row at) (If test x y) (either (left ticks row (suc at) x) (left ticks row (suc at + size x) y))
 left ticks row at (When test x) = or_within ticks (entered_at row at) (When test x) (left ticks row (suc at) x)
 left ticks row at (Let settings x) = or_within ticks (entered_at row at) (Let settings x) (left ticks row (suc at) x)

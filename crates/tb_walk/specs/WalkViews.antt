@@ -6,6 +6,7 @@ use Rattle.tb_algebra.specs.Helpers.OfferViews.{or_own}
 use Rattle.tb_algebra.specs.WalkerViews.{View}
 use Rattle.tb_algebra.specs.Walks.{Walking, offers_of}
 use Rattle.tb_algebra.specs.declared.offer.Offer.{Offer}
+use Rattle.tb_code.specs.Positions.{Begins}
 use Rattle.tb_code.specs.declared.code.Code.{Code}
 use Rattle.tb_walk.specs.Lefts.{left}
 use Rattle.tb_walk.specs.Helpers.Partings.{branch_by}
@@ -37,10 +38,11 @@ pub record IsMade (code : Code) (walk : Walk) (outcome : Outcome) (offered : Off
   pub term : left walk.ticks (row_after walk.row outcome.step) 0 (fresh code.body.tree) ≡ offered.residual
   pub store : or_own outcome.own walk.store ≡ offered.store
 
--- What was found at this index still holds, is the offer, and leaves this row of its branch.
+-- What was found at this index still holds, is the offer, and leaves this row of its branch, which doesn't wait.
 pub record IsFound (code : Code) (walk : Walk) (k : ℕ) (inside : List Branch) (offered : Offered) : Type 0 where
   pub seen : walk.fresh ≡ true
   pub offer : slice_get (offers_of (walking_of code walk)) k ≡ Some offered
+  pub begins : (one : Sight) → (b : Branch) → slice_get walk.found k ≡ Some one → slice_get walk.row one.branch ≡ Some b → Begins (fresh code.body.tree) b.position
   pub leaves : (one : Sight) → (b : Branch) → slice_get walk.found k ≡ Some one → slice_get walk.row one.branch ≡ Some b → branch_by (fresh code.body.tree) walk.ticks b one.position ≡ inside
 
 -- what was taken is what the offer leaves

@@ -2,6 +2,7 @@
 #![tactic(auto)]
 
 mod branch;
+mod ending;
 mod laws;
 mod look;
 mod number;

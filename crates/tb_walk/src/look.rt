@@ -2,9 +2,9 @@ ghost use Rattle.std.specs.Prelude.{◌≡◌, ◌∷◌, [], ◌++◌, ◌-◌,
 ghost use Rattle.tb_algebra.specs.Atoms.{is_ready, times_of};
 ghost use Rattle.tb_algebra.specs.Processes.{fresh, If, When, Let};
 ghost use Rattle.tb_algebra.specs.Helpers.OfferViews.{or_own};
-ghost use Rattle.tb_code.specs.Positions.{size, part, IsTwo, IsOne};
+ghost use Rattle.tb_code.specs.Positions.{size, part, IsTwo, IsUntil, IsOne};
 ghost use Rattle.tb_code.specs.declared.behind.Behind.TheVariants.{Ended};
-ghost use Rattle.tb_walk.specs.Helpers.Sights.{Sighting, entry_sightings, ready_sighting, sighted, sighting_at, sightings, looking, row_sightings};
+ghost use Rattle.tb_walk.specs.Helpers.Sights.{Sighting, entry_sightings, ready_sighting, sighted, sighting_at, sightings, sightings_at, looking, row_sightings};
 ghost use Rattle.tb_walk.specs.Helpers.Takings.{AreThere};
 
 use crate::values::says;
@@ -64,8 +64,8 @@ fn look_branch(
 ) -> Result<(), NoMemory>
     requires { at < size (fresh code.now.body.tree) }
     ensures { OnOk result (map (sighted base.now) found.new
-        ≡ map (sighted base.now) found.old ++ sightings (looking code.now.body.atoms clock.now)
-        Ended at (part (fresh code.now.body.tree) at) base.now) }
+        ≡ map (sighted base.now) found.old ++ sightings_at (fresh code.now.body.tree)
+        (looking code.now.body.atoms clock.now) Ended at base.now) }
 {
     let list = code.list(at);
     if list.is_empty() {
@@ -203,8 +203,8 @@ fn look_gate(
 ) -> Result<(), NoMemory>
     requires { at < size (fresh code.now.body.tree) }
     ensures { OnOk result (map (sighted base.now) found.new
-        ≡ map (sighted base.now) found.old ++ sightings (looking code.now.body.atoms clock.now)
-        behind at (part (fresh code.now.body.tree) at) base.now) }
+        ≡ map (sighted base.now) found.old ++ sightings_at (fresh code.now.body.tree)
+        (looking code.now.body.atoms clock.now) behind at base.now) }
 {
     look_at(alloc, code, at, behind, clock, base, &None, found)
 }
@@ -224,9 +224,8 @@ fn look_at(
 ) -> Result<(), NoMemory>
     requires { at < size (fresh code.now.body.tree) }
     ensures { OnOk result (map (sighted base.now) found.new
-        ≡ map (sighted base.now) found.old
-        ++ sightings (looking code.now.body.atoms clock.now) so_far at
-        (part (fresh code.now.body.tree) at) (or_own own.now base.now)) }
+        ≡ map (sighted base.now) found.old ++ sightings_at (fresh code.now.body.tree)
+        (looking code.now.body.atoms clock.now) so_far at (or_own own.now base.now)) }
 {
     let first = code.first(at);
     match &code.node(at).op {
@@ -248,6 +247,10 @@ fn look_at(
             look_at(alloc, code, first, Behind::Parted, clock, base, own, found)?;
             look_at(alloc, code, *right, Behind::Parted, clock, base, own, found)
         }
+        Op::Disrupt(waits) => {
+            look_until(alloc, code, at, so_far, *waits, clock, base, own, found)
+        }
+        Op::Waits(_) => look_at(alloc, code, first, Behind::Parted, clock, base, own, found),
         Op::If(test, right) => {
             look_side(
                 alloc, code, at, so_far, test, *right, clock, base, own, found,
@@ -256,6 +259,32 @@ fn look_at(
         Op::When(test) => look_if_true(alloc, code, at, so_far, test, clock, base, own, found),
         Op::Let(settings) => look_with(alloc, code, at, so_far, settings, clock, base, own, found),
     }
+}
+
+/// What may be next is that of both parts. A step of the second drops the first.
+#[cycle(look_at)]
+#[inline(never)]
+fn look_until(
+    alloc: Global,
+    code: &Code,
+    at: usize,
+    so_far: Behind,
+    waits: usize,
+    clock: &Clock,
+    base: &Store,
+    own: &Option<Store>,
+    found: &mut Items<Sight>,
+) -> Result<(), NoMemory>
+    requires { IsUntil (fresh code.now.body.tree) at waits }
+    ensures { OnOk result (map (sighted base.now) found.new
+        ≡ map (sighted base.now) found.old
+        ++ sightings (looking code.now.body.atoms clock.now) so_far at
+        (part (fresh code.now.body.tree) at) (or_own own.now base.now)) }
+{
+    let first = code.first(at);
+    look_at(alloc, code, first, Behind::Parted, clock, base, own, found)?;
+    let second = code.first(waits);
+    look_at(alloc, code, second, so_far, clock, base, own, found)
 }
 
 /// What may be next is that of the side that the test chooses now.

@@ -1,13 +1,14 @@
-ghost use Rattle.std.specs.Prelude.{◌≡◌, ◌<◌, ◌++◌, ◌∷◌, [], ℕ, Some, IfOk, slice_get, take, drop, length, suc};
+ghost use Rattle.std.specs.Prelude.{◌≡◌, ◌<◌, ◌≤◌, ◌++◌, ◌+◌, ◌∷◌, [], Some, IfOk, IfSome, OnOk, slice_get, take, drop, length, suc};
 ghost use Rattle.std.specs.Option.{option_to_list};
 ghost use Rattle.tb_algebra.specs.Processes.{fresh};
-ghost use Rattle.tb_code.specs.Positions.{positions, size, part};
-ghost use Rattle.tb_walk.specs.Helpers.Reads.{any_inside, bound_of, entered_behind, is_inside, next_of};
-ghost use Rattle.tb_walk.specs.Helpers.Takings.{IsSettled, IsBehind, IsWithin, row_after};
+ghost use Rattle.tb_code.specs.Positions.{size};
+ghost use Rattle.tb_walk.specs.Helpers.Rests.{or_rest, rest_behind, without};
+ghost use Rattle.tb_walk.specs.Helpers.Takings.{EndsTo, IsWithin, row_after};
 
+use crate::ending::{any_there, first_part, left_of, what_ends};
 use crate::{Branch, Row};
 use std::alloc::Global;
-use tb_code::{Code, Op};
+use tb_code::Code;
 use tb_terms::{Items, NoMemory};
 
 /// What becomes of a row.
@@ -17,8 +18,10 @@ pub enum Step {
     Put(usize, Branch),
     /// The branch at this index leaves the row.
     Leave(usize),
-    /// A merge has been parted.
+    /// The row is made anew.
     Part(Row),
+    /// The branch at this index leaves the row with so many right sides behind it, and what follows is entered.
+    Fall(usize, usize, Option<Branch>),
 }
 
 /// What becomes of a row where the branch at the index has ended.
@@ -26,30 +29,57 @@ pub(crate) fn left_by(code: &Code, row: &[Branch], ticks: u64, at: usize) -> Ste
     requires within { at < length row.now }
     requires there { (branch : Branch) → slice_get row.now at ≡ Some branch
         → branch.position < size (fresh code.now.body.tree) }
-    ensures { IsSettled (fresh code.now.body.tree) ticks row.now at [] result }
+    ensures within { IsWithin row.now result }
+    ensures after { EndsTo (fresh code.now.body.tree) ticks row.now at (row_after row.now result) }
 {
-    match behind(code, row, ticks, at) {
-        Some(next) => Step::Put(at, next),
+    let branch = row[at];
+    match code.node(branch.position).frame {
+        Some(frame) => left_in(code, frame, row, ticks, at),
         None => Step::Leave(at),
     }
 }
 
-/// What is entered where the branch at the index has ended.
-fn behind(code: &Code, row: &[Branch], ticks: u64, at: usize) -> Option<Branch>
+/// The same where its position has this frame.
+fn left_in(code: &Code, frame: usize, row: &[Branch], ticks: u64, at: usize) -> Step
+    requires frame { frame < size (fresh code.now.body.tree) }
     requires within { at < length row.now }
-    requires there { (branch : Branch) → slice_get row.now at ≡ Some branch
-        → branch.position < size (fresh code.now.body.tree) }
-    ensures { IsBehind (fresh code.now.body.tree) ticks row.now at (option_to_list result) }
+    ensures within { IsWithin row.now result }
+    ensures after { row_after row.now result ≡ take at row.now
+        ++ rest_behind (fresh code.now.body.tree) ticks (Some frame) (take at row.now)
+        (drop (suc at) row.now) }
 {
-    let branch = row[at];
-    match code.node(branch.position).frame {
-        Some(frame) => entered(code, frame, before(row, at), after(row, at), ticks),
-        None => None,
+    let first = first_part(code, frame);
+    if any_there(before(row, at), after(row, at), frame, first.bound) {
+        return Step::Leave(at);
     }
+    if first.falls {
+        return fallen(code, frame, row, ticks, at);
+    }
+    Step::Put(
+        at,
+        Branch {
+            position: first.next,
+            entered: ticks,
+        },
+    )
+}
+
+/// The same where all of a disrupt's left side has ended.
+#[inline(never)]
+fn fallen(code: &Code, frame: usize, row: &[Branch], ticks: u64, at: usize) -> Step
+    requires frame { frame < size (fresh code.now.body.tree) }
+    requires within { at < length row.now }
+    ensures within { IsWithin row.now result }
+    ensures after { row_after row.now result ≡ take at row.now
+        ++ rest_behind (fresh code.now.body.tree) ticks (Some frame) (take at row.now)
+        (drop (suc at) row.now) }
+{
+    let ending = what_ends(code, Some(frame), ticks, before(row, at), after(row, at));
+    Step::Fall(at, ending.fallen, ending.next)
 }
 
 /// The branches before the one at the index.
-fn before(row: &[Branch], at: usize) -> &[Branch]
+pub(crate) fn before(row: &[Branch], at: usize) -> &[Branch]
     requires { at < length row.now }
     ensures { result.now ≡ take at row.now }
 {
@@ -57,87 +87,11 @@ fn before(row: &[Branch], at: usize) -> &[Branch]
 }
 
 /// The branches behind the one at the index.
-fn after(row: &[Branch], at: usize) -> &[Branch]
+pub(crate) fn after(row: &[Branch], at: usize) -> &[Branch]
     requires { at < length row.now }
     ensures { result.now ≡ drop (suc at) row.now }
 {
     &row[at + 1..]
-}
-
-/// What is entered behind the first part of a frame, between the other branches.
-fn entered(
-    code: &Code,
-    frame: usize,
-    before: &[Branch],
-    after: &[Branch],
-    ticks: u64,
-) -> Option<Branch>
-    requires { frame < size (fresh code.now.body.tree) }
-    ensures { option_to_list result
-        ≡ entered_behind (fresh code.now.body.tree) ticks (Some frame) before.now after.now }
-{
-    let first = first_part(code, frame);
-    if any_inside(before, frame, first.bound) || any_inside(after, frame, first.bound) {
-        None
-    } else {
-        Some(Branch {
-            position: first.next,
-            entered: ticks,
-        })
-    }
-}
-
-/// Where the first part of a frame ends, and what is entered then.
-#[derive(Clone, Copy)]
-struct FirstPart {
-    bound: usize,
-    next: usize,
-}
-
-fn first_part(code: &Code, frame: usize) -> FirstPart
-    requires { frame < size (fresh code.now.body.tree) }
-    ensures bound { result.bound ≡ bound_of frame (part (fresh code.now.body.tree) frame) }
-    ensures next { result.next ≡ next_of frame (part (fresh code.now.body.tree) frame) }
-{
-    match &code.node(frame).op {
-        Op::Seq(right) => FirstPart {
-            bound: *right,
-            next: *right,
-        },
-        Op::Star(right) => FirstPart {
-            bound: *right,
-            next: frame,
-        },
-        Op::At(_) => none_behind(frame),
-        Op::Alt(_) => none_behind(frame),
-        Op::Par(_) => none_behind(frame),
-        Op::If(_, _) => none_behind(frame),
-        Op::When(_) => none_behind(frame),
-        Op::Let(_) => none_behind(frame),
-    }
-}
-
-/// No part of this operator is one behind which something follows.
-fn none_behind(frame: usize) -> FirstPart
-    ensures bound { result.bound ≡ frame }
-    ensures next { result.next ≡ frame }
-{
-    FirstPart {
-        bound: frame,
-        next: frame,
-    }
-}
-
-/// Whether a branch stands between these positions.
-fn any_inside(row: &[Branch], at: usize, bound: usize) -> bool
-    ensures { result ≡ any_inside at bound row.now }
-{
-    for branch in row {
-        if at < branch.position && branch.position < bound {
-            return true;
-        }
-    }
-    false
 }
 
 /// The row with these branches in the place of one.
@@ -150,11 +104,80 @@ pub(crate) fn spliced(
     requires { at < length row.now }
     ensures { IfOk result (λ whole. whole ≡ take at row.now ++ (inside ++ drop (suc at) row.now)) }
 {
-    let mut whole = Items::from_slice(alloc, before(row, at))?;
+    let kept = Items::from_slice(alloc, before(row, at))?;
+    joined(alloc, kept, inside, after(row, at))
+}
+
+fn joined(alloc: Global, kept: Row, inside: Row, after: &[Branch]) -> Result<Row, NoMemory>
+    ensures { IfOk result (λ whole. whole ≡ kept ++ (inside ++ after.now)) }
+{
+    let mut whole = kept;
     whole.append(inside)?;
-    let rest = Items::from_slice(alloc, after(row, at))?;
+    let rest = Items::from_slice(alloc, after)?;
     whole.append(rest)?;
     Ok(whole)
+}
+
+/// The branches that are kept with what is left of a part of this frame and those behind, or with what stands behind where it has ended.
+pub(crate) fn settled(
+    alloc: Global,
+    code: &Code,
+    frame: Option<usize>,
+    ticks: u64,
+    kept: Row,
+    inside: Row,
+    after: &[Branch],
+) -> Result<Row, NoMemory>
+    requires { IfSome frame (λ at. at < size (fresh code.now.body.tree)) }
+    ensures { IfOk result (λ whole. whole ≡ kept ++ or_rest inside after.now
+        (rest_behind (fresh code.now.body.tree) ticks frame kept after.now)) }
+{
+    if !inside.is_empty() {
+        return joined(alloc, kept, inside, after);
+    }
+    let ending = what_ends(code, frame, ticks, kept.as_slice(), after);
+    let next = one_or_none(inside, ending.next)?;
+    joined(alloc, kept, next, left_of(after, ending.fallen))
+}
+
+fn one_or_none(none: Row, next: Option<Branch>) -> Result<Row, NoMemory>
+    requires { none ≡ [] }
+    ensures { IfOk result (λ row. row ≡ option_to_list next) }
+{
+    let mut row = none;
+    match next {
+        Some(next) => {
+            row.push(next)?;
+            Ok(row)
+        }
+        None => Ok(row),
+    }
+}
+
+/// The branches of a row that don't stand between these positions.
+pub(crate) fn outside(
+    alloc: Global,
+    row: &[Branch],
+    at: usize,
+    bound: usize,
+) -> Result<Row, NoMemory>
+    ensures { IfOk result (λ kept. kept ≡ without at bound row.now) }
+{
+    let mut kept = Items::new(alloc);
+    for branch in row {
+        add_outside(&mut kept, *branch, at, bound)?;
+    }
+    Ok(kept)
+}
+
+fn add_outside(kept: &mut Row, one: Branch, at: usize, bound: usize) -> Result<(), NoMemory>
+    ensures { OnOk result (kept.new ≡ kept.old ++ without at bound (one ∷ [])) }
+{
+    if at < one.position && one.position < bound {
+        return Ok(());
+    }
+    kept.push(one)?;
+    Ok(())
 }
 
 /// The row goes on by a step.
@@ -168,5 +191,32 @@ pub(crate) fn go_on(row: &mut Row, step: Step)
             row.remove(at);
         }
         Step::Part(parted) => *row = parted,
+        Step::Fall(at, gone, next) => fall(row, at, gone, next),
+    }
+}
+
+/// The branch at the index leaves the row with so many behind it, and what follows is entered.
+#[inline(never)]
+fn fall(row: &mut Row, at: usize, gone: usize, next: Option<Branch>)
+    requires { at + 1 + gone ≤ length row.old }
+    ensures { row.new ≡ take at row.old ++ (option_to_list next ++ drop (at + 1 + gone) row.old) }
+{
+    remove_behind(row, at, gone);
+    match next {
+        Some(next) => row.set(at, next),
+        None => {
+            row.remove(at);
+        }
+    }
+}
+
+fn remove_behind(row: &mut Row, at: usize, many: usize)
+    requires { at + 1 + many ≤ length row.old }
+    ensures { row.new ≡ take (at + 1) row.old ++ drop (at + 1 + many) row.old }
+{
+    let _count = row.len();
+    let behind = at + 1;
+    for _turn in 0..many {
+        row.remove(behind);
     }
 }

@@ -1,11 +1,13 @@
-ghost use Rattle.std.specs.Prelude.{◌≡◌, ◌<◌, ◌++◌, ◌∷◌, [], Some, IfOk, OnOk, length, nat_lt, slice_get, if◌then◌else◌};
+ghost use Rattle.std.specs.Prelude.{◌≡◌, ◌<◌, ◌++◌, ◌∷◌, [], None, Some, IfOk, IfSome, OnOk, false, length, nat_lt, slice_get, if◌then◌else◌};
 ghost use Rattle.tb_algebra.specs.Processes.{fresh, Par};
-ghost use Rattle.tb_code.specs.Positions.{size, part, IsTwo};
+ghost use Rattle.tb_code.specs.Positions.{size, op_at, part, is_wait, Begins, IsTwo, IsUntil};
+ghost use Rattle.tb_code.specs.declared.node.Op.TheVariants as op_of;
+ghost use Rattle.tb_walk.specs.Helpers.Places.{root_at};
 ghost use Rattle.tb_walk.specs.Helpers.Reads.{branch, or_entered};
-ghost use Rattle.tb_walk.specs.Helpers.Partings.{branch_by, row_by};
+ghost use Rattle.tb_walk.specs.Helpers.Partings.{and_waits, branch_by, row_by};
 ghost use Rattle.tb_walk.specs.Helpers.Takings.{IsInRow, IsSettled};
 
-use crate::settle::{Step, left_by, spliced};
+use crate::settle::{Step, after, before, left_by, outside, settled, spliced};
 use crate::{Branch, Row, Sight};
 use std::alloc::Global;
 use tb_code::{Behind, Code, Op};
@@ -44,7 +46,7 @@ fn side(first: usize, right: usize, atom: usize) -> usize
     if atom < right { first } else { right }
 }
 
-/// What becomes of the row where a merge is parted.
+/// What becomes of the row where a merge or a disrupt is parted.
 #[inline(never)]
 fn parted(
     alloc: Global,
@@ -65,11 +67,85 @@ fn parted(
     let since = Since { entered, ticks };
     let mut inside = Items::new(alloc);
     part_at(code, position, atom, since, &mut inside)?;
+    match waits_for(code, position) {
+        Some(disrupt) => begun(alloc, code, row, ticks, at, disrupt, inside),
+        None => stepped(alloc, code, row, ticks, at, inside),
+    }
+}
+
+/// The disrupt for which a right side waits at the position.
+fn waits_for(code: &Code, at: usize) -> Option<usize>
+    requires { at < size (fresh code.now.body.tree) }
+    ensures some { IfSome result
+        (λ disrupt. op_at (fresh code.now.body.tree) at ≡ op_of.Waits disrupt) }
+    ensures none { result ≡ None → Begins (fresh code.now.body.tree) at }
+{
+    waits_in(&code.node(at).op)
+}
+
+fn waits_in(op: &Op) -> Option<usize>
+    ensures some { IfSome result (λ disrupt. op.now ≡ op_of.Waits disrupt) }
+    ensures none { result ≡ None → is_wait op.now ≡ false }
+{
+    match op {
+        Op::Waits(disrupt) => Some(*disrupt),
+        Op::At(_)
+        | Op::Seq(_)
+        | Op::Alt(_)
+        | Op::Star(_)
+        | Op::Par(_)
+        | Op::Disrupt(_)
+        | Op::If(_, _)
+        | Op::When(_)
+        | Op::Let(_) => None,
+    }
+}
+
+/// The row with what is left of the part of the branch at the index, which doesn't wait.
+fn stepped(
+    alloc: Global,
+    code: &Code,
+    row: &[Branch],
+    ticks: u64,
+    at: usize,
+    inside: Row,
+) -> Result<Step, NoMemory>
+    requires within { at < length row.now }
+    requires there { (branch : Branch) → slice_get row.now at ≡ Some branch
+        → branch.position < size (fresh code.now.body.tree) }
+    requires begins { (branch : Branch) → slice_get row.now at ≡ Some branch
+        → Begins (fresh code.now.body.tree) branch.position }
+    ensures { IfOk result (IsSettled (fresh code.now.body.tree) ticks row.now at inside) }
+{
     if inside.is_empty() {
         Ok(left_by(code, row, ticks, at))
     } else {
         Ok(Step::Part(spliced(alloc, row, at, inside)?))
     }
+}
+
+/// The same where the branch is a right side that waited for this disrupt: the left side goes.
+fn begun(
+    alloc: Global,
+    code: &Code,
+    row: &[Branch],
+    ticks: u64,
+    at: usize,
+    disrupt: usize,
+    inside: Row,
+) -> Result<Step, NoMemory>
+    requires within { at < length row.now }
+    requires there { (branch : Branch) → slice_get row.now at ≡ Some branch
+        → branch.position < size (fresh code.now.body.tree) }
+    requires waits { (branch : Branch) → slice_get row.now at ≡ Some branch
+        → op_at (fresh code.now.body.tree) branch.position ≡ op_of.Waits disrupt }
+    ensures { IfOk result (IsSettled (fresh code.now.body.tree) ticks row.now at inside) }
+{
+    let position = row[at].position;
+    let kept = outside(alloc, before(row, at), disrupt, position)?;
+    let frame = code.node(position).frame;
+    let new = settled(alloc, code, frame, ticks, kept, inside, after(row, at))?;
+    Ok(Step::Part(new))
 }
 
 /// When a branch was entered, and how many ticks the process has seen.
@@ -83,8 +159,8 @@ struct Since {
 #[cycle(part_at)]
 fn part_at(code: &Code, at: usize, atom: usize, since: Since, row: &mut Row) -> Result<(), NoMemory>
     requires { at < size (fresh code.now.body.tree) }
-    ensures { OnOk result (row.new ≡ row.old
-        ++ row_by since.ticks since.entered at (part (fresh code.now.body.tree) at) atom) }
+    ensures { OnOk result (row.new ≡ row.old ++ row_by since.ticks since.entered
+        (root_at (fresh code.now.body.tree) at) (part (fresh code.now.body.tree) at) atom) }
 {
     let first = code.first(at);
     match &code.node(at).op {
@@ -99,6 +175,8 @@ fn part_at(code: &Code, at: usize, atom: usize, since: Since, row: &mut Row) -> 
             }
         }
         Op::Par(right) => part_merge(code, at, *right, atom, since, row),
+        Op::Disrupt(waits) => part_disrupt(code, at, *waits, atom, since, row),
+        Op::Waits(_) => part_at(code, first, atom, since, row),
         Op::If(_, right) => part_at(code, side(first, *right, atom), atom, since, row),
         Op::When(_) => part_at(code, first, atom, since, row),
         Op::Let(_) => part_at(code, first, atom, since, row),
@@ -116,8 +194,9 @@ fn part_first(
     row: &mut Row,
 ) -> Result<(), NoMemory>
     requires { first < size (fresh code.now.body.tree) }
-    ensures { OnOk result (row.new ≡ row.old ++ or_entered (row_by since.ticks since.entered first
-        (part (fresh code.now.body.tree) first) atom) (branch next since.ticks ∷ [])) }
+    ensures { OnOk result (row.new ≡ row.old ++ or_entered (row_by since.ticks since.entered
+        (root_at (fresh code.now.body.tree) first) (part (fresh code.now.body.tree) first) atom)
+        (branch next since.ticks ∷ [])) }
 {
     let before = row.len();
     part_at(code, first, atom, since, row)?;
@@ -152,6 +231,50 @@ fn part_merge(
         push_waiting(row, first, since)?;
         part_at(code, right, atom, since, row)
     }
+}
+
+/// The same of a disrupt.
+#[cycle(part_at)]
+fn part_disrupt(
+    code: &Code,
+    at: usize,
+    waits: usize,
+    atom: usize,
+    since: Since,
+    row: &mut Row,
+) -> Result<(), NoMemory>
+    requires { IsUntil (fresh code.now.body.tree) at waits }
+    ensures { OnOk result (row.new ≡ row.old
+        ++ row_by since.ticks since.entered at (part (fresh code.now.body.tree) at) atom) }
+{
+    if atom < waits {
+        part_until(code, code.first(at), waits, atom, since, row)
+    } else {
+        part_at(code, code.first(waits), atom, since, row)
+    }
+}
+
+/// The same of a left side, with its right side in wait where it goes on.
+#[cycle(part_at)]
+fn part_until(
+    code: &Code,
+    first: usize,
+    waits: usize,
+    atom: usize,
+    since: Since,
+    row: &mut Row,
+) -> Result<(), NoMemory>
+    requires { first < size (fresh code.now.body.tree) }
+    ensures { OnOk result (row.new ≡ row.old ++ and_waits (row_by since.ticks since.entered
+        (root_at (fresh code.now.body.tree) first) (part (fresh code.now.body.tree) first) atom)
+        (branch waits since.entered)) }
+{
+    let before = row.len();
+    part_at(code, first, atom, since, row)?;
+    if row.len() != before {
+        push_waiting(row, waits, since)?;
+    }
+    Ok(())
 }
 
 fn push_waiting(row: &mut Row, position: usize, since: Since) -> Result<(), NoMemory>

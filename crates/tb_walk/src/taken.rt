@@ -1,10 +1,10 @@
-ghost use Rattle.std.specs.Prelude.{◌≡◌, ◌<◌, [], Some, length, slice_get, slice_set};
+ghost use Rattle.std.specs.Prelude.{◌≡◌, ◌<◌, Some, length, slice_get, slice_set};
 ghost use Rattle.tb_algebra.specs.Helpers.OfferViews.{or_own};
 ghost use Rattle.tb_algebra.specs.Offers.{Offered};
 ghost use Rattle.tb_algebra.specs.Processes.{fresh};
 ghost use Rattle.tb_code.specs.Positions.{size};
 ghost use Rattle.tb_walk.specs.Helpers.Reads.{branch};
-ghost use Rattle.tb_walk.specs.Helpers.Takings.{SettlesTo};
+ghost use Rattle.tb_walk.specs.Helpers.Takings.{EndsTo};
 ghost use Rattle.tb_walk.specs.WalkViews.{IsGone, IsLeft, IsOnCode};
 
 use crate::settle::{Step, go_on, left_by};
@@ -61,7 +61,7 @@ fn end_at(code: &Code, row: &mut Row, ticks: u64, at: usize)
     requires within { at < length row.old }
     requires there { (branch : Branch) → slice_get row.old at ≡ Some branch
         → branch.position < size (fresh code.now.body.tree) }
-    ensures { SettlesTo (fresh code.now.body.tree) ticks row.old at [] row.new }
+    ensures { EndsTo (fresh code.now.body.tree) ticks row.old at row.new }
 {
     let step = left_by(code, row.as_slice(), ticks, at);
     go_on(row, step);

@@ -4,7 +4,7 @@ use Rattle.tb_body.specs.declared.tree.Tree.{Tree}
 use Rattle.tb_body.specs.declared.tree.Tree.TheVariants as tree
 use Rattle.tb_algebra.specs.Processes.{Process, fresh}
 use Rattle.tb_algebra.specs.declared.node.Node.{Node}
-use Rattle.tb_algebra.specs.declared.node.Node.TheVariants.{At, Seq, Alt, Star, Par, If, Let}
+use Rattle.tb_algebra.specs.declared.node.Node.TheVariants.{At, Seq, Alt, Star, Par, Disrupt, If, Let}
 
 -- the tree of an earlier node
 abbrev pub made_at : List Tree → ℕ → Tree
@@ -17,6 +17,7 @@ built made (Seq x y) = tree.Seq (made_at made x) (made_at made y)
 built made (Alt x y) = tree.Alt (made_at made x) (made_at made y)
 built made (Star x y) = tree.Star (made_at made x) (made_at made y)
 built made (Par x y) = tree.Par (made_at made x) (made_at made y)
+built made (Disrupt x y) = tree.Disrupt (made_at made x) (made_at made y)
 built made (If test x None) = tree.If test (made_at made x) None
 built made (If test x (Some y)) = tree.If test (made_at made x) (Some (made_at made y))
 built made (Let settings x) = tree.Let settings (made_at made x)
@@ -42,6 +43,7 @@ is_behind at (Seq x y) = nat_lt x at && nat_lt y at
 is_behind at (Alt x y) = nat_lt x at && nat_lt y at
 is_behind at (Star x y) = nat_lt x at && nat_lt y at
 is_behind at (Par x y) = nat_lt x at && nat_lt y at
+is_behind at (Disrupt x y) = nat_lt x at && nat_lt y at
 is_behind at (If test x None) = nat_lt x at
 is_behind at (If test x (Some y)) = nat_lt x at && nat_lt y at
 is_behind at (Let settings x) = nat_lt x at

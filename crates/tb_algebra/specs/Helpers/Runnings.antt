@@ -6,7 +6,7 @@ use Rattle.tb_algebra.specs.Helpers.Plans.{process_at}
 use Rattle.tb_algebra.specs.declared.node.Node.{Node}
 use Rattle.tb_algebra.specs.declared.running.Entry.{Entry}
 use Rattle.tb_algebra.specs.declared.running.Running.{Running}
-use Rattle.tb_algebra.specs.declared.running.Running.TheOpen.{Running-F, Whole, Seq, Par}
+use Rattle.tb_algebra.specs.declared.running.Running.TheOpen.{Running-F, Whole, Seq, Par, Disrupt}
 use Rattle.tb_algebra.specs.declared.running.Running.TheFolds.{fold-Running}
 
 -- a term after so many ticks
@@ -22,6 +22,7 @@ abbrev pub term_step : List Node → ℕ → Running-F Process → Process
 term_step nodes ticks (Whole entry) = entered_term nodes ticks entry
 term_step nodes ticks (Seq x y) = process.Seq x (process_at nodes y)
 term_step nodes ticks (Par x y) = process.Par x y
+term_step nodes ticks (Disrupt x entry) = process.Disrupt x (entered_term nodes ticks entry)
 
 abbrev pub term_of : List Node → ℕ → Running → Process
 term_of nodes ticks = fold-Running Process (term_step nodes ticks)
@@ -34,6 +35,7 @@ abbrev pub on_step : List Node → ℕ → Running-F Bool → Bool
 on_step nodes ticks (Whole entry) = is_entry nodes ticks entry
 on_step nodes ticks (Seq x y) = x && nat_lt y (length nodes)
 on_step nodes ticks (Par x y) = x && y
+on_step nodes ticks (Disrupt x entry) = x && is_entry nodes ticks entry
 
 -- each part is one of the plan, and was entered by now
 abbrev pub is_on : List Node → ℕ → Running → Bool

@@ -2,7 +2,7 @@
 use Rattle.std.specs.Prelude.{◌≡◌, ℕ, Bool, ◌||◌, nat_lt, List, map, length, min, slice_get, slice_set, Option, Some, None, option_and_then}
 use Rattle.tb_body.specs.InRange.{most_body_levels}
 use Rattle.tb_syntax.specs.declared.proc.Proc.{Proc}
-use Rattle.tb_syntax.specs.declared.proc.Proc.TheOpen.{Proc-F, Atom, Call as CallOf, Seq, Alt, Star, Par, If, Let}
+use Rattle.tb_syntax.specs.declared.proc.Proc.TheOpen.{Proc-F, Atom, Call as CallOf, Seq, Alt, Star, Par, Disrupt, If, Let}
 use Rattle.tb_syntax.specs.declared.proc.Proc.TheFolds.{fold-Proc}
 use Rattle.tb_syntax.specs.declared.script.ProcDef.{ProcDef}
 use Rattle.tb_syntax.specs.declared.script.Script.{Script}
@@ -34,6 +34,7 @@ measure_step script sizes (Seq x y) = capped (beside x y)
 measure_step script sizes (Alt x y) = capped (beside x y)
 measure_step script sizes (Star x y) = capped (beside x y)
 measure_step script sizes (Par x y) = capped (beside x y)
+measure_step script sizes (Disrupt x y) = capped (beside x y)
 measure_step script sizes (If test x y) = capped (tested_size x y)
 measure_step script sizes (Let vars x) = capped (above x)
 

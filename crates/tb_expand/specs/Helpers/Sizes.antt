@@ -1,7 +1,7 @@
 -- How many atoms and levels the expansion of a process has, by its calls, with nothing expanded.
 use Rattle.std.specs.Prelude.{ℕ, zero, suc, ◌+◌, max, Option, Some, None}
 use Rattle.tb_syntax.specs.declared.proc.Proc.{Proc}
-use Rattle.tb_syntax.specs.declared.proc.Proc.TheOpen.{Proc-F, Atom, Call as CallOf, Seq, Alt, Star, Par, If, Let}
+use Rattle.tb_syntax.specs.declared.proc.Proc.TheOpen.{Proc-F, Atom, Call as CallOf, Seq, Alt, Star, Par, Disrupt, If, Let}
 use Rattle.tb_syntax.specs.declared.proc.Proc.TheFolds.{fold-Proc}
 use Rattle.tb_syntax.specs.declared.script.ProcDef.{ProcDef}
 use Rattle.tb_syntax.specs.declared.script.Script.{Script}
@@ -39,6 +39,7 @@ size_step script body (Seq x y) = beside x y
 size_step script body (Alt x y) = beside x y
 size_step script body (Star x y) = beside x y
 size_step script body (Par x y) = beside x y
+size_step script body (Disrupt x y) = beside x y
 size_step script body (If test x y) = tested_size x y
 size_step script body (Let vars x) = above x
 

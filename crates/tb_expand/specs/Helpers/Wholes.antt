@@ -1,7 +1,7 @@
 -- Whether calls within calls end within a depth: each names a process, and none is deeper.
 use Rattle.std.specs.Prelude.{◌≡◌, ℕ, zero, suc, Bool, true, false, ◌&&◌, length, slice_get, Option, Some, None}
 use Rattle.tb_syntax.specs.declared.proc.Proc.{Proc}
-use Rattle.tb_syntax.specs.declared.proc.Proc.TheOpen.{Proc-F, Atom, Call as CallOf, Seq, Alt, Star, Par, If, Let}
+use Rattle.tb_syntax.specs.declared.proc.Proc.TheOpen.{Proc-F, Atom, Call as CallOf, Seq, Alt, Star, Par, Disrupt, If, Let}
 use Rattle.tb_syntax.specs.declared.proc.Proc.TheFolds.{fold-Proc}
 use Rattle.tb_syntax.specs.declared.script.ProcDef.{ProcDef}
 use Rattle.tb_syntax.specs.declared.script.Script.{Script}
@@ -24,6 +24,7 @@ whole_step script body (Seq x y) = x && y
 whole_step script body (Alt x y) = x && y
 whole_step script body (Star x y) = x && y
 whole_step script body (Par x y) = x && y
+whole_step script body (Disrupt x y) = x && y
 whole_step script body (If test x y) = x && or_whole y
 whole_step script body (Let vars x) = x
 

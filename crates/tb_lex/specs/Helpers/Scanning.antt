@@ -117,6 +117,9 @@ colon_of behind = if begins_with 61 behind then symbol.Assign else symbol.Colon
 abbrev pub bars_of : List ℕ → Option Symbol
 bars_of behind = if begins_with 124 behind then Some symbol.Bars else None
 
+abbrev pub greater_of : List ℕ → Symbol
+greater_of behind = if begins_with 62 behind then symbol.Angles else symbol.Greater
+
 -- the longest symbol of this first byte and those behind it
 abbrev pub symbol_of : ℕ → List ℕ → Option Symbol
 symbol_of byte behind =
@@ -135,7 +138,7 @@ symbol_of byte behind =
     else (if byte == 42 then Some symbol.Star
     else (if byte == 124 then bars_of behind
     else (if byte == 60 then Some symbol.Less
-    else (if byte == 62 then Some symbol.Greater else None)))))))))))))))
+    else (if byte == 62 then Some (greater_of behind) else None)))))))))))))))
 
 abbrev pub symbol_found : ℕ → List ℕ → Option Symbol → Read
 symbol_found from bytes None = Err (fault.BadByte from)

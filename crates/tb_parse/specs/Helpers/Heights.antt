@@ -10,7 +10,7 @@ use Rattle.tb_parse.specs.declared.built.Built.TheVariants.{Tree, TooHigh}
 use Rattle.tb_parse.specs.declared.built.Sides.{Sides}
 use Rattle.tb_parse.specs.declared.built.Chain.{Chain}
 use Rattle.tb_parse.specs.declared.built.Chain.TheVariants as chain
-use Rattle.tb_parse.specs.Helpers.Parsing.{Parser, after, mapped, create, timed, prim, merge, choice, sequence, turns}
+use Rattle.tb_parse.specs.Helpers.Parsing.{Parser, after, mapped, create, timed, prim, transfer, merge, choice, sequence, turns}
 
 -- what is built of a process
 unfoldable pub built : Proc → Built
@@ -53,6 +53,7 @@ abbrev pub one : (Proc → Proc) → Built → Built
 one make x = one_side make (side_of x)
 
 abbrev pub join_of : Chain → Proc → Proc → Proc
+join_of chain.Disrupt = tree.Disrupt
 join_of chain.Par = tree.Par
 join_of chain.Alt = tree.Alt
 join_of chain.Seq = tree.Seq
@@ -63,17 +64,20 @@ joined join [] last = last
 joined join (x ∷ prefix) last = both join x (joined join prefix last)
 
 abbrev pub sign_of : Chain → Symbol
+sign_of chain.Disrupt = sign.Angles
 sign_of chain.Par = sign.Bars
 sign_of chain.Alt = sign.Plus
 sign_of chain.Seq = sign.Point
 
 -- what a chain is, and what its members are
 abbrev pub chained : Chain → ℕ → Parser Proc
+chained chain.Disrupt room = transfer (prim room) room
 chained chain.Par room = merge (prim room) room
 chained chain.Alt room = choice (prim room) room
 chained chain.Seq room = sequence (prim room) room
 
 abbrev pub member : Chain → ℕ → Parser Proc
+member chain.Disrupt room = merge (prim room) room
 member chain.Par room = choice (prim room) room
 member chain.Alt room = sequence (prim room) room
 member chain.Seq room = turns (prim room) room
@@ -83,3 +87,4 @@ abbrev pub rank : Chain → ℕ
 rank chain.Seq = 0
 rank chain.Alt = 1
 rank chain.Par = 2
+rank chain.Disrupt = 3

@@ -6,7 +6,7 @@ use Rattle.tb_terms.specs.declared.sort.Sort.TheVariants as sorts
 use Rattle.tb_lex.specs.declared.kind.TokenKind.{TokenKind}
 use Rattle.tb_lex.specs.declared.kind.TokenKind.TheVariants.{Int, Str, Lower, Upper, Symbol as Sign}
 use Rattle.tb_lex.specs.declared.symbol.Symbol.{Symbol}
-use Rattle.tb_lex.specs.declared.symbol.Symbol.TheVariants.{LeftParen, RightParen, LeftBracket, RightBracket, LeftBrace, RightBrace, Comma, Point, Colon, Assign, Equals, Question, Plus, Star, Bars, Less, Greater}
+use Rattle.tb_lex.specs.declared.symbol.Symbol.TheVariants.{LeftParen, RightParen, LeftBracket, RightBracket, LeftBrace, RightBrace, Comma, Point, Colon, Assign, Equals, Question, Plus, Star, Bars, Angles, Less, Greater}
 use Rattle.tb_syntax.specs.declared.ast.Ast.{Ast}
 use Rattle.tb_syntax.specs.declared.ast.AstKind.{AstKind}
 use Rattle.tb_syntax.specs.declared.ast.AstKind.TheVariants as ast
@@ -56,8 +56,9 @@ sign_code Question = 11
 sign_code Plus = 12
 sign_code Star = 13
 sign_code Bars = 14
-sign_code Less = 15
-sign_code Greater = 16
+sign_code Angles = 15
+sign_code Less = 16
+sign_code Greater = 17
 
 abbrev pub is_sign : Symbol → TokenKind → Bool
 is_sign sign (Int n) = false
@@ -281,12 +282,15 @@ choice item room = rightward Plus tree.Alt (sequence item room) room
 unfoldable pub merge : Parser Proc → ℕ → Parser Proc
 merge item room = rightward Bars tree.Par (choice item room) room
 
+unfoldable pub transfer : Parser Proc → ℕ → Parser Proc
+transfer item room = rightward Angles tree.Disrupt (merge item room) room
+
 unfoldable pub prim : ℕ → Parser Proc
 prim zero at ks = Stops at
-prim (suc room) at ks = prim_of (merge (prim room) room) room at ks
+prim (suc room) at ks = prim_of (transfer (prim room) room) room at ks
 
 unfoldable pub proc : ℕ → Parser Proc
-proc room = merge (prim room) room
+proc room = transfer (prim room) room
 
 unfoldable pub formal : ℕ → Parser Formal
 formal room at ks = after (var room at ks) (λ found behind rest.

@@ -45,6 +45,7 @@ kinds_in pieces = map (λ (piece : Piece). piece.kind) pieces
 -- a symbol doesn't go on with what follows it
 abbrev pub is_symbol_apart : Symbol → List ℕ → Bool
 is_symbol_apart sign.Colon rest = not (begins_with 61 rest)
+is_symbol_apart sign.Greater rest = not (begins_with 62 rest)
 is_symbol_apart _ rest = true
 
 -- this is the text of a token, and what follows doesn't go on with it

@@ -6,7 +6,7 @@ use Rattle.tb_terms.specs.declared.sort.Sort.TheFolds.{para-Sort}
 use Rattle.tb_lex.specs.declared.kind.TokenKind.{TokenKind}
 use Rattle.tb_lex.specs.declared.kind.TokenKind.TheVariants as kind
 use Rattle.tb_lex.specs.declared.kind.TokenKind.TheVariants.{Lower, Upper, Symbol as Sign}
-use Rattle.tb_lex.specs.declared.symbol.Symbol.TheVariants.{LeftParen, RightParen, LeftBracket, RightBracket, LeftBrace, RightBrace, Comma, Point, Colon, Assign, Question, Plus, Star, Bars, Less, Greater}
+use Rattle.tb_lex.specs.declared.symbol.Symbol.TheVariants.{LeftParen, RightParen, LeftBracket, RightBracket, LeftBrace, RightBrace, Comma, Point, Colon, Assign, Question, Plus, Star, Bars, Angles, Less, Greater}
 use Rattle.tb_syntax.specs.declared.ast.Ast.{Ast}
 use Rattle.tb_syntax.specs.declared.ast.AstKind.{AstKind}
 use Rattle.tb_syntax.specs.declared.ast.AstKind.TheOpen as ast
@@ -147,7 +147,8 @@ proc_step (tree.Call call) at = call_tokens call
 proc_step (tree.Seq x y) at = placed level.Seq at (x level.Star ++ Sign Point ∷ y level.Seq)
 proc_step (tree.Alt x y) at = placed level.Alt at (x level.Seq ++ Sign Plus ∷ y level.Alt)
 proc_step (tree.Star x y) at = placed level.Star at (x level.Star ++ Sign Star ∷ y level.Prim)
-proc_step (tree.Par x y) at = placed level.Proc at (x level.Alt ++ Sign Bars ∷ y level.Proc)
+proc_step (tree.Par x y) at = placed level.Par at (x level.Alt ++ Sign Bars ∷ y level.Par)
+proc_step (tree.Disrupt x y) at = placed level.Proc at (x level.Par ++ Sign Angles ∷ y level.Proc)
 proc_step (tree.If test x y) at = then_tokens (expr_tokens test) (x level.Proc) ++ else_tokens y
 proc_step (tree.Let vars x) at = let_tokens (parted (map var_tokens vars)) (x level.Proc)
 

@@ -1,14 +1,20 @@
 -- The row that is left of a part where an atom of it happens, by the position of the atom.
 use Rattle.std.specs.Prelude.{◌≡◌, ℕ, suc, ◌+◌, nat_lt, List, [], ◌∷◌, ◌++◌, if◌then◌else◌, ⊤}
-use Rattle.tb_algebra.specs.Processes.{Process, At, Seq, Alt, Star, Par, If, When, Let}
+use Rattle.tb_algebra.specs.Processes.{Process, At, Seq, Alt, Star, Par, Disrupt, If, When, Let}
 use Rattle.tb_code.specs.Positions.{size, part}
 use Rattle.tb_code.specs.declared.behind.Behind.{Behind}
 use Rattle.tb_code.specs.declared.behind.Behind.TheVariants as behind
+use Rattle.tb_walk.specs.Helpers.Places.{root_at}
 use Rattle.tb_walk.specs.Helpers.Reads.{branch, or_entered}
 use Rattle.tb_walk.specs.declared.branch.Branch.{Branch}
 
+-- what is left of a left side, and then its right side in wait; nothing where it has ended
+abbrev pub and_waits : List Branch → Branch → List Branch
+and_waits [] next = []
+and_waits (b ∷ row) next = (b ∷ row) ++ next ∷ []
+
 -- The row that is left of a part that was entered as a whole, and whose positions begin here, where the atom at this position happens.
--- What follows is entered now, and the other side of a merge goes on waiting.
+-- What follows is entered now. The other side of a merge goes on waiting, and so does the right side of a disrupt.
 abbrev pub row_by : ℕ → ℕ → ℕ → Process → ℕ → List Branch
 row_by ticks entered at (At atom age) to = []
 row_by ticks entered at (Seq x y) to = or_entered (row_by ticks entered (suc at) x to) (branch (suc at + size x) ticks ∷ [])
@@ -17,13 +23,15 @@ row_by ticks entered at (Star x y) to =
     if nat_lt to (suc at + size x) then or_entered (row_by ticks entered (suc at) x to) (branch at ticks ∷ []) else row_by ticks entered (suc at + size x) y to
 row_by ticks entered at (Par x y) to =
     if nat_lt to (suc at + size x) then row_by ticks entered (suc at) x to ++ branch (suc at + size x) entered ∷ [] else branch (suc at) entered ∷ row_by ticks entered (suc at + size x) y to
+row_by ticks entered at (Disrupt x y) to =
+    if nat_lt to (suc at + size x) then and_waits (row_by ticks entered (suc at) x to) (branch (suc at + size x) entered) else row_by ticks entered (suc (suc at + size x)) y to
 row_by ticks entered at (If test x y) to = if nat_lt to (suc at + size x) then row_by ticks entered (suc at) x to else row_by ticks entered (suc at + size x) y to
 row_by ticks entered at (When test x) to = row_by ticks entered (suc at) x to
 row_by ticks entered at (Let settings x) to = row_by ticks entered (suc at) x to
 
 -- that of the part of a branch
 abbrev pub branch_by : Process → ℕ → Branch → ℕ → List Branch
-branch_by whole ticks branch to = row_by ticks branch.entered branch.position (part whole branch.position) to
+branch_by whole ticks branch to = row_by ticks branch.entered (root_at whole branch.position) (part whole branch.position) to
 
 -- The rows, by the ticks that were seen and those at which the part was entered, are what comes of it. A merge on the way may
 -- leave any row.

@@ -1,9 +1,9 @@
 -- What is seen of the atoms that may be next, each with its branch and its position.
-use Rattle.std.specs.Prelude.{ℕ, suc, ◌+◌, ◌-◌, Bool, true, false, List, [], ◌∷◌, ◌++◌, Option, Some, None, if◌then◌else◌}
+use Rattle.std.specs.Prelude.{ℕ, suc, ◌+◌, ◌-◌, Bool, true, false, List, [], ◌∷◌, ◌++◌, Option, Some, None}
 use Rattle.tb_func.specs.declared.slot.Slot.{Slot}
 use Rattle.tb_body.specs.declared.atom.Atom.{Atom}
 use Rattle.tb_algebra.specs.Atoms.{is_ready, times_of}
-use Rattle.tb_algebra.specs.Processes.{Process, At, Seq, Alt, Star, Par, If, When, Let}
+use Rattle.tb_algebra.specs.Processes.{Process, At, Seq, Alt, Star, Par, Disrupt, If, When, Let}
 use Rattle.tb_algebra.specs.Settings.{tested, with_settings}
 use Rattle.tb_algebra.specs.Helpers.OfferViews.{OfferView, or_own}
 use Rattle.tb_algebra.specs.declared.offer.Offer.{Offer}
@@ -14,6 +14,7 @@ use Rattle.tb_code.specs.declared.behind.Behind.TheVariants as behind
 use Rattle.tb_code.specs.declared.entry.Entry.{Entry}
 use Rattle.tb_code.specs.declared.entry.What.{What}
 use Rattle.tb_code.specs.declared.entry.What.TheVariants as what
+use Rattle.tb_walk.specs.Helpers.Places.{outset_at, root_at}
 use Rattle.tb_walk.specs.declared.branch.Branch.{Branch}
 use Rattle.tb_walk.specs.declared.look.Clock.{Clock}
 use Rattle.tb_walk.specs.declared.sight.Sight.{Sight}
@@ -80,22 +81,27 @@ sightings by so_far at (Seq x y) store = sightings by (followed (behind.Entered 
 sightings by so_far at (Alt x y) store = sightings by so_far (suc at) x store ++ sightings by so_far (suc at + size x) y store
 sightings by so_far at (Star x y) store = sightings by (followed (behind.Entered at) so_far) (suc at) x store ++ sightings by so_far (suc at + size x) y store
 sightings by so_far at (Par x y) store = sightings by behind.Parted (suc at) x store ++ sightings by behind.Parted (suc at + size x) y store
+sightings by so_far at (Disrupt x y) store = sightings by behind.Parted (suc at) x store ++ sightings by so_far (suc (suc at + size x)) y store
 sightings by so_far at (If test x y) store = sightings_if (tested store test) (sightings by so_far (suc at) x store) (sightings by so_far (suc at + size x) y store)
 sightings by so_far at (When test x) store = sightings_if (tested store test) (sightings by so_far (suc at) x store) []
 sightings by so_far at (Let settings x) store = sightings_after (with_settings store settings) (sightings by so_far (suc at) x)
+
+-- what is seen of the part for which a position stands
+abbrev pub sightings_at : Process → Looking → Behind → ℕ → List Slot → List Sighting
+sightings_at whole by so_far at store = sightings by (followed (outset_at whole at) so_far) (root_at whole at) (part whole at) store
 
 -- What is seen by an entry of a list: the atom, or what stands behind the gate.
 abbrev pub seen_by : Process → Looking → List Slot → ℕ → Behind → What → List Sighting
 seen_by whole by store at so_far (what.Atom atom) = ready_sighting by so_far at atom store ∷ []
 seen_by whole by store at so_far (what.Timed atom) = sighting_at by so_far at atom store ∷ []
-seen_by whole by store at so_far what.Gate = sightings by so_far at (part whole at) store
+seen_by whole by store at so_far what.Gate = sightings_at whole by so_far at store
 
 abbrev pub entry_sightings : Process → Looking → List Slot → Entry → List Sighting
 entry_sightings whole by store entry = seen_by whole by store entry.position entry.behind entry.what
 
 abbrev pub branch_sightings : Process → List Atom → ℕ → ℕ → List Slot → ℕ → Branch → List Sighting
 branch_sightings whole atoms now ticks store at branch =
-    sightings (record { atoms = atoms; branch = at; age = ticks - branch.entered; now = now }) behind.Ended branch.position (part whole branch.position) store
+    sightings_at whole (record { atoms = atoms; branch = at; age = ticks - branch.entered; now = now }) behind.Ended branch.position store
 
 -- what is seen of a row's branches, whose first has this index
 abbrev pub row_sightings : Process → List Atom → ℕ → ℕ → List Slot → ℕ → List Branch → List Sighting

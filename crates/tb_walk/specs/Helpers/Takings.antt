@@ -1,13 +1,15 @@
--- What comes of an offer of a branch that is taken: the row that is left of its part.
+-- What comes of an offer of a branch that is taken: the row that is left then.
 use Rattle.std.specs.Prelude.{◌≡◌, ℕ, ◌+◌, List, ◌++◌, Option, Some, suc, slice_get, slice_set, take, drop, remove, ◌≤◌, ◌<◌, length, ⊤}
+use Rattle.std.specs.Option.{option_to_list}
 use Rattle.tb_func.specs.declared.slot.Slot.{Slot}
 use Rattle.tb_algebra.specs.Helpers.Selections.{On, selected}
 use Rattle.tb_algebra.specs.Processes.{Process}
 use Rattle.tb_code.specs.Positions.{part, positions, size}
-use Rattle.tb_code.specs.declared.behind.Behind.TheVariants as behind
 use Rattle.tb_code.specs.declared.node.Node.{Node}
 use Rattle.tb_walk.specs.Helpers.Goings.{term_at, counted}
-use Rattle.tb_walk.specs.Helpers.Reads.{Reads, branch, entered_behind, or_entered}
+use Rattle.tb_walk.specs.Helpers.Places.{outset_at, root_at}
+use Rattle.tb_walk.specs.Helpers.Reads.{Reads, branch}
+use Rattle.tb_walk.specs.Helpers.Rests.{kept_by, or_rest, rest_behind}
 use Rattle.tb_walk.specs.Helpers.Partings.{GoesOn, branch_by}
 use Rattle.tb_walk.specs.declared.branch.Branch.{Branch}
 use Rattle.tb_walk.specs.declared.settle.Step.{Step}
@@ -21,7 +23,7 @@ use Rattle.tb_walk.specs.declared.taken.Outcome.{Outcome}
 pub record LeavesRow (whole : Process) (ticks at entered : ℕ) (store : List Slot) (k : ℕ) (row : List Branch) (own : List Slot) : Type 0 where
   pub left : Option Process
   pub selects : selected (term_at whole ticks (branch at entered)) store k ≡ On left own
-  pub reads : Reads ticks at (part whole at) row left
+  pub reads : Reads ticks (root_at whole at) (part whole at) row left
 
 -- the branches of a row stand at positions, and have been entered by now
 abbrev pub AreThere : Process → ℕ → List Branch → Type 0
@@ -39,20 +41,24 @@ pub record Picks (whole : Process) (ticks : ℕ) (row : List Branch) (store : Li
 abbrev pub row_after : List Branch → Step → List Branch
 row_after row (step.Put at branch) = slice_set row at branch
 row_after row (step.Leave at) = remove row at
+row_after row (step.Fall at gone next) = take at row ++ (option_to_list next ++ drop (at + 1 + gone) row)
 row_after row (step.Part new) = new
 
 abbrev pub IsWithin : List Branch → Step → Type 0
 IsWithin row (step.Put at branch) = at < length row
 IsWithin row (step.Leave at) = at < length row
+IsWithin row (step.Fall at gone next) = at + 1 + gone ≤ length row
 IsWithin row (step.Part new) = ⊤
 
--- These are entered where the branch at this index has ended, by the frame of its position.
-abbrev pub IsBehind : Process → ℕ → List Branch → ℕ → List Branch → Type 0
-IsBehind whole ticks row at next = (b : Branch) → (n : Node) → slice_get row at ≡ Some b → slice_get (positions whole) b.position ≡ Some n → next ≡ entered_behind whole ticks n.frame (take at row) (drop (suc at) row)
+-- the branch at this index has ended, and this is the row then, where all branches before it stay
+abbrev pub EndsTo : Process → ℕ → List Branch → ℕ → List Branch → Type 0
+EndsTo whole ticks row at new = (b : Branch) → (n : Node) → slice_get row at ≡ Some b → slice_get (positions whole) b.position ≡ Some n → new ≡ take at row ++ rest_behind whole ticks n.frame (take at row) (drop (suc at) row)
 
--- The new row has these branches, or where there are none what is entered then, in the place of the one at this index.
+-- The new row: the branches before this one that stay, then these and all behind it, or, where there are none, what follows the end.
 abbrev pub SettlesTo : Process → ℕ → List Branch → ℕ → List Branch → List Branch → Type 0
-SettlesTo whole ticks row at inside new = (b : Branch) → (n : Node) → slice_get row at ≡ Some b → slice_get (positions whole) b.position ≡ Some n → new ≡ take at row ++ (or_entered inside (entered_behind whole ticks n.frame (take at row) (drop (suc at) row)) ++ drop (suc at) row)
+SettlesTo whole ticks row at inside new =
+    (b : Branch) → (n : Node) → slice_get row at ≡ Some b → slice_get (positions whole) b.position ≡ Some n →
+    new ≡ kept_by n.op b.position (take at row) ++ or_rest inside (drop (suc at) row) (rest_behind whole ticks n.frame (kept_by n.op b.position (take at row)) (drop (suc at) row))
 
 -- the step does this
 pub record IsSettled (whole : Process) (ticks : ℕ) (row : List Branch) (at : ℕ) (inside : List Branch) (step : Step) : Type 0 where
@@ -63,7 +69,7 @@ pub record IsSettled (whole : Process) (ticks : ℕ) (row : List Branch) (at : �
 abbrev pub IsInRow : Process → List Branch → Sight → Type 0
 IsInRow whole row sight =
     (sight.branch < length row)
-    × ((b : Branch) → slice_get row sight.branch ≡ Some b → (b.position < size whole) × GoesOn b.position (part whole b.position) sight.position behind.Ended sight.behind)
+    × ((b : Branch) → slice_get row sight.branch ≡ Some b → (b.position < size whole) × GoesOn (root_at whole b.position) (part whole b.position) sight.position (outset_at whole b.position) sight.behind)
 
 -- It was made: the store is its own, and the row goes on by its branch and its position.
 abbrev pub IsMadeBy : Process → ℕ → List Branch → Sight → Outcome → Type 0

@@ -1,16 +1,18 @@
-use Rattle.std.proofs.Common.{◌≡◌, ℕ, ◌-◌, ◌<◌, Option, Some, None, List, length, slice_get, ap, sym, subst, ◌∙◌, IsTrue, IfSome, option_map, arith}
+use Rattle.std.proofs.Common.{◌≡◌, ℕ, ◌-◌, ◌<◌, true, nat_lt, nat_le, Option, Some, None, List, length, slice_get, ap, sym, subst, ◌∙◌, IsTrue, IfSome, option_map, arith}
 use Rattle.std.proofs.lemmas.Result.{IfOk-weaker}
+use Rattle.std.proofs.lemmas.Bool.{and_from, lt-ltb, le-leb}
+use Rattle.tb_algebra.specs.declared.running.Entry.{Entry}
 use Rattle.tb_func.specs.declared.slot.Slot.{Slot}
-use Rattle.tb_algebra.specs.declared.node.Node.TheVariants.{At, Seq, Alt, Star, Par, If, Let}
+use Rattle.tb_algebra.specs.declared.node.Node.TheVariants.{At, Seq, Alt, Star, Par, Disrupt, If, Let}
 use Rattle.tb_algebra.specs.declared.fired.Fired.{Fired}
 use Rattle.tb_algebra.specs.Settings.{tested, with_settings}
 use Rattle.tb_algebra.specs.Helpers.Selections.{Selected, Past, On, chosen, selected, selected_of, selected_with, or_past, is_fired_on}
 use Rattle.tb_algebra.specs.Helpers.Plans.{process_at}
 use Rattle.tb_algebra.specs.Processes.{Process}
 use Rattle.tb_algebra.specs.Helpers.OfferViews.{or_own}
-use Rattle.tb_algebra.specs.Helpers.Runnings.{entered_term, term_of}
+use Rattle.tb_algebra.specs.Helpers.Runnings.{entered_term, is_entry, term_of}
 use Rattle.tb_algebra.proofs.PlanLemmas.{both_before, one_before, chosen_before}
-use Rattle.tb_algebra.proofs.SelectedLemmas.{hit_atom, hit_seq, hit_alt, hit_star, hit_par, of_part, hit_chosen, hit_set, hit_unset, then, beside, along}
+use Rattle.tb_algebra.proofs.SelectedLemmas.{hit_atom, hit_seq, hit_alt, hit_star, hit_par, hit_disrupt, of_part, hit_chosen, hit_set, hit_unset, then, beside, along, held}
 use Rattle.tb_algebra.proofs.TermLemmas.{term-Whole, on_whole}
 use Rattle.tb_algebra.proofs.fire.+fire_node.Goals as goal
 
@@ -224,3 +226,48 @@ returns-in-None-2-clause-selected t c =
     let found : c.in_ok-store-in-Let.field-0 ≡ with_settings c.store_of-in-Let.result.now c.in-Let.settings = c.in_ok-store-in-Let.ensures in
     let after : ◌≡◌ {A = Option (List Slot)} (with_settings (or_own c.args.own.now c.args.base.now) c.in-Let.settings) (None) = ap (λ (s : List Slot). with_settings s c.in-Let.settings) (sym c.store_of-in-Let.ensures) ∙ sym found ∙ c.in-None-2.is in
     sym (hit_unset c.args.plan.now.nodes c.args.since.ticks (record { node = c.args.node; entered = c.args.since.entered }) c.node.ensures.behind c.in-Let.settings c.in-Let.x (or_own c.args.own.now c.args.base.now) c.args.k node after)
+
+pub fire_node-requires-in-Disrupt : goal.fire_node-requires-in-Disrupt
+fire_node-requires-in-Disrupt t c =
+    let node : slice_get c.args.plan.now.nodes c.args.node ≡ Some (Disrupt c.in-Disrupt.x c.in-Disrupt.y) = c.node.ensures.node ∙ ap Some c.in-Disrupt.is in
+    let before = both_before c.in-Disrupt.x c.in-Disrupt.y c.args.node (c.node.ensures.behind c.args.node (Disrupt c.in-Disrupt.x c.in-Disrupt.y) node) in
+    let there = c.requires.there in
+    let d = c.decreases in
+    (omega arith, (omega arith, c.requires.entered))
+
+pub fire_node-requires-in-Past-4 : goal.fire_node-requires-in-Past-4
+fire_node-requires-in-Past-4 t c =
+    let node : slice_get c.args.plan.now.nodes c.args.node ≡ Some (Disrupt c.in-Disrupt.x c.in-Disrupt.y) = c.node.ensures.node ∙ ap Some c.in-Disrupt.is in
+    let before = both_before c.in-Disrupt.x c.in-Disrupt.y c.args.node (c.node.ensures.behind c.args.node (Disrupt c.in-Disrupt.x c.in-Disrupt.y) node) in
+    let there = c.requires.there in
+    let d = c.decreases in
+    (omega arith, (omega arith, c.requires.entered))
+
+pub returns-in-Past-4-clause-selected : goal.returns-in-Past-4-clause-selected
+returns-in-Past-4-clause-selected t c =
+    let node : slice_get c.args.plan.now.nodes c.args.node ≡ Some (Disrupt c.in-Disrupt.x c.in-Disrupt.y) = c.node.ensures.node ∙ ap Some c.in-Disrupt.is in
+    let e = hit_disrupt c.args.plan.now.nodes c.args.since.ticks (record { node = c.args.node; entered = c.args.since.entered }) c.node.ensures.behind c.in-Disrupt.x c.in-Disrupt.y (or_own c.args.own.now c.args.base.now) c.args.k node in
+    let first : selected_of c.args.plan.now.nodes c.args.since.ticks c.args.base.now c.in_ok-rest-in-Disrupt.field-0 ≡ selected (entered_term c.args.plan.now.nodes c.args.since.ticks (record { node = c.in-Disrupt.x; entered = c.args.since.entered })) (or_own c.args.own.now c.args.base.now) c.args.k = c.in_ok-rest-in-Disrupt.ensures.selected in
+    let past : Past c.in-Past-4.rest ≡ selected (entered_term c.args.plan.now.nodes c.args.since.ticks (record { node = c.in-Disrupt.x; entered = c.args.since.entered })) (or_own c.args.own.now c.args.base.now) c.args.k = sym (ap (selected_of c.args.plan.now.nodes c.args.since.ticks c.args.base.now) c.in-Past-4.is) ∙ first in
+    let eq = ap (λ (h : Selected). or_past (selected_with (held (entered_term c.args.plan.now.nodes c.args.since.ticks (record { node = c.in-Disrupt.y; entered = c.args.since.entered }))) h) (λ (rest : ℕ). selected (entered_term c.args.plan.now.nodes c.args.since.ticks (record { node = c.in-Disrupt.y; entered = c.args.since.entered })) (or_own c.args.own.now c.args.base.now) rest)) past ∙ sym e in
+    IfOk-weaker c.fire_node-in-Past-4.result _ _ (λ fired p. p ∙ eq) c.fire_node-in-Past-4.ensures.selected
+
+pub returns-in-Taken-4-clause-selected : goal.returns-in-Taken-4-clause-selected
+returns-in-Taken-4-clause-selected t c =
+    let node : slice_get c.args.plan.now.nodes c.args.node ≡ Some (Disrupt c.in-Disrupt.x c.in-Disrupt.y) = c.node.ensures.node ∙ ap Some c.in-Disrupt.is in
+    let e = hit_disrupt c.args.plan.now.nodes c.args.since.ticks (record { node = c.args.node; entered = c.args.since.entered }) c.node.ensures.behind c.in-Disrupt.x c.in-Disrupt.y (or_own c.args.own.now c.args.base.now) c.args.k node in
+    let first : selected_of c.args.plan.now.nodes c.args.since.ticks c.args.base.now c.in_ok-rest-in-Disrupt.field-0 ≡ selected (entered_term c.args.plan.now.nodes c.args.since.ticks (record { node = c.in-Disrupt.x; entered = c.args.since.entered })) (or_own c.args.own.now c.args.base.now) c.args.k = c.in_ok-rest-in-Disrupt.ensures.selected in
+    let on : On (option_map (term_of c.args.plan.now.nodes c.args.since.ticks) c.in-Taken-4.left) (or_own c.in-Taken-4.own c.args.base.now) ≡ selected (entered_term c.args.plan.now.nodes c.args.since.ticks (record { node = c.in-Disrupt.x; entered = c.args.since.entered })) (or_own c.args.own.now c.args.base.now) c.args.k = sym (ap (selected_of c.args.plan.now.nodes c.args.since.ticks c.args.base.now) c.in-Taken-4.is) ∙ first in
+    let waits = ap (λ (entry : Entry). On (held (entered_term c.args.plan.now.nodes c.args.since.ticks entry) (option_map (term_of c.args.plan.now.nodes c.args.since.ticks) c.in-Taken-4.left)) (or_own c.in-Taken-4.own c.args.base.now)) c.entry.ensures in
+    let whole = waits ∙ ap (λ (h : Selected). or_past (selected_with (held (entered_term c.args.plan.now.nodes c.args.since.ticks (record { node = c.in-Disrupt.y; entered = c.args.since.entered }))) h) (λ (rest : ℕ). selected (entered_term c.args.plan.now.nodes c.args.since.ticks (record { node = c.in-Disrupt.y; entered = c.args.since.entered })) (or_own c.args.own.now c.args.base.now) rest)) on ∙ sym e in
+    IfOk-weaker c.taken_until.result _ _ (λ fired p. p c.args.plan.now.nodes c.args.since.ticks c.args.base.now ∙ whole) c.taken_until.ensures.selected
+
+pub returns-in-Taken-4-clause-on : goal.returns-in-Taken-4-clause-on
+returns-in-Taken-4-clause-on t c =
+    let node : slice_get c.args.plan.now.nodes c.args.node ≡ Some (Disrupt c.in-Disrupt.x c.in-Disrupt.y) = c.node.ensures.node ∙ ap Some c.in-Disrupt.is in
+    let before = both_before c.in-Disrupt.x c.in-Disrupt.y c.args.node (c.node.ensures.behind c.args.node (Disrupt c.in-Disrupt.x c.in-Disrupt.y) node) in
+    let there = c.requires.there in
+    let within : c.in-Disrupt.y < length c.args.plan.now.nodes = omega arith in
+    let waits : is_entry c.args.plan.now.nodes c.args.since.ticks c.entry.result ≡ true = ap (is_entry c.args.plan.now.nodes c.args.since.ticks) c.entry.ensures ∙ and_from (nat_lt c.in-Disrupt.y (length c.args.plan.now.nodes)) (nat_le c.args.since.entered c.args.since.ticks) (lt-ltb c.in-Disrupt.y (length c.args.plan.now.nodes) within) (le-leb c.args.since.entered c.args.since.ticks c.requires.entered) in
+    let left = subst (λ (f : Fired). IsTrue (is_fired_on c.args.plan.now.nodes c.args.since.ticks f)) c.in-Taken-4.is c.in_ok-rest-in-Disrupt.ensures.on in
+    IfOk-weaker c.taken_until.result _ _ (λ fired p. p c.args.plan.now.nodes c.args.since.ticks waits left) c.taken_until.ensures.on

@@ -2,12 +2,12 @@ use Rattle.std.proofs.Common.{◌≡◌, ℕ, ap, sym, ◌∙◌, option_map}
 use Rattle.std.proofs.lemmas.Result.{IfOk-weaker}
 use Rattle.tb_algebra.specs.Helpers.Selections.{Selected, Past, On, selected, selected_of, selected_with, or_past}
 use Rattle.tb_algebra.specs.Helpers.Plans.{process_at}
-use Rattle.tb_algebra.specs.Helpers.Runnings.{term_of}
+use Rattle.tb_algebra.specs.Helpers.Runnings.{term_of, entered_term}
 use Rattle.tb_algebra.specs.Helpers.OfferViews.{or_own}
 use Rattle.tb_algebra.specs.declared.running.Running.{Running}
-use Rattle.tb_algebra.specs.declared.running.Running.TheVariants.{Seq, Par}
-use Rattle.tb_algebra.proofs.SelectedLemmas.{then, beside, along}
-use Rattle.tb_algebra.proofs.TermLemmas.{hits_of_seq, hits_of_par}
+use Rattle.tb_algebra.specs.declared.running.Running.TheVariants.{Seq, Par, Disrupt}
+use Rattle.tb_algebra.proofs.SelectedLemmas.{then, beside, along, held}
+use Rattle.tb_algebra.proofs.TermLemmas.{hits_of_seq, hits_of_par, hits_of_disrupt}
 use Rattle.tb_algebra.proofs.fire.+fire_term.Goals as goal
 
 pub returns-in_ok-fired-in-Seq-clause-selected : goal.returns-in_ok-fired-in-Seq-clause-selected
@@ -38,3 +38,21 @@ returns-in-Taken-clause-selected t c =
     let whole = ap (λ (h : Selected). or_past (selected_with (beside (term_of c.args.plan.now.nodes c.args.ticks c.get-in-Taken.result.now)) h) (λ (rest : ℕ). selected_with (along (term_of c.args.plan.now.nodes c.args.ticks c.get-in-Par.result.now)) (selected (term_of c.args.plan.now.nodes c.args.ticks c.get-in-Taken.result.now) c.args.store.now rest))) on
     ∙ sym e in
     IfOk-weaker c.taken_beside.result _ _ (λ fired p. p c.args.plan.now.nodes c.args.ticks c.args.store.now ∙ whole) c.taken_beside.ensures.selected
+
+pub returns-in-Past-2-clause-selected : goal.returns-in-Past-2-clause-selected
+returns-in-Past-2-clause-selected t c =
+    let is : c.args.term.now ≡ Disrupt c.get-in-Disrupt.result.now c.in-Disrupt.entry = c.in-Disrupt.is ∙ ap (λ (r : Running). Disrupt r c.in-Disrupt.entry) (sym c.get-in-Disrupt.ensures) in
+    let e = hits_of_disrupt c.args.plan.now.nodes c.args.ticks c.args.term.now c.get-in-Disrupt.result.now c.in-Disrupt.entry c.args.store.now c.args.k is in
+    let first : selected_of c.args.plan.now.nodes c.args.ticks c.args.store.now c.in_ok-rest-in-Disrupt.field-0 ≡ selected (term_of c.args.plan.now.nodes c.args.ticks c.get-in-Disrupt.result.now) c.args.store.now c.args.k = c.in_ok-rest-in-Disrupt.ensures.selected in
+    let past : Past c.in-Past-2.rest ≡ selected (term_of c.args.plan.now.nodes c.args.ticks c.get-in-Disrupt.result.now) c.args.store.now c.args.k = sym (ap (selected_of c.args.plan.now.nodes c.args.ticks c.args.store.now) c.in-Past-2.is) ∙ first in
+    let eq = ap (λ (h : Selected). or_past (selected_with (held (entered_term c.args.plan.now.nodes c.args.ticks c.in-Disrupt.entry)) h) (λ (rest : ℕ). selected (entered_term c.args.plan.now.nodes c.args.ticks c.in-Disrupt.entry) c.args.store.now rest)) past ∙ sym e in
+    IfOk-weaker c.fire_node-in-Past-2.result _ _ (λ fired p. p ∙ eq) c.fire_node-in-Past-2.ensures.selected
+
+pub returns-in-Taken-2-clause-selected : goal.returns-in-Taken-2-clause-selected
+returns-in-Taken-2-clause-selected t c =
+    let is : c.args.term.now ≡ Disrupt c.get-in-Disrupt.result.now c.in-Disrupt.entry = c.in-Disrupt.is ∙ ap (λ (r : Running). Disrupt r c.in-Disrupt.entry) (sym c.get-in-Disrupt.ensures) in
+    let e = hits_of_disrupt c.args.plan.now.nodes c.args.ticks c.args.term.now c.get-in-Disrupt.result.now c.in-Disrupt.entry c.args.store.now c.args.k is in
+    let first : selected_of c.args.plan.now.nodes c.args.ticks c.args.store.now c.in_ok-rest-in-Disrupt.field-0 ≡ selected (term_of c.args.plan.now.nodes c.args.ticks c.get-in-Disrupt.result.now) c.args.store.now c.args.k = c.in_ok-rest-in-Disrupt.ensures.selected in
+    let on : On (option_map (term_of c.args.plan.now.nodes c.args.ticks) c.in-Taken-2.left) (or_own c.in-Taken-2.own c.args.store.now) ≡ selected (term_of c.args.plan.now.nodes c.args.ticks c.get-in-Disrupt.result.now) c.args.store.now c.args.k = sym (ap (selected_of c.args.plan.now.nodes c.args.ticks c.args.store.now) c.in-Taken-2.is) ∙ first in
+    let whole = ap (λ (h : Selected). or_past (selected_with (held (entered_term c.args.plan.now.nodes c.args.ticks c.in-Disrupt.entry)) h) (λ (rest : ℕ). selected (entered_term c.args.plan.now.nodes c.args.ticks c.in-Disrupt.entry) c.args.store.now rest)) on ∙ sym e in
+    IfOk-weaker c.taken_until.result _ _ (λ fired p. p c.args.plan.now.nodes c.args.ticks c.args.store.now ∙ whole) c.taken_until.ensures.selected

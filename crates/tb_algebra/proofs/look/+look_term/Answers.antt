@@ -1,9 +1,9 @@
 use Rattle.std.proofs.Common.{◌≡◌, List, ◌++◌, map, ap, sym, ◌∙◌, subst, OnOk}
-use Rattle.tb_algebra.specs.Helpers.Runnings.{term_of}
+use Rattle.tb_algebra.specs.Helpers.Runnings.{term_of, entered_term}
 use Rattle.tb_algebra.specs.Helpers.OfferViews.{OfferView, shown, offer_views}
 use Rattle.tb_algebra.specs.declared.running.Running.{Running}
 use Rattle.tb_algebra.proofs.OfferViewLemmas.{both_more}
-use Rattle.tb_algebra.proofs.TermLemmas.{offer_views_of_seq, offer_views_of_par}
+use Rattle.tb_algebra.proofs.TermLemmas.{offer_views_of_seq, offer_views_of_par, offer_views_of_disrupt}
 use Rattle.tb_algebra.proofs.look.+look_term.Goals as goal
 
 pub returns-in-Seq : goal.returns-in-Seq
@@ -26,3 +26,17 @@ returns-in_ok-look_term-in-Par t c =
     let one : middle ≡ old ++ of_term x = c.in_ok-look_term-in-Par.ensures in
     let both = both_more old middle (of_term x) (of_term c.args.term.now) (of_term y) one sides in
     subst (λ (l : List OfferView). OnOk c.look_term-in-Par-2.result (map (shown store) c.look_term-in-Par-2.new.found ≡ l)) both c.look_term-in-Par-2.ensures
+
+pub returns-in_ok-look_term-in-Disrupt : goal.returns-in_ok-look_term-in-Disrupt
+returns-in_ok-look_term-in-Disrupt t c =
+    let store = c.args.store.now in
+    let of_term = λ (r : Running). offer_views c.args.plan.now.body.atoms c.args.now (term_of c.args.plan.now.nodes c.args.ticks r) store in
+    let waits = offer_views c.args.plan.now.body.atoms c.args.now (entered_term c.args.plan.now.nodes c.args.ticks c.in-Disrupt.entry) store in
+    let x = c.get-in-Disrupt.result.now in
+    let whole = offer_views_of_disrupt c.args.plan.now.nodes c.args.ticks c.args.plan.now.body.atoms c.args.now store c.args.term.now c.in-Disrupt.x c.in-Disrupt.entry c.in-Disrupt.is in
+    let sides : of_term c.args.term.now ≡ of_term x ++ waits = whole ∙ ap (λ (r : Running). of_term r ++ waits) (sym c.get-in-Disrupt.ensures) in
+    let old = map (shown store) c.args.found.now in
+    let middle = map (shown store) c.look_term-in-Disrupt.new.found in
+    let one : middle ≡ old ++ of_term x = c.in_ok-look_term-in-Disrupt.ensures in
+    let both = both_more old middle (of_term x) (of_term c.args.term.now) waits one sides in
+    subst (λ (l : List OfferView). OnOk c.look_node-in-Disrupt.result (map (shown store) c.look_node-in-Disrupt.new.found ≡ l)) both c.look_node-in-Disrupt.ensures

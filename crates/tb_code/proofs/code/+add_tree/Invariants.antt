@@ -7,3 +7,6 @@ decreases-add_tree l = 2 * size-Tree l.tree.now
 
 abbrev pub decreases-add_two : goal.decreases-add_two
 decreases-add_two l = 2 * max (size-Tree l.x.now) (size-Tree l.y.now) + 1
+
+abbrev pub decreases-add_until : goal.decreases-add_until
+decreases-add_until l = 2 * max (size-Tree l.x.now) (size-Tree l.y.now) + 1

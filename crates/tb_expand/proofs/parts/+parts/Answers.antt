@@ -1,7 +1,7 @@
 use Rattle.tb_body.specs.declared.tree.Tree.TheVariants as tree
 use Rattle.tb_syntax.specs.declared.proc.Proc.TheVariants as proc
 use Rattle.tb_expand.specs.Expansion.{expands, expands_with, both, tested}
-use Rattle.tb_expand.proofs.ProcParts.{part_of_seq, part_of_alt, part_of_star, part_of_par, sides_of, adds_as, adds_test}
+use Rattle.tb_expand.proofs.ProcParts.{part_of_seq, part_of_alt, part_of_star, part_of_par, part_of_disrupt, sides_of, adds_as, adds_test}
 use Rattle.tb_expand.proofs.parts.+parts.Goals as goal
 
 pub if_part-returns-in_ok-x-in-Some : goal.if_part-returns-in_ok-x-in-Some
@@ -41,3 +41,11 @@ part_of-returns-in_ok-x-in-Par t c =
     let is = sides_of script body proc.Par tree.Par (part_of_par script body) c.args.p.now c.in-Par.x c.in-Par.y c.get-in-Par.result.now c.get-in-Par-2.result.now c.in-Par.is c.get-in-Par.ensures c.get-in-Par-2.ensures in
     adds_as (expands_with script body c.args.p.now) (both tree.Par (expands_with script body c.get-in-Par.result.now) (expands_with script body c.get-in-Par-2.result.now))
     c.args.blocks.now c.args.built.now (tree.Par c.in_ok-x-in-Par.x c.in_ok-x-in-Par.y) _ _ is (c.in_ok-x-in-Par.ensures tree.Par)
+
+pub part_of-returns-in_ok-x-in-Disrupt : goal.part_of-returns-in_ok-x-in-Disrupt
+part_of-returns-in_ok-x-in-Disrupt t c =
+    let script = c.args.names.now.script.now in
+    let body = expands c.args.names.now.script.now c.args.depth in
+    let is = sides_of script body proc.Disrupt tree.Disrupt (part_of_disrupt script body) c.args.p.now c.in-Disrupt.x c.in-Disrupt.y c.get-in-Disrupt.result.now c.get-in-Disrupt-2.result.now c.in-Disrupt.is c.get-in-Disrupt.ensures c.get-in-Disrupt-2.ensures in
+    adds_as (expands_with script body c.args.p.now) (both tree.Disrupt (expands_with script body c.get-in-Disrupt.result.now) (expands_with script body c.get-in-Disrupt-2.result.now))
+    c.args.blocks.now c.args.built.now (tree.Disrupt c.in_ok-x-in-Disrupt.x c.in_ok-x-in-Disrupt.y) _ _ is (c.in_ok-x-in-Disrupt.ensures tree.Disrupt)

@@ -1,6 +1,6 @@
 use Rattle.std.proofs.Common.{◌<◌, sym, subst, arith}
 use Rattle.tb_parse.specs.declared.built.Built.{Built}
-use Rattle.tb_parse.specs.Helpers.Parsing.{Outcome, prim, merge}
+use Rattle.tb_parse.specs.Helpers.Parsing.{Outcome, prim, transfer}
 use Rattle.tb_parse.specs.Helpers.Heights.{as_built}
 use Rattle.tb_parse.specs.Helpers.Reading.{Meets, runs}
 use Rattle.tb_parse.proofs.Chains.{chain_begin, chain_stop, chain_last, chain_more, chain_end}
@@ -72,15 +72,15 @@ turns-returns t c =
 
 pub block-returns : goal.block-returns
 block-returns t c =
-    block_found (merge (prim c.args.room) c.args.room) c.args.room c.args.reader.now
+    block_found (transfer (prim c.args.room) c.args.room) c.args.room c.args.reader.now
     c.in_ok-vars.ensures c.in_ok-skip_word.ensures c.in_ok-x.ensures c.in_ok-skip_word-2.ensures c.in_ok-within.ensures
 
 pub sides-returns-then-not-eat_word : goal.sides-returns-then-not-eat_word
 sides-returns-then-not-eat_word t c p is_x =
-    side_found (merge (prim c.args.room) c.args.room) c.args.test p c.args.reader.now is_x
+    side_found (transfer (prim c.args.room) c.args.room) c.args.test p c.args.reader.now is_x
     c.eat_word.ensures.found c.eat_word.ensures.behind c.if-not-eat_word.true c.in_ok-skip_word.ensures c.in_ok-only.ensures
 
 pub sides-returns : goal.sides-returns
 sides-returns t c p is_x =
-    sides_found (merge (prim c.args.room) c.args.room) c.args.test p c.args.reader.now is_x
+    sides_found (transfer (prim c.args.room) c.args.room) c.args.test p c.args.reader.now is_x
     c.eat_word.ensures.found c.eat_word.ensures.behind c.if-not-eat_word.false c.in_ok-y.ensures c.in_ok-skip_word-2.ensures c.in_ok-either.ensures

@@ -17,19 +17,19 @@ abbrev pub decreases-chain : goal.decreases-chain
 decreases-chain l = 16 * l.room + 2 * rank l.link + 3
 
 abbrev pub decreases-sides : goal.decreases-sides
-decreases-sides l = 16 * l.room + 8
+decreases-sides l = 16 * l.room + 10
 
 abbrev pub decreases-test : goal.decreases-test
-decreases-test l = 16 * l.room + 9
+decreases-test l = 16 * l.room + 11
 
 abbrev pub decreases-block : goal.decreases-block
-decreases-block l = 16 * l.room + 9
+decreases-block l = 16 * l.room + 11
 
 abbrev pub decreases-lower_proc : goal.decreases-lower_proc
-decreases-lower_proc l = 16 * l.room + 10
+decreases-lower_proc l = 16 * l.room + 12
 
 abbrev pub decreases-prim_of : goal.decreases-prim_of
-decreases-prim_of l = 16 * l.room + 11
+decreases-prim_of l = 16 * l.room + 13
 
 abbrev pub invariant-chain-loop-turn : goal.invariant-chain-loop-turn
 invariant-chain-loop-turn l = ChainSoFar l.link l.room l.fn.reader l.prefix l._turn l.reader

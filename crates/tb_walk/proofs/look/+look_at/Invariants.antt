@@ -7,6 +7,9 @@ use Rattle.tb_walk.proofs.look.+look_at.Given as goal
 abbrev pub decreases-look_at : goal.decreases-look_at
 decreases-look_at l = 2 * (size (fresh l.code.now.body.tree) - l.at) + 1
 
+abbrev pub decreases-look_until : goal.decreases-look_until
+decreases-look_until l = 2 * (size (fresh l.code.now.body.tree) - l.at)
+
 abbrev pub decreases-look_side : goal.decreases-look_side
 decreases-look_side l = 2 * (size (fresh l.code.now.body.tree) - l.at)
 

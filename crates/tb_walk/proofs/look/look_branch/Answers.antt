@@ -1,4 +1,4 @@
-use Rattle.std.proofs.Common.{◌≡◌, ◌++◌, ◌<◌, List, map, sym, subst, ◌∙◌, OnOk}
+use Rattle.std.proofs.Common.{◌≡◌, ◌++◌, List, map, sym, subst, ◌∙◌, OnOk}
 use Rattle.tb_algebra.specs.Processes.{fresh}
 use Rattle.tb_walk.specs.Helpers.Sights.{Sighting, looking, sighted}
 use Rattle.tb_walk.proofs.LookLemmas.{all_listed, all_within, some_listed}

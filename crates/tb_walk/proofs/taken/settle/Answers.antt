@@ -1,11 +1,12 @@
-use Rattle.std.proofs.Common.{◌<◌, ℕ, [], ◌∷◌, length, slice_get, ap, sym, subst, ◌∙◌}
+use Rattle.std.proofs.Common.{◌<◌, ℕ, [], ◌∷◌, length, set, slice_get, ap, sym, subst, ◌∙◌}
 use Rattle.std.proofs.lemmas.Option.{slice_get_within}
 use Rattle.tb_algebra.specs.Processes.{fresh}
 use Rattle.tb_walk.specs.Helpers.Reads.{branch}
-use Rattle.tb_walk.specs.Helpers.Takings.{SettlesTo}
+use Rattle.tb_walk.specs.Helpers.Takings.{EndsTo}
 use Rattle.tb_walk.specs.WalkViews.{IsLeft}
 use Rattle.tb_walk.specs.declared.taken.Taken.{Taken}
-use Rattle.tb_walk.proofs.SettleLemmas.{here_found, put_settles}
+use Rattle.tb_walk.proofs.EndingLemmas.{end_settles, put_settles}
+use Rattle.tb_walk.proofs.SettleLemmas.{here_found}
 use Rattle.tb_walk.proofs.taken.settle.Goals as goal
 
 pub set_found-at-requires : goal.set_found-at-requires
@@ -50,7 +51,8 @@ returns-in-Ended-clause-gone c = λ offered is.
     let left = subst (λ (t : Taken). IsLeft c.args.code.now walk t offered) c.in-Ended.is is in
     let h = here_found c.args.code.now walk c.in-Ended.k [] offered c.requires.on left in
     let at = c.set_found-at.ensures.branch h.one h.found in
-    let goes = h.goes c.end_at.new.row (subst (λ (n : ℕ). SettlesTo whole walk.ticks walk.row n [] c.end_at.new.row) at c.end_at.ensures) in
+    let ends = subst (λ (n : ℕ). EndsTo whole walk.ticks walk.row n c.end_at.new.row) at c.end_at.ensures in
+    let goes = h.goes c.end_at.new.row (end_settles whole walk.ticks walk.row h.one.branch c.end_at.new.row h.begun ends) in
     record { reads = goes.reads; term = goes.term; store = c.set_found-at.ensures.store h.one h.found ∙ goes.store })
 
 pub returns-in-Entered-clause-gone : goal.returns-in-Entered-clause-gone
@@ -61,7 +63,6 @@ returns-in-Entered-clause-gone c = λ offered is.
     let left = subst (λ (t : Taken). IsLeft c.args.code.now walk t offered) c.in-Entered.is is in
     let h = here_found c.args.code.now walk c.in-Entered.k (next ∷ []) offered c.requires.on left in
     let at = c.set_found-at-in-Entered.ensures.branch h.one h.found in
-    let within = subst (λ (n : ℕ). n < length walk.row) (sym at) h.in_row.0 in
-    let settles = put_settles whole walk.ticks walk.row c.set_found-at-in-Entered.result next c.enter_at.new.row within c.enter_at.ensures in
-    let goes = h.goes c.enter_at.new.row (subst (λ (n : ℕ). SettlesTo whole walk.ticks walk.row n (next ∷ []) c.enter_at.new.row) at settles) in
+    let put = c.enter_at.ensures ∙ ap (λ (n : ℕ). set walk.row n next) at in
+    let goes = h.goes c.enter_at.new.row (put_settles whole walk.ticks walk.row h.one.branch next c.enter_at.new.row h.begun h.in_row.0 put) in
     record { reads = goes.reads; term = goes.term; store = c.set_found-at-in-Entered.ensures.store h.one h.found ∙ goes.store })

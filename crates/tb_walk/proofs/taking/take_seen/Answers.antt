@@ -6,7 +6,7 @@ use Rattle.tb_walk.specs.Helpers.Takings.{IsInRow, IsTakenBy}
 use Rattle.tb_walk.specs.declared.branch.Branch.{Branch}
 use Rattle.tb_walk.specs.declared.sight.Sight.{Sight}
 use Rattle.tb_walk.proofs.SettleLemmas.{found_at, found_within, in_row_at, taken_found}
-use Rattle.tb_walk.proofs.TakeLemmas.{left_ended, left_entered}
+use Rattle.tb_walk.proofs.TakeLemmas.{ended_begins, entered_begins, left_ended, left_entered}
 use Rattle.tb_walk.proofs.taking.take_seen.Goals as goal
 
 pub sight_at-sight-requires : goal.sight_at-sight-requires
@@ -26,6 +26,7 @@ returns-in-Ended c =
     let found : slice_get walk.found c.args.k ≡ Some one = subst (λ (l : List Sight). slice_get l c.args.k ≡ Some one) c.as_slice.ensures c.sight_at-sight.ensures in
     let in_row = in_row_at c.args.code.now walk c.requires.on c.requires.seen c.args.k one found in
     found_at c.args.code.now walk c.args.k [] one c.requires.seen found
+    (λ b h. ended_begins (fresh c.args.code.now.body.tree) walk.ticks b one.position one.behind (in_row.1 b h).1 c.in-Ended.is)
     (λ b h. left_ended (fresh c.args.code.now.body.tree) walk.ticks b one.position one.behind (in_row.1 b h).1 c.in-Ended.is)
 
 pub returns-in-Entered : goal.returns-in-Entered
@@ -35,7 +36,8 @@ returns-in-Entered c =
     let found : slice_get walk.found c.args.k ≡ Some one = subst (λ (l : List Sight). slice_get l c.args.k ≡ Some one) c.as_slice.ensures c.sight_at-sight.ensures in
     let in_row = in_row_at c.args.code.now walk c.requires.on c.requires.seen c.args.k one found in
     found_at c.args.code.now walk c.args.k (branch c.in-Entered.position walk.ticks ∷ []) one c.requires.seen found
-    (λ b h. left_entered (fresh c.args.code.now.body.tree) walk.ticks b one.position c.in-Entered.position one.behind (in_row.1 b h).1 c.in-Entered.is)
+    (λ b h. entered_begins (fresh c.args.code.now.body.tree) walk.ticks b one.position one.behind (in_row.1 b h).1 c.in-Entered.position c.in-Entered.is)
+    (λ b h. left_entered (fresh c.args.code.now.body.tree) walk.ticks b one.position one.behind (in_row.1 b h).1 c.in-Entered.position c.in-Entered.is)
 
 pub returns-in-Parted : goal.returns-in-Parted
 returns-in-Parted c =

@@ -1,7 +1,6 @@
 use Rattle.std.proofs.Common.{◌≡◌, ◌+◌, ◌<◌, ◌≤◌, List, Some, length, slice_get, ap, sym, subst, ◌∙◌, arith}
 use Rattle.tb_algebra.specs.Processes.{fresh}
-use Rattle.tb_code.specs.Entries.{HasList, entries_of, in_span}
-use Rattle.tb_code.specs.Positions.{part}
+use Rattle.tb_code.specs.Entries.{HasList, in_span, list_of}
 use Rattle.tb_code.specs.declared.entry.Entry.{Entry}
 use Rattle.tb_code.specs.declared.entry.Span.{Span}
 use Rattle.tb_code.proofs.EntryLemmas.{some_count}
@@ -23,7 +22,7 @@ returns c = λ some.
     (let code = c.args.self.now in
     let s = c.span_at-span.result in
     let here : slice_get code.spans c.args.at ≡ Some s = subst (λ (l : List Span). slice_get l c.args.at ≡ Some s) c.as_slice.ensures c.span_at-span.ensures in
-    let has : HasList code.entries s (entries_of code.body.atoms c.args.at (part (fresh code.body.tree) c.args.at)) = code.listed.1 c.args.at s here in
+    let has : HasList code.entries s (list_of code.body.atoms (fresh code.body.tree) c.args.at) = code.listed.1 c.args.at s here in
     let given : c.in_span.result.now ≡ in_span code.entries s = c.in_span.ensures ∙ ap (λ (l : List Entry). in_span l s) c.as_slice-2.ensures in
     let more : 0 < length (in_span code.entries s) = subst (λ (l : List Entry). 0 < length l) given some in
     has.1 (some_count code.entries s more) ∙ sym given)

@@ -1,6 +1,6 @@
 use Rattle.std.proofs.Common.{◌≡◌, drop}
 use Rattle.tb_walk.specs.Helpers.Reads.{any_inside}
-use Rattle.tb_walk.proofs.settle.any_inside.Given as goal
+use Rattle.tb_walk.proofs.ending.any_inside.Given as goal
 
 -- the branches that are left decide
 abbrev pub invariant-loop-branch : goal.invariant-loop-branch
