@@ -1,6 +1,6 @@
 # The commands for developers. hello, quick, build, and test need rt of the Rattle kit. The others need the built program. All but hello,
 # build, test, and install need Python 3. bench and faults also need a C compiler. quick, faults, hostile, and soak need Linux.
-.PHONY: hello quick build test install uninstall pages order examples kits installed bench faults hostile soak
+.PHONY: hello quick build test install uninstall pages order examples kits installed bench walkers faults hostile soak
 
 SCRIPT := $(CURDIR)/examples/hello.tb
 PROGRAM := $(CURDIR)/crates/toolbus/out/toolbus
@@ -70,6 +70,10 @@ kits:
 bench:
 	bench/run
 	bench/live
+
+# Simulates 200 random scripts, and compares their logs with those of a small model of the rules. It needs the built crates/scenarios.
+walkers:
+	bench/walkers
 
 # Rejects each memory request of the built program in turn, for the table of docs/FAULTS.md. Some minutes.
 faults:
