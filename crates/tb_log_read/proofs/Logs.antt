@@ -3,7 +3,7 @@ use Rattle.std.proofs.Common.{◌≡◌, ◌⊎◌, ◌≤◌, ◌<◌, ◌^◌,
 use Rattle.std.specs.Fmt.{decimal}
 use Rattle.std.specs.Prelude.{IfOk, IfErr}
 use Rattle.std.specs.List.{list_all, All}
-use Rattle.std.proofs.lemmas.Bool.{false≢true, and_parts, and_from}
+use Rattle.std.proofs.lemmas.Bool.{false≢true, and_parts, and_from, cases_order}
 use Rattle.std.proofs.lemmas.List.{append_cancel_left}
 use Rattle.std.proofs.lemmas.List.Elements.{All-head, All-tail, All-push}
 use Rattle.std.proofs.lemmas.List.Folds.{list_all-append}
@@ -73,66 +73,112 @@ readables n (e ∷ es) from few p s =
 log_readables : (log : List Entry) → IsLog log → Readables 1 log
 log_readables log l = let few : length log < 2 ^ 64 = l.few in readables 1 log (omega arith) (omega arith) l.proper l.shape
 
-same_from : (n : ℕ) (xs ys : List Entry) → Readables n xs → Readables n ys → log_text_from n xs ≡ log_text_from n ys → xs ≡ ys
-same_from n [] [] p q e = refl
-same_from n [] (b ∷ ys) p q e = absurd (no_text n b (log_text_from (n + 1) ys) e)
-same_from n (a ∷ xs) [] p q e = absurd (no_text n a (log_text_from (n + 1) xs) (sym e))
-same_from n (a ∷ xs) (b ∷ ys) p q e =
-    let s = same_first n a b (log_text_from (n + 1) xs) (log_text_from (n + 1) ys) p.0 q.0 e in
-    let rest : xs ≡ ys = same_from (n + 1) xs ys p.1 q.1 s.1 in
-    ap (λ (x : Entry). x ∷ xs) s.0 ∙ ap (λ (l : List Entry). b ∷ l) rest
+-- Two logs whose texts agree as far as both go.
+
+-- the second is the first and then more, and what is left behind the first begins with the line of the next entry
+pub record NextEntry (n : ℕ) (xs ys : List Entry) (x : List ℕ) : Type 0 where
+  pub entry : Entry
+  pub more : List Entry
+  pub is : ys ≡ xs ++ entry ∷ more
+  pub line : IsLine (n + length xs) entry (first_line x)
+
+abbrev Agree : ℕ → List Entry → List Entry → List ℕ → List ℕ → Type 0
+Agree n xs ys x y = log_text_from n xs ++ x ≡ log_text_from n ys ++ y
+
+agree_behind : (n : ℕ) (a b : Entry) (xs ys : List Entry) (x y : List ℕ) → Readable n a → Readable n b → Agree n (a ∷ xs) (b ∷ ys) x y → (a ≡ b) × Agree (n + 1) xs ys x y
+agree_behind n a b xs ys x y p q e =
+    same_first n a b (log_text_from (n + 1) xs ++ x) (log_text_from (n + 1) ys ++ y) p q
+    (sym (append_assoc (entry_text n a) (log_text_from (n + 1) xs) x) ∙ e ∙ append_assoc (entry_text n b) (log_text_from (n + 1) ys) y)
+
+none_below : (n : ℕ) → n < 0 → ⊥
+none_below n l = omega arith
+
+next_from : (n : ℕ) (xs ys : List Entry) (x y : List ℕ) → Readables n xs → Readables n ys → length xs < length ys → Agree n xs ys x y → NextEntry n xs ys x
+next_from n xs [] x y p q l e = absurd (none_below (length xs) l)
+next_from n [] (b ∷ ys) x y p q l e =
+    let same : n ≡ n + 0 = omega arith in
+    let line : IsLine n b (first_line x) = line_of n b (first_line x) q.0 (ap first_line (e ∙ append_assoc (entry_text n b) (log_text_from (n + 1) ys) y) ∙ first_entry n b (log_text_from (n + 1) ys ++ y) q.0) in
+    record { entry = b; more = ys; is = refl; line = subst (λ k. IsLine k b (first_line x)) same line }
+next_from n (a ∷ xs) (b ∷ ys) x y p q l e =
+    let f = agree_behind n a b xs ys x y p.0 q.0 e in
+    let next = next_from (n + 1) xs ys x y p.1 q.1 (omega arith) f.1 in
+    let same : n + 1 + length xs ≡ n + suc (length xs) = omega arith in
+    record {
+      entry = next.entry;
+      more = next.more;
+      is = ap (λ (l : List Entry). b ∷ l) next.is ∙ ap (λ (c : Entry). c ∷ (xs ++ next.entry ∷ next.more)) (sym f.0);
+      line = subst (λ k. IsLine k next.entry (first_line x)) same next.line;
+    }
+
+before_from : (n : ℕ) (xs ys : List Entry) (x y : List ℕ) → Readables n xs → Readables n ys → length xs ≡ length ys → Agree n xs ys x y → (xs ≡ ys) × (x ≡ y)
+before_from n [] [] x y p q l e = (refl, e)
+before_from n [] (b ∷ ys) x y p q l e = cc
+before_from n (a ∷ xs) [] x y p q l e = cc
+before_from n (a ∷ xs) (b ∷ ys) x y p q l e =
+    let f = agree_behind n a b xs ys x y p.0 q.0 e in
+    let rest = before_from (n + 1) xs ys x y p.1 q.1 (omega arith) f.1 in
+    (ap (λ (c : Entry). c ∷ xs) f.0 ∙ ap (λ (l : List Entry). b ∷ l) rest.0, rest.1)
+
+-- the longer one goes on with an entry
+pub next_entry : (xs ys : List Entry) (x y : List ℕ) → IsLog xs → IsLog ys → length xs < length ys → log_text xs ++ x ≡ log_text ys ++ y → NextEntry 1 xs ys x
+next_entry xs ys x y p q l e = next_from 1 xs ys x y (log_readables xs p) (log_readables ys q) l e
+
+-- logs of one length are the same
+pub same_before : (xs ys : List Entry) (x y : List ℕ) → IsLog xs → IsLog ys → length xs ≡ length ys → log_text xs ++ x ≡ log_text ys ++ y → (xs ≡ ys) × (x ≡ y)
+same_before xs ys x y p q l e = before_from 1 xs ys x y (log_readables xs p) (log_readables ys q) l e
+
+no_line : (n : ℕ) (e : Entry) → IsLine n e [] → ⊥
+no_line n e i = no_text n e [] (i.text ∙ sym (append-nil (entry_text n e)))
+
+none_next : (xs ys : List Entry) (y : List ℕ) → IsLog xs → IsLog ys → length xs < length ys → log_text xs ++ [] ≡ log_text ys ++ y → ⊥
+none_next xs ys y p q l e =
+    let next = next_entry xs ys [] y p q l e in
+    no_line (1 + length xs) next.entry next.line
+
+-- a log is longer than one behind which something of its text is left
+pub is_longer : (xs ys : List Entry) (x : List ℕ) → IsLog xs → IsLog ys → (x ≡ [] → ⊥) → log_text xs ++ x ≡ log_text ys → length xs < length ys
+is_longer xs ys x p q some e = by (cases_order (length xs) (length ys)) where
+  both : log_text xs ++ x ≡ log_text ys ++ []
+  both = e ∙ sym (append-nil (log_text ys))
+
+  by : (length xs ≡ length ys) ⊎ ((length xs < length ys) ⊎ (length ys < length xs)) → length xs < length ys
+  by (inl same) = absurd (some (same_before xs ys x [] p q same both).1)
+  by (inr (inl less)) = less
+  by (inr (inr more)) = absurd (none_next ys xs x q p more (sym both))
 
 -- logs with the same text are the same
 pub same_logs : (xs ys : List Entry) → IsLog xs → IsLog ys → log_text xs ≡ log_text ys → xs ≡ ys
-same_logs xs ys p q e = same_from 1 xs ys (log_readables xs p) (log_readables ys q) e
+same_logs xs ys p q e = by (cases_order (length xs) (length ys)) where
+  both : log_text xs ++ [] ≡ log_text ys ++ []
+  both = ap (λ (l : List ℕ). l ++ []) e
 
--- what is left is there, and begins with no line that has this number
-pub record Stops (n : ℕ) (rest : List ℕ) : Type 0 where
-  pub is_there : rest ≡ [] → ⊥
-  pub is_none : (e : Entry) → IsLine n e (first_line rest) → ⊥
-
-stops_along : (m n : ℕ) (rest : List ℕ) → m ≡ n → Stops m rest → Stops n rest
-stops_along m n rest e s = subst (λ k. Stops k rest) e s
-
-no_line : (n : ℕ) (e : Entry) (more rest : List ℕ) → Readable n e → Stops n rest → rest ≡ entry_text n e ++ more → ⊥
-no_line n e more rest r s same = s.is_none e (line_of n e (first_line rest) r (ap first_line same ∙ first_entry n e more r))
-
-no_stop : (n : ℕ) (xs ks : List Entry) (rest : List ℕ) → Readables n xs → Readables n ks → Stops (n + length ks) rest → log_text_from n xs ≡ log_text_from n ks ++ rest → ⊥
-no_stop n [] [] rest p q s e = s.is_there (sym e)
-no_stop n (a ∷ xs) [] rest p q s e = no_line n a (log_text_from (n + 1) xs) rest p.0 (stops_along (n + 0) n rest (omega arith) s) (sym e)
-no_stop n [] (k ∷ ks) rest p q s e = no_text n k (log_text_from (n + 1) ks ++ rest) (e ∙ append_assoc (entry_text n k) (log_text_from (n + 1) ks) rest)
-no_stop n (a ∷ xs) (k ∷ ks) rest p q s e =
-    let t = same_first n a k (log_text_from (n + 1) xs) (log_text_from (n + 1) ks ++ rest) p.0 q.0 (e ∙ append_assoc (entry_text n k) (log_text_from (n + 1) ks) rest) in
-    no_stop (n + 1) xs ks rest p.1 q.1 (stops_along (n + suc (length ks)) (n + 1 + length ks) rest (omega arith) s) t.1
-
-same_stop : (n : ℕ) (xs ks : List Entry) (x y : List ℕ) → Readables n xs → Readables n ks → Stops (n + length xs) x → Stops (n + length ks) y → log_text_from n xs ++ x ≡ log_text_from n ks ++ y → length xs ≡ length ks
-same_stop n [] [] x y p q s t e = refl
-same_stop n (a ∷ xs) [] x y p q s t e =
-    absurd (no_line n a (log_text_from (n + 1) xs ++ x) y p.0 (stops_along (n + 0) n y (omega arith) t) (sym e ∙ append_assoc (entry_text n a) (log_text_from (n + 1) xs) x))
-same_stop n [] (k ∷ ks) x y p q s t e =
-    absurd (no_line n k (log_text_from (n + 1) ks ++ y) x q.0 (stops_along (n + 0) n x (omega arith) s) (e ∙ append_assoc (entry_text n k) (log_text_from (n + 1) ks) y))
-same_stop n (a ∷ xs) (k ∷ ks) x y p q s t e =
-    let both = sym (append_assoc (entry_text n a) (log_text_from (n + 1) xs) x) ∙ e ∙ append_assoc (entry_text n k) (log_text_from (n + 1) ks) y in
-    let f = same_first n a k (log_text_from (n + 1) xs ++ x) (log_text_from (n + 1) ks ++ y) p.0 q.0 both in
-    let rest : length xs ≡ length ks = same_stop (n + 1) xs ks x y p.1 q.1 (stops_along (n + suc (length xs)) (n + 1 + length xs) x (omega arith) s) (stops_along (n + suc (length ks)) (n + 1 + length ks) y (omega arith) t) f.1 in
-    ap suc rest
-
-stops_of : (bytes : List ℕ) (n : ℕ) (s : StopsAt bytes n) → Stops (1 + length s.log) s.rest
-stops_of bytes n s =
-    let counted : n ≡ length s.log + 1 = s.counted in
-    stops_along n (1 + length s.log) s.rest (omega arith) (record { is_there = s.is_there; is_none = s.is_none })
+  by : (length xs ≡ length ys) ⊎ ((length xs < length ys) ⊎ (length ys < length xs)) → xs ≡ ys
+  by (inl same) = (same_before xs ys [] [] p q same both).0
+  by (inr (inl less)) = absurd (none_next xs ys [] p q less both)
+  by (inr (inr more)) = absurd (none_next ys xs [] q p more (sym both))
 
 -- What a reading answers.
 
+goes_past : (bytes : List ℕ) (n : ℕ) (s : StopsAt bytes n) (log : List Entry) (y : List ℕ) → IsLog log → length s.log < length log → bytes ≡ log_text log ++ y → ⊥
+goes_past bytes n s log y l less e =
+    let next = next_entry s.log log s.rest y s.is_log l less (sym s.before ∙ e) in
+    let counted : n ≡ length s.log + 1 = s.counted in
+    let same : 1 + length s.log ≡ n = omega arith in
+    s.is_none next.entry (subst (λ k. IsLine k next.entry (first_line s.rest)) same next.line)
+
 pub log_not_stopped : (bytes : List ℕ) (log : List Entry) (n : ℕ) → IsLog log → bytes ≡ log_text log → StopsAt bytes n → ⊥
-log_not_stopped bytes log n l e s = no_stop 1 log s.log s.rest (log_readables log l) (log_readables s.log s.is_log) (stops_of bytes n s) (sym e ∙ s.before)
+log_not_stopped bytes log n l e s =
+    goes_past bytes n s log [] l (is_longer s.log log s.rest s.is_log l s.is_there (sym s.before ∙ e)) (e ∙ sym (append-nil (log_text log)))
 
 pub stops_one : (bytes : List ℕ) (m n : ℕ) → StopsAt bytes m → StopsAt bytes n → m ≡ n
-stops_one bytes m n s t =
-    let a : m ≡ length s.log + 1 = s.counted in
-    let b : n ≡ length t.log + 1 = t.counted in
-    let same : length s.log ≡ length t.log = same_stop 1 s.log t.log s.rest t.rest (log_readables s.log s.is_log) (log_readables t.log t.is_log) (stops_of bytes m s) (stops_of bytes n t) (sym s.before ∙ t.before) in
-    omega arith
+stops_one bytes m n s t = by (cases_order (length s.log) (length t.log)) where
+  by : (length s.log ≡ length t.log) ⊎ ((length s.log < length t.log) ⊎ (length t.log < length s.log)) → m ≡ n
+  by (inl same) =
+      let a : m ≡ length s.log + 1 = s.counted in
+      let b : n ≡ length t.log + 1 = t.counted in
+      omega arith
+  by (inr (inl less)) = absurd (goes_past bytes m s t.log t.rest t.is_log less t.before)
+  by (inr (inr more)) = absurd (goes_past bytes n t s.log s.rest s.is_log more s.before)
 
 abbrev Answer : Type 0
 Answer = Result (List Entry) LogFault

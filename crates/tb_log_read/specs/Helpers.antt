@@ -1,5 +1,4 @@
 -- Definitions that proofs and private functions need, and that nobody has to believe.
-pub mod Answers
 pub mod Cutting
 pub mod Entries
 pub mod Numbers

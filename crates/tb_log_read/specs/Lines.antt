@@ -1,4 +1,4 @@
--- Which bytes are the line of an entry, and which are the text of a log; and the first line that is none.
+-- Which bytes are the line of an entry, and which are the text of a log; the first line that is none; and what is said of it.
 use Rattle.std.specs.Prelude.{◌≡◌, ◌≢◌, ℕ, ◌+◌, ◌^◌, ◌<◌, ◌≤◌, ◌==◌, List, [], ◌∷◌, ◌++◌, length, IsTrue, if◌then◌else◌}
 use Rattle.std.specs.List.{All, list_all}
 use Rattle.tb_log.specs.LogText.{entry_text, log_text}
@@ -42,3 +42,8 @@ pub record StopsAt (bytes : List ℕ) (number : ℕ) : Type 0 where
 abbrev pub HasFault : List ℕ → LogFault → Type 0
 HasFault bytes (fault.Line number) = StopsAt bytes number
 HasFault bytes fault.NoMemory = Unit {0}
+
+-- the line is no entry's with this number, and the fault has the number
+abbrev pub IsNoLine : ℕ → List ℕ → LogFault → Type 0
+IsNoLine number line (fault.Line named) = (named ≡ number) × ((entry : Entry) → IsLine number entry line → ⊥)
+IsNoLine number line fault.NoMemory = Unit {0}

@@ -1,6 +1,7 @@
 //! The reading of logs: each line that is the text of an entry gives its number and the entry.
 #![tactic(auto)]
 
+mod buffers;
 mod cut;
 mod fault;
 mod laws;
@@ -13,7 +14,8 @@ mod unescape;
 mod word;
 mod words;
 
+pub use buffers::LineBuffers;
 pub use fault::LogFault;
 pub use laws::{bytes_stop_once, log_text_is_one_to_one};
-pub use line::{Numbered, read_entry};
-pub use log::read_log;
+pub use line::{Numbered, read_entry, read_entry_in};
+pub use log::{read_line, read_log, split_line};

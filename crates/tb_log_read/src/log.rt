@@ -1,11 +1,11 @@
 ghost use Rattle.std.specs.Prelude.{◌≡◌, ◌<◌, ◌≤◌, ◌⊎◌, ◌++◌, ℕ, List, Ok, Err, length, take, IfOk, IfErr};
 ghost use Rattle.tb_log.specs.LogText.{log_text};
 ghost use Rattle.tb_log.specs.declared.entry.Entry.{Entry};
-ghost use Rattle.tb_log_read.specs.Lines.{IsLine, IsLog, StopsAt, HasFault, first_line};
-ghost use Rattle.tb_log_read.specs.Helpers.Answers.{IsNoLine};
+ghost use Rattle.tb_log_read.specs.Lines.{IsLine, IsLog, IsNoLine, StopsAt, HasFault, first_line};
 
+use crate::buffers::LineBuffers;
 use crate::fault::LogFault;
-use crate::line::read_entry;
+use crate::line::read_entry_in;
 use std::alloc::Global;
 use tb_log::{Entries, Entry};
 use tb_terms::Items;
@@ -31,29 +31,35 @@ fn read(alloc: Global, bytes: &[u8]) -> Result<Entries, LogFault>
     ensures fault { IfErr result (HasFault bytes.now) }
 {
     let mut entries = Items::new(alloc);
+    let mut buffers = LineBuffers::new(alloc);
     let mut rest = bytes;
     'lines: while !rest.is_empty() {
         let (line, later) = split_line(rest);
         let number = entries.len() as u64 + 1;
-        entries.push(read_line(alloc, number, line)?)?;
+        entries.push(read_line(alloc, number, line, &mut buffers)?)?;
         rest = later;
     }
     Ok(entries)
 }
 
-/// The entry of this line, where its number is this one.
-fn read_line(alloc: Global, number: u64, line: &[u8]) -> Result<Entry, LogFault>
+/// The entry of this line, newline and all, where its number is this one. Else the fault has this number.
+pub fn read_line(
+    alloc: Global,
+    number: u64,
+    line: &[u8],
+    buffers: &mut LineBuffers,
+) -> Result<Entry, LogFault>
     ensures found { IfOk result (λ entry. IsLine number entry line.now) }
     ensures fault { IfErr result (IsNoLine number line.now) }
 {
-    match read_entry(alloc, line)? {
+    match read_entry_in(alloc, line, buffers)? {
         Some(numbered) if numbered.number == number => Ok(numbered.entry),
         _ => Err(LogFault::Line(number)),
     }
 }
 
-/// The first line, with its newline, and what is behind it.
-fn split_line(bytes: &[u8]) -> (&[u8], &[u8])
+/// The first line, with its newline if it has one, and what is behind it.
+pub fn split_line(bytes: &[u8]) -> (&[u8], &[u8])
     requires { 0 < length bytes.now }
     ensures line { result.0.now ≡ first_line bytes.now }
     ensures parts { bytes.now ≡ result.0.now ++ result.1.now }

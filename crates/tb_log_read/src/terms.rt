@@ -1,27 +1,40 @@
-ghost use Rattle.std.specs.Prelude.{◌≡◌, ◌↔◌, IsTrue, IfOk};
+ghost use Rattle.std.specs.Prelude.{◌≡◌, ◌↔◌, [], IsTrue, IfOk};
 ghost use Rattle.tb_read.specs.declared.fault.TermFault.{TermFault};
 ghost use Rattle.tb_log_read.specs.Helpers.Terms.{term_of, terms_of, label_terms};
 
+use crate::buffers::LineBuffers;
 use crate::part::next_part;
 use std::alloc::Global;
 use tb_read::{TermFault, read_term};
 use tb_terms::{Items, NoMemory, Term, Terms};
 
 /// The terms of a step: none where nothing is written.
-pub(crate) fn read_label_terms(alloc: Global, bytes: &[u8]) -> Result<Option<Terms>, NoMemory>
+pub(crate) fn read_label_terms(
+    alloc: Global,
+    bytes: &[u8],
+    buffers: &mut LineBuffers,
+) -> Result<Option<Terms>, NoMemory>
     ensures { IfOk result (λ found. found ≡ label_terms bytes.now) }
 {
     if bytes.is_empty() {
         return Ok(Some(Items::new(alloc)));
     }
-    read_terms(alloc, bytes)
+    let terms = buffers.take_terms(alloc);
+    read_terms_into(alloc, bytes, terms)
 }
 
 /// The terms whose texts are parted by commas; none where one is no term within the limits.
 pub(crate) fn read_terms(alloc: Global, bytes: &[u8]) -> Result<Option<Terms>, NoMemory>
     ensures { IfOk result (λ found. found ≡ terms_of bytes.now) }
 {
-    let mut terms = Items::new(alloc);
+    read_terms_into(alloc, bytes, Items::new(alloc))
+}
+
+/// The same in an empty list.
+fn read_terms_into(alloc: Global, bytes: &[u8], mut terms: Terms) -> Result<Option<Terms>, NoMemory>
+    requires { terms ≡ [] }
+    ensures { IfOk result (λ found. found ≡ terms_of bytes.now) }
+{
     let mut rest = bytes;
     'parts: loop {
         let (part, more) = next_part(rest);

@@ -3,6 +3,7 @@ ghost use Rattle.tb_log_read.specs.Helpers.Cutting.{behind, without_last};
 ghost use Rattle.tb_log_read.specs.Helpers.Unescaping.{unescaped_from};
 ghost use Rattle.tb_log_read.specs.Helpers.Words.{words_of, other_of, step_of, labelled, drop_of, gave_of, input_of, tool_line_of, named_line, out_of, line_of, start_of};
 
+use crate::buffers::LineBuffers;
 use crate::cut::{cut, without_last};
 use crate::number::{number8, place_of};
 use crate::terms::{read_label_terms, read_one, read_terms};
@@ -16,12 +17,16 @@ use tb_terms::{Items, Name, NoMemory, Term, Terms, Text};
 const NOWHERE: Place = Place { proc: 0, atom: 0 };
 
 /// The entry whose line has these words. Words that are no entry's may give one too: its line is another.
-pub(crate) fn read_words(alloc: Global, bytes: &[u8]) -> Result<Option<Entry>, NoMemory>
+pub(crate) fn read_words(
+    alloc: Global,
+    bytes: &[u8],
+    buffers: &mut LineBuffers,
+) -> Result<Option<Entry>, NoMemory>
     ensures { IfOk result (λ found. found ≡ words_of bytes.now) }
 {
     let (word, rest) = cut(b' ', bytes);
     match kind_of(word) {
-        Some(kind) => read_step(alloc, kind, rest),
+        Some(kind) => read_step(alloc, kind, rest, buffers),
         None => read_other(alloc, word, rest),
     }
 }
@@ -44,14 +49,19 @@ fn read_other(alloc: Global, word: &[u8], rest: &[u8]) -> Result<Option<Entry>, 
     }
 }
 
-fn read_step(alloc: Global, kind: LabelKind, bytes: &[u8]) -> Result<Option<Entry>, NoMemory>
+fn read_step(
+    alloc: Global,
+    kind: LabelKind,
+    bytes: &[u8],
+    buffers: &mut LineBuffers,
+) -> Result<Option<Entry>, NoMemory>
     ensures { IfOk result (λ found. found ≡ step_of kind bytes.now) }
 {
     match kind {
         LabelKind::Msg => {
             let (from, rest) = cut(b' ', bytes);
             let (to, terms) = cut(b' ', rest);
-            let terms = read_label_terms(alloc, terms)?;
+            let terms = read_label_terms(alloc, terms, buffers)?;
             Ok(labelled(kind, place_of(from), place_of(to), terms))
         }
         LabelKind::Finish | LabelKind::Halt => {
@@ -59,7 +69,7 @@ fn read_step(alloc: Global, kind: LabelKind, bytes: &[u8]) -> Result<Option<Entr
         }
         _ => {
             let (from, terms) = cut(b' ', bytes);
-            let terms = read_label_terms(alloc, terms)?;
+            let terms = read_label_terms(alloc, terms, buffers)?;
             Ok(labelled(kind, place_of(from), NOWHERE, terms))
         }
     }

@@ -1,7 +1,7 @@
 use Rattle.std.proofs.Common.{sym, ◌∙◌}
 use Rattle.std.proofs.lemmas.Bool.{false≢true}
 use Rattle.tb_log_read.proofs.LineReadings.{line_says, says_line, says_other}
-use Rattle.tb_log_read.proofs.line.read_entry.Goals as goal
+use Rattle.tb_log_read.proofs.line.read_entry_in.Goals as goal
 
 pub returns-in_default-clause-only : goal.returns-in_default-clause-only
 returns-in_default-clause-only c = λ n e l. sym c.in_default.is ∙ c.in_ok-numbered.ensures ∙ line_says n e c.args.line.now l

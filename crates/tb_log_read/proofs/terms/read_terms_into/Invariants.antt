@@ -1,6 +1,6 @@
 use Rattle.std.proofs.Common.{◌≡◌, length}
 use Rattle.tb_log_read.specs.Helpers.Terms.{terms_of, with_prefix}
-use Rattle.tb_log_read.proofs.terms.read_terms.Given as goal
+use Rattle.tb_log_read.proofs.terms.read_terms_into.Given as goal
 
 -- the terms so far, and those that are left
 abbrev pub invariant-parts : goal.invariant-parts

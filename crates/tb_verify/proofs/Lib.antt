@@ -1,0 +1,2 @@
+mod FollowedLemmas
+pub mod VerdictLemmas

@@ -1,0 +1,15 @@
+//! What holds of the verdicts on a log. The call changes nothing: its contract is the law.
+
+ghost use Rattle.std.specs.Prelude.{◌≡◌, ◌<◌, ℕ, List};
+ghost use Rattle.tb_bus.specs.declared.origin.Origin.{Origin};
+ghost use Rattle.tb_verify.specs.Verdicts.{IsCrowdedAt, IsVerdict, LeavesAt};
+ghost use Rattle.tb_verify.specs.declared.verdict.Verdict.{Verdict};
+
+/// A log has one verdict at most. A line for whose entry there is no room stands before the line at which the log stops being
+/// a trace.
+pub fn a_log_has_one_verdict()
+    ensures one { (origin : Origin) (bytes : List ℕ) (one other : Verdict)
+        → IsVerdict origin bytes one → IsVerdict origin bytes other → one ≡ other }
+    ensures before { (origin : Origin) (bytes : List ℕ) (crowded leaves : ℕ)
+        → IsCrowdedAt origin bytes crowded → LeavesAt origin bytes leaves → crowded < leaves }
+{}

@@ -1,0 +1,107 @@
+//! The verdict on a log, line by line.
+
+ghost use Rattle.std.specs.Prelude.{◌≡◌, ◌≤◌, ◌⊎◌, ℕ, [], Ok, Err, length, IfOk, false};
+ghost use Rattle.tb_bus.specs.Buses.{origin_of};
+ghost use Rattle.tb_core.specs.Cores.{most_entries};
+ghost use Rattle.tb_log.specs.Shapes.{lane_count};
+ghost use Rattle.tb_verify.specs.Verdicts.{IsCrowdedAt, IsVerdict};
+ghost use Rattle.tb_verify.specs.Helpers.Followed.{FollowsLine, IsCrowdedLine, Settles};
+
+use crate::verdict::{Verdict, VerifyFault};
+use std::alloc::Global;
+use std::mem::forget;
+use tb_algebra::Walker;
+use tb_body::Program;
+use tb_core::{Core, CoreFault};
+use tb_log_read::{LineBuffers, LogFault, read_line, split_line};
+use tb_terms::Texts;
+
+/// How many entries a log has at most.
+const MOST_ENTRIES: u32 = 4_000_000;
+
+/// Returns whether the bytes are the text of a trace of the program, of which the first lanes are started with these commands, or
+/// else the first line at which they aren't. The call reads line by line, and keeps one core. A log has at most 4,000,000 entries
+/// and the sizes that a core allows; if a legal entry passes these limits, the call returns `Full`. The memory of the core stays
+/// taken until the program ends.
+pub fn verify<W: Walker>(
+    alloc: Global,
+    program: Program,
+    connects: &Texts,
+    log: &[u8],
+) -> Result<Verdict, VerifyFault>
+    requires { length connects.now ≤ lane_count }
+    ensures verdict { IfOk result
+        (IsVerdict (origin_of program connects.now most_entries) log.now) }
+
+    // Nothing else keeps the verdict from being told.
+    ensures only { (verdict : Verdict)
+        → IsVerdict (origin_of program connects.now most_entries) log.now verdict
+        → (result ≡ Ok verdict) ⊎ ((result ≡ Err VerifyFault.Full) ⊎ (result ≡ Err VerifyFault.NoMemory)) }
+    ensures full { result ≡ Err VerifyFault.Full → (number : ℕ)
+        × IsCrowdedAt (origin_of program connects.now most_entries) log.now number }
+
+    // A legal entry for which there is no room is told.
+    ensures crowded { (number : ℕ)
+        → IsCrowdedAt (origin_of program connects.now most_entries) log.now number
+        → (result ≡ Err VerifyFault.Full) ⊎ (result ≡ Err VerifyFault.NoMemory) }
+{
+    let mut core = Core::<W>::start(alloc, program, connects, MOST_ENTRIES)?;
+    let verdict = verify_lines(alloc, &mut core, log);
+
+    // Freeing a bus term by term takes long, and the program ends next.
+    forget(core);
+    verdict
+}
+
+/// Follows a log on a core that was just started.
+fn verify_lines<W: Walker>(
+    alloc: Global,
+    core: &mut Core<W>,
+    log: &[u8],
+) -> Result<Verdict, VerifyFault>
+    requires fresh { core.old.log ≡ [] }
+    requires running { core.old.stopped ≡ false }
+    requires limit { core.old.origin.limit ≤ most_entries }
+    ensures { Settles core.old.origin log.now result }
+{
+    let mut buffers = LineBuffers::new(alloc);
+    let mut rest = log;
+    'lines: while !rest.is_empty() {
+        let (line, later) = split_line(rest);
+        let number = core.log().len() as u64 + 1;
+        match follow_line(alloc, core, number, line, &mut buffers) {
+            Ok(true) => rest = later,
+            Ok(false) => return Ok(Verdict::Line(number)),
+            Err(fault) => return Err(fault),
+        }
+    }
+    Ok(Verdict::Trace)
+}
+
+/// Follows the entry whose line this is, with this number. Returns `false` where it is the line of none that may come next.
+fn follow_line<W: Walker>(
+    alloc: Global,
+    core: &mut Core<W>,
+    number: u64,
+    line: &[u8],
+    buffers: &mut LineBuffers,
+) -> Result<bool, VerifyFault>
+    requires { core.old.stopped ≡ false }
+    ensures follows { IfOk result
+        (λ legal. FollowsLine core.old number line.now legal core.new) }
+    ensures full { result ≡ Err VerifyFault.Full → IsCrowdedLine core.old number line.now }
+{
+    let entry = match read_line(alloc, number, line, buffers) {
+        Ok(entry) => entry,
+        Err(LogFault::Line(_)) => return Ok(false),
+        Err(LogFault::NoMemory) => return Err(VerifyFault::NoMemory),
+    };
+    match core.follow(&entry) {
+        Ok(legal) => {
+            buffers.give_back(entry);
+            Ok(legal)
+        }
+        Err(CoreFault::Full) => Err(VerifyFault::Full),
+        Err(CoreFault::NoMemory | CoreFault::Stopped) => Err(VerifyFault::NoMemory),
+    }
+}
