@@ -1,0 +1,15 @@
+pub mod MatchLemmas
+pub mod OutlineLemmas
+pub mod TextLemmas
+pub mod FoundLemmas
+pub mod StoreSorts
+pub mod TakenBinds
+pub mod SortedBuses
+pub mod OnceLemmas
+pub mod LineLemmas
+pub mod EffectLines
+pub mod HeardLemmas
+pub mod PuttingLemmas
+pub mod HandingLemmas
+pub mod WhoseLemmas
+pub mod Rows

@@ -1,0 +1,69 @@
+-- What a step puts on the lanes for tools, and which step of a trace put a line that the trace hands out later.
+use Rattle.std.specs.Prelude.{◌≡◌, ◌⊎◌, ℕ, List, [], ◌∷◌, ◌++◌, IsTrue, Contains, codes, if◌then◌else◌}
+use Rattle.std.specs.Str.{bytes_eq}
+use Rattle.tb_terms.specs.declared.term.Term.{Term}
+use Rattle.tb_log.specs.declared.entry.Entry.{Entry}
+use Rattle.tb_log.specs.declared.entry.Entry.TheVariants.{Did}
+use Rattle.tb_log.specs.declared.entry.Label.{Label}
+use Rattle.tb_log.specs.declared.entry.LabelKind.{LabelKind}
+use Rattle.tb_log.specs.declared.entry.LabelKind.TheVariants as kind
+use Rattle.tb_log.specs.declared.entry.Out.{Out}
+use Rattle.tb_log.specs.declared.entry.Out.TheVariants.{Line, End}
+use Rattle.tb_tools.specs.Lanes.{Tool, Lane, of_tool, lane_at, outs_at, is_open}
+use Rattle.tb_tools.specs.Acts.{tool_line}
+use Rattle.tb_tools.specs.Finding.{has_tool}
+use Rattle.tb_bus.specs.Buses.{Bus, start}
+use Rattle.tb_bus.specs.Ends.{TakesDown}
+use Rattle.tb_bus.specs.Steps.{finish_reason, halt_reason}
+use Rattle.tb_bus.specs.Traces.{after, replay}
+use Rattle.tb_bus.specs.declared.origin.Origin.{Origin}
+use Rattle.tb_iface.specs.Hearing.{MatchesOne}
+use Rattle.tb_iface.specs.Interfaces.{to_of}
+
+-- a line with this word for the tool that is the first of these terms, with the others as its parts, and what comes behind it: on the lane where
+-- this tool stands
+abbrev pub to_tool : List ℕ → List Out → List Term → Lane → List Out
+to_tool word behind [] lane = []
+to_tool word behind (tool ∷ parts) lane = if has_tool tool lane then tool_line word parts ∷ behind else []
+
+-- why the bus goes down, and the lane's end: on each lane that is up and hasn't ended
+abbrev pub to_all : List Term → Lane → List Out
+to_all reason lane = if is_open lane then tool_line (codes "rec-terminate") reason ∷ End ∷ [] else []
+
+-- What a step with these terms puts on a lane that stands so before it: one line a kind of step.
+abbrev pub puts_as : LabelKind → List Term → Lane → List Out
+puts_as kind.SndEval terms lane = to_tool (codes "rec-eval") [] terms lane
+puts_as kind.SndDo terms lane = to_tool (codes "rec-do") [] terms lane
+puts_as kind.SndAckEvent terms lane = to_tool (codes "rec-ack-event") [] terms lane
+puts_as kind.SndTerminate terms lane = to_tool (codes "rec-terminate") (End ∷ []) terms lane
+puts_as kind.Shutdown terms lane = to_all terms lane
+puts_as kind.Finish terms lane = to_all (finish_reason ∷ []) lane
+puts_as kind.Halt terms lane = to_all (halt_reason ∷ []) lane
+-- no other step puts a line
+puts_as _ terms lane = []
+
+abbrev pub puts : Label → Lane → List Out
+puts label lane = puts_as label.kind label.terms lane
+
+-- A step puts a line on this lane: the line is among what such a step puts there, and just that comes to the end of what is to be handed out.
+pub record Puts (bus : Bus) (label : Label) (lane : ℕ) (term : Term) : Type 0 where
+  pub is : Contains (puts label (lane_at lane bus.bench)) (Line term)
+  pub at_end : outs_at lane (after bus (Did label)).bench ≡ outs_at lane bus.bench ++ puts label (lane_at lane bus.bench)
+
+-- A step of this log put the line on this lane.
+pub record WasPut (origin : Origin) (log : List Entry) (lane : ℕ) (term : Term) : Type 0 where
+  pub before : List Entry
+  pub label : Label
+  pub rest : List Entry
+  pub is : log ≡ before ++ Did label ∷ rest
+  pub puts : Puts (replay (start origin) before) label lane term
+
+-- What a step puts on a lane is for a tool of this name: the bus goes down, which every tool is told, or such a tool stands on the lane.
+abbrev pub IsFor : List ℕ → Label → Lane → Type 0
+IsFor tool label lane = TakesDown label.kind ⊎ IsTrue (of_tool (λ (it : Tool). bytes_eq it.name tool) lane.tool)
+
+-- A step of this log put the line on this lane. It is for a tool, and matches what the interface lists of each tool for which it is.
+pub record WasPutAsListed (origin : Origin) (log : List Entry) (lane : ℕ) (term : Term) : Type 0 where
+  pub put : WasPut origin log lane term
+  pub whose : (tool : List ℕ) × IsFor tool put.label (lane_at lane (replay (start origin) put.before).bench)
+  pub matches : (tool : List ℕ) → IsFor tool put.label (lane_at lane (replay (start origin) put.before).bench) → MatchesOne (to_of origin.program tool) term

@@ -1,0 +1,5 @@
+pub mod Outlines
+pub mod Interfaces
+pub mod PatternTexts
+pub mod Hearing
+pub mod Handing
