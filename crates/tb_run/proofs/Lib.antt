@@ -17,6 +17,7 @@ pub mod Projections
 pub mod ReadLemmas
 pub mod RunLemmas
 pub mod SeatLemmas
+pub mod SendLemmas
 pub mod StartLemmas
 pub mod StepLemmas
 pub mod TickLemmas
@@ -27,7 +28,6 @@ pub mod WriteLemmas
 mod BadLinesExample
 mod CutOffExample
 mod Examples
-mod SendLemmas
 mod TimeExample
 mod TwoToolsExample
 mod WorkersExample

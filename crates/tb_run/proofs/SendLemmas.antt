@@ -18,13 +18,13 @@ use Rattle.tb_run.specs.contracts.tick_job.TickJob as tick_job
 use Rattle.tb_run.specs.contracts.worker.Work as work
 use Rattle.tb_run.specs.contracts.worker.Worker as worker
 
-seat_send : IsSend seat.the_row
+pub seat_send : IsSend seat.the_row
 seat_send = view_send _ _ _ _ _ (declared_send seat_inside.the_type (badge_send view.the_row, tt))
 
 bell_sync : IsSync bell.the_row
 bell_sync = search (sendable, crosses) depth 40
 
-bells_sync : IsSync bells.the_row
+pub bells_sync : IsSync bells.the_row
 bells_sync = search (sendable, crosses, bell_sync) depth 40
 
 buffer_send : IsSend buffer.the_row

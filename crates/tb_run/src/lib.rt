@@ -4,7 +4,7 @@
 mod buffer;
 mod ending;
 mod ends;
-mod hand;
+mod handing;
 mod lanes;
 mod laws;
 mod logger;
@@ -23,10 +23,11 @@ mod working;
 mod writer;
 
 pub use ends::{LogEnd, RunWhy, WorkEnd};
+pub use handing::{hand, refused, stop};
 pub use lanes::{AnyInlet, AnyOutlet};
 pub use laws::a_run_that_ended_was_not_refused;
 pub use reader::read_lane;
 pub use running::run;
 pub use stepper::step_worker;
 pub use ticker::tick_worker;
-pub use writer::write_lane;
+pub use writer::{tell_taken, wait_for_call, write_lane};

@@ -6,7 +6,7 @@ ghost use Rattle.tb_log.specs.LogText.{log_text_from};
 ghost use Rattle.tb_run.specs.Logging.{LogsOn, EndsLogging, LogDone, PutsSome, PutsLast, end_by};
 
 use crate::ends::LogEnd;
-use crate::hand::stop;
+use crate::handing::stop;
 use std::alloc::Global;
 use std::sync::Wait;
 use std::sync::atomic::{AtomicU32, Ordering};

@@ -4,7 +4,7 @@ ghost use Rattle.tb_lock.specs.Rights.{In, has};
 ghost use Rattle.tb_run.specs.Workers.{Reads, ReadsLane};
 
 use crate::ends::WorkEnd;
-use crate::hand::{hand, stop};
+use crate::handing::{hand, stop};
 use std::alloc::Global;
 use std::sync::Wait;
 use tb_algebra::Walker;

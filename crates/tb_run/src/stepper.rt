@@ -6,7 +6,7 @@ ghost use Rattle.tb_lock.specs.Calls.{Called};
 ghost use Rattle.tb_run.specs.Workers.{Steps, StepsBus};
 
 use crate::ends::WorkEnd;
-use crate::hand::refused;
+use crate::handing::refused;
 use std::sync::Wait;
 use tb_algebra::Walker;
 use tb_bells::{Bells, Sleeper};

@@ -4,7 +4,7 @@ ghost use Rattle.tb_run.specs.Workers.{Ticks, TicksBus};
 ghost use Rattle.tb_run.specs.Ticking.{EndsAll};
 
 use crate::ends::WorkEnd;
-use crate::hand::hand;
+use crate::handing::hand;
 use std::sync::Wait;
 use tb_algebra::Walker;
 use tb_bells::Bells;

@@ -5,7 +5,7 @@ ghost use Rattle.tb_lock.specs.Rights.{Out as Outs, has};
 ghost use Rattle.tb_run.specs.Workers.{Writes, WritesLane, Puts, going_on};
 
 use crate::ends::WorkEnd;
-use crate::hand::{hand, refused};
+use crate::handing::{hand, refused};
 use std::sync::Wait;
 use tb_algebra::Walker;
 use tb_bells::{Bells, Sleeper};
@@ -68,8 +68,9 @@ fn write_all<W: Walker, R: Wait, O: Outlet>(
     unreachable!()
 }
 
-/// Sleeps while there is nothing for the writer of a lane: it is told how often was rung for it before it looks.
-fn wait_for_call<W: Walker, R: Wait>(
+/// Sleeps while there is nothing for the one that takes what is handed out on a lane, from 1 to 16. `heard` is the count of rings that it
+/// was told last, 0 at first: a ring that comes after that isn't slept past. That there is something is a hint.
+pub fn wait_for_call<W: Walker, R: Wait>(
     rt: &R,
     shared: &Shared<W>,
     bells: &Bells,
@@ -108,7 +109,7 @@ fn write_one<W: Walker, R: Wait, O: Outlet>(
     entries_are_in_shape();
     match shared.take_out(rt, seat, lane) {
         Ok(TakeOut::Out(out)) => {
-            tell(bells, &out);
+            tell_taken(bells, &out);
             put(rt, shared, bells, seat, outlet, &out, buffer, lane)
         }
         Ok(TakeOut::Nothing) => None,
@@ -144,9 +145,9 @@ fn put<W: Walker, R: Wait, O: Outlet>(
     }
 }
 
-/// Wakes who writes the log, and who makes steps where the lane may be free now: behind an end nothing is to be handed out, and
-/// a step may wait for just that.
-fn tell(bells: &Bells, out: &Out) {
+/// Wakes those for whom there may be something to do after this was taken out: the one that writes the log, and after an end the one that
+/// makes steps. After an end the lane may be free, and a step may wait for just that.
+pub fn tell_taken(bells: &Bells, out: &Out) {
     bells.ring(Sleeper::Log);
     match out {
         Out::End => bells.ring(Sleeper::Stepper),

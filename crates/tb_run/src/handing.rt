@@ -12,8 +12,9 @@ use tb_core::CoreFault;
 use tb_lock::{Seat, Shared, calls_add_their_own};
 use tb_log::{Input, Reply, ToolLine, Why};
 
-/// Hands an input in, and says why the worker ends, where it does.
-pub(crate) fn hand<W: Walker, R: Wait>(
+/// Hands an input in, and wakes those for whom it may leave something to do. Gives why the worker ends, if it ends: the bus is down,
+/// or the call was refused. A refused worker has stopped the bus, unless the bus was stopped before.
+pub fn hand<W: Walker, R: Wait>(
     rt: &R,
     shared: &Shared<W>,
     bells: &Bells,
@@ -81,8 +82,8 @@ fn end_of(reply: Reply) -> Option<WorkEnd>
     }
 }
 
-/// The end of a worker that was refused a call: it stops the bus, unless that was stopped.
-pub(crate) fn refused<W: Walker, R: Wait>(
+/// Gives the end of a worker that was refused a call. It stops the bus, unless the bus was stopped before.
+pub fn refused<W: Walker, R: Wait>(
     rt: &R,
     shared: &Shared<W>,
     bells: &Bells,
@@ -105,8 +106,8 @@ pub(crate) fn refused<W: Walker, R: Wait>(
     }
 }
 
-/// Stops the bus, and tells all.
-pub(crate) fn stop<W: Walker, R: Wait>(rt: &R, shared: &Shared<W>, bells: &Bells, seat: &mut Seat)
+/// Stops the bus, and wakes all that sleep on its bells.
+pub fn stop<W: Walker, R: Wait>(rt: &R, shared: &Shared<W>, bells: &Bells, seat: &mut Seat)
     requires own { seat.old.bus ≡ shared.now }
     ensures { Stops seat.old seat.new }
 {

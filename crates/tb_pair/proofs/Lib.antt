@@ -1,0 +1,10 @@
+pub mod PieceLemmas
+pub mod RingLemmas
+pub mod PipeLemmas
+pub mod WriterLemmas
+pub mod ReaderLemmas
+pub mod PassLemmas
+pub mod PartLemmas
+pub mod TickerLemmas
+pub mod TimeLemmas
+pub mod SendLemmas

@@ -1,0 +1,246 @@
+-- What the reader of a pipe comes to, piece by piece.
+use Rattle.std.proofs.Common.{◌≡◌, List, [], ◌∷◌, ◌++◌, Bool, true, false, not, ◌&&◌, true≢false, Option, Some, None, Ok, Err, refl, sym, ap, ◌∙◌, subst, append_assoc, append-nil, inl, inr, ◌⊎◌, ⊎_elim, arith}
+use Rattle.std.specs.List.{filter_map}
+use Rattle.tb_terms.specs.declared.term.Term.{Term}
+use Rattle.tb_log.specs.declared.entry.ToolLine.TheVariants as tool
+use Rattle.tb_log.specs.declared.entry.Input.{Input}
+use Rattle.tb_log.specs.declared.entry.Input.TheVariants as input
+use Rattle.tb_log.specs.declared.entry.Reply.{Reply}
+use Rattle.tb_log.specs.declared.entry.Reply.TheVariants.{Dropped}
+use Rattle.tb_log.specs.declared.entry.Why.TheVariants as why
+use Rattle.tb_log.specs.declared.entry.Entry.{Entry}
+use Rattle.tb_log.specs.declared.entry.Entry.TheVariants.{Fed}
+use Rattle.tb_lock.specs.Seats.{SeatView}
+use Rattle.tb_run.specs.declared.ends.WorkEnd.{WorkEnd}
+use Rattle.tb_run.specs.declared.ends.WorkEnd.TheVariants as end
+use Rattle.tb_run.specs.Dropping.{HasDropped}
+use Rattle.tb_run.specs.Outcomes.{is_of}
+use Rattle.tb_run.specs.Seats.{Adds, SameMarks}
+use Rattle.tb_run.proofs.SeatLemmas.{marks_both, marks_none, marks_on}
+use Rattle.tb_pair.specs.declared.piece.Piece.{Piece}
+use Rattle.tb_pair.specs.declared.piece.Piece.TheVariants.{Told, Last}
+use Rattle.tb_pair.specs.Pieces.{pieces}
+use Rattle.tb_pair.proofs.PieceLemmas.{pieces-append}
+use Rattle.tb_pair.specs.Piping.{event_in, connect, lines_of}
+use Rattle.tb_pair.specs.Helpers.Reading.{line_of, says_last, ReadsOn, EndsReading, ReadTo, MayLose, Feeds}
+use Rattle.tb_pair.specs.Workers.{IsEarly, Goes, ReadsPipe, MayLack, WhyDown}
+use Rattle.tb_pair.specs.Helpers.Settling.{EndsAs, Settles}
+use Rattle.tb_pair.proofs.PipeLemmas.{goes_none, goes_on, goes_end, goes_after, goes_in, ends_on, ends_after, dropped_before, dropped_after}
+
+lines-append : (ts us : List Term) (leaves : Bool) → lines_of ts false ++ lines_of us leaves ≡ lines_of (ts ++ us) leaves
+lines-append [] us leaves = refl
+lines-append (t ∷ ts) us leaves = ap (λ (l : List Input). input.Line 1 (tool.Event (t ∷ [])) ∷ l) (lines-append ts us leaves)
+
+events_of_lines : (ts : List Term) (leaves : Bool) → filter_map event_in (lines_of ts leaves) ≡ ts
+events_of_lines [] false = refl
+events_of_lines [] true = refl
+events_of_lines (t ∷ ts) leaves = ap (λ (l : List Term). t ∷ l) (events_of_lines ts leaves)
+
+-- nothing was received or handed in
+pub idle_on : (old new : SeatView) (got : List Piece) (reads : Bool) (more : List Entry) → Goes old new more [] → SameMarks old new → ReadsOn old new got got reads reads
+idle_on old new got reads more goes marks =
+    record { more = more; told = []; leaves = false; goes = goes; got = sym (append-nil got); still = λ h. refl; stays = λ h. h; over = λ h. (refl, refl); why = λ h. inl h; marks = marks }
+
+pub reads_none : (seat : SeatView) (got : List Piece) (reads : Bool) → ReadsOn seat seat got got reads reads
+reads_none seat got reads = idle_on seat seat got reads [] (goes_none seat) (marks_none seat)
+
+pub reads_both : (r1 : Bool) (a b c : SeatView) (g0 g1 g2 : List Piece) (r0 r2 : Bool) → ReadsOn a b g0 g1 r0 r1 → ReadsOn b c g1 g2 r1 r2 → ReadsOn a c g0 g2 r0 r2
+reads_both true a b c g0 g1 g2 r0 r2 one two =
+    let stays : one.leaves ≡ false = one.still refl in
+    let lines : lines_of one.told one.leaves ++ lines_of two.told two.leaves ≡ lines_of (one.told ++ two.told) two.leaves = ap (λ (l : Bool). lines_of one.told l ++ lines_of two.told two.leaves) stays ∙ lines-append one.told two.told two.leaves in
+    let got : pieces one.told one.leaves ++ pieces two.told two.leaves ≡ pieces (one.told ++ two.told) two.leaves = ap (λ (l : Bool). pieces one.told l ++ pieces two.told two.leaves) stays ∙ pieces-append one.told two.told two.leaves in
+    record {
+      more = one.more ++ two.more;
+      told = one.told ++ two.told;
+      leaves = two.leaves;
+      goes = subst (Goes a c (one.more ++ two.more)) lines (goes_on a b c one.more two.more (lines_of one.told one.leaves) (lines_of two.told two.leaves) one.goes two.goes);
+      got = two.got ∙ (ap (λ (s : List Piece). s ++ pieces two.told two.leaves) one.got ∙ (append_assoc g0 (pieces one.told one.leaves) (pieces two.told two.leaves) ∙ ap (λ (s : List Piece). g0 ++ s) got));
+      still = two.still;
+      stays = λ h. one.stays (two.stays h);
+      over = λ h. absurd (true≢false (sym (one.stays refl) ∙ h));
+      why = λ h. inr (⊎_elim (λ e. absurd (true≢false e)) (λ w. ⊎_elim (λ l. inl l) (λ d. inr (dropped_after (is_of 1) one.more two.more d)) w) (two.why h));
+      marks = marks_both a b c one.marks two.marks;
+    }
+reads_both false a b c g0 g1 g2 r0 r2 one two =
+    let none : lines_of two.told two.leaves ≡ [] = ap (λ (l : Bool). lines_of two.told l) (two.over refl).1 ∙ ap (λ (t : List Term). lines_of t false) (two.over refl).0 in
+    let nothing : pieces two.told two.leaves ≡ [] = ap (λ (l : Bool). pieces two.told l) (two.over refl).1 ∙ ap (λ (t : List Term). pieces t false) (two.over refl).0 in
+    record {
+      more = one.more ++ two.more;
+      told = one.told;
+      leaves = one.leaves;
+      goes = subst (Goes a c (one.more ++ two.more)) (ap (λ (s : List Input). lines_of one.told one.leaves ++ s) none ∙ append-nil (lines_of one.told one.leaves))
+          (goes_on a b c one.more two.more (lines_of one.told one.leaves) (lines_of two.told two.leaves) one.goes two.goes);
+      got = two.got ∙ (ap (λ (s : List Piece). g1 ++ s) nothing ∙ (append-nil g1 ∙ one.got));
+      still = λ h. absurd (true≢false (sym (two.stays h)));
+      stays = λ h. absurd (true≢false (sym (two.stays h)));
+      over = one.over;
+      why = λ h. ⊎_elim (λ e. inl e) (λ w. inr (⊎_elim (λ l. inl l) (λ d. inr (dropped_before (is_of 1) one.more two.more d)) w)) (one.why refl);
+      marks = marks_both a b c one.marks two.marks;
+    }
+
+-- behind nothing of its own
+pub feeds_after : (a b c : SeatView) (g0 g1 : List Piece) (r0 r1 : Bool) (answer : Option WorkEnd) → Adds a b [] → SameMarks a b → Feeds b c g0 g1 r0 r1 answer → Feeds a c g0 g1 r0 r1 answer
+feeds_after a b c g0 g1 r0 r1 None adds same f =
+    record { more = f.more; told = f.told; leaves = f.leaves; goes = goes_after a b c f.more (lines_of f.told f.leaves) adds f.goes; got = f.got; still = f.still; stays = f.stays; over = f.over; why = f.why; marks = marks_both a b c same f.marks }
+feeds_after a b c g0 g1 r0 r1 (Some it) adds same f = record { ends = ends_after a b c it adds same f.ends; lost = f.lost; got = f.got; may = f.may }
+
+-- the bus is down, and nothing more is read
+pub stops_reading : (old new : SeatView) (got : List Piece) (reads : Bool) → reads ≡ false → EndsAs old new end.Down → EndsReading old new got got reads end.Down
+stops_reading old new got reads over e = record { ends = e; lost = []; got = sym (append-nil got); may = (refl, over) }
+
+lose_none : (it : WorkEnd) (reads : Bool) → IsEarly it → MayLose it reads []
+lose_none end.Over reads e = absurd e
+lose_none end.Down reads e = absurd e
+lose_none end.Stopped reads e = inl refl
+lose_none end.Full reads e = inl refl
+lose_none end.Failed reads e = absurd e
+lose_none end.NoMemory reads e = inl refl
+
+lose_one : (it : WorkEnd) (piece : Piece) → IsEarly it → MayLose it true (piece ∷ [])
+lose_one end.Over piece e = absurd e
+lose_one end.Down piece e = absurd e
+lose_one end.Stopped piece e = inr (piece, refl, refl)
+lose_one end.Full piece e = inr (piece, refl, refl)
+lose_one end.Failed piece e = absurd e
+lose_one end.NoMemory piece e = inr (piece, refl, refl)
+
+pub refused_reading : (old new : SeatView) (got : List Piece) (reads : Bool) (it : WorkEnd) → EndsAs old new it × IsEarly it → EndsReading old new got got reads it
+refused_reading old new got reads it e = record { ends = e.0; lost = []; got = sym (append-nil got); may = lose_none it reads e.1 }
+
+-- a piece was handed in
+pub fed_on : (old new : SeatView) (got : List Piece) (piece : Piece) (up : Bool) → Settles (line_of piece) old new (Ok up) → ReadsOn old new got (got ++ piece ∷ []) true (up && not (says_last piece))
+fed_on old new got (Told t) true h =
+    record { more = Fed (line_of (Told t)) h.0 ∷ []; told = t ∷ []; leaves = false; goes = goes_in old new (line_of (Told t)) h.0 refl h.1 refl; got = refl; still = λ e. refl; stays = λ e. refl; over = λ e. absurd (true≢false e); why = λ e. absurd (true≢false e); marks = h.2 }
+fed_on old new got (Told t) false h =
+    record {
+      more = Fed (line_of (Told t)) h.0 ∷ [];
+      told = t ∷ [];
+      leaves = false;
+      goes = goes_in old new (line_of (Told t)) h.0 refl h.1 refl;
+      got = refl;
+      still = λ e. refl;
+      stays = λ e. absurd (true≢false (sym e));
+      over = λ e. absurd (true≢false e);
+      why = λ e. inr (inr ([], line_of (Told t), [], refl, ap (λ (r : Reply). Fed (line_of (Told t)) r ∷ []) (h.3 refl)));
+      marks = h.2;
+    }
+fed_on old new got Last true h =
+    record { more = Fed (line_of Last) h.0 ∷ []; told = []; leaves = true; goes = goes_in old new (line_of Last) h.0 refl h.1 refl; got = refl; still = λ e. absurd (true≢false (sym e)); stays = λ e. refl; over = λ e. absurd (true≢false e); why = λ e. inr (inl refl); marks = h.2 }
+fed_on old new got Last false h =
+    record { more = Fed (line_of Last) h.0 ∷ []; told = []; leaves = true; goes = goes_in old new (line_of Last) h.0 refl h.1 refl; got = refl; still = λ e. absurd (true≢false (sym e)); stays = λ e. refl; over = λ e. absurd (true≢false e); why = λ e. inr (inl refl); marks = h.2 }
+
+-- it was refused
+pub fed_refused : (old new : SeatView) (got : List Piece) (piece : Piece) (it : WorkEnd) → Settles (line_of piece) old new (Err it) → EndsReading old new got (got ++ piece ∷ []) true it
+fed_refused old new got piece it e = record { ends = e.0; lost = piece ∷ []; got = refl; may = lose_one it piece e.1 }
+
+-- what was lost, as terms
+record Loses (it : WorkEnd) (reads : Bool) (lost : List Piece) : Type 0 where
+  pub why : ((lost ≡ []) × MayLack it []) ⊎ ((piece : Piece) × (lost ≡ piece ∷ []) × (reads ≡ true) × ((t : Term) → MayLack it (t ∷ [])) × MayLack it [])
+
+loses : (it : WorkEnd) (reads : Bool) (lost : List Piece) → MayLose it reads lost → Loses it reads lost
+loses end.Over reads lost m = absurd m
+loses end.Down reads lost m = record { why = inl (m.0, refl) }
+loses end.Stopped reads lost m = record { why = ⊎_elim (λ e. inl (e, omega arith)) (λ p. inr (p.0, p.1, p.2, λ t. omega arith, omega arith)) m }
+loses end.Full reads lost m = record { why = ⊎_elim (λ e. inl (e, omega arith)) (λ p. inr (p.0, p.1, p.2, λ t. omega arith, omega arith)) m }
+loses end.Failed reads lost m = absurd m
+loses end.NoMemory reads lost m = record { why = ⊎_elim (λ e. inl (e, omega arith)) (λ p. inr (p.0, p.1, p.2, λ t. omega arith, omega arith)) m }
+
+-- what was received in all
+record Received (told : List Term) (leaves : Bool) (it : WorkEnd) (got_old got_new : List Piece) : Type 0 where
+  pub lost : List Term
+  pub last : Bool
+  pub got : got_new ≡ got_old ++ pieces (told ++ lost) last
+  pub said : leaves ≡ true → (last ≡ true) × (lost ≡ [])
+  pub lacks : MayLack it lost
+
+received_so : (told : List Term) (leaves reads : Bool) (it : WorkEnd) (g0 g1 g2 lost : List Piece) → (reads ≡ true → leaves ≡ false) → g1 ≡ g0 ++ pieces told leaves → g2 ≡ g1 ++ lost → Loses it reads lost → Received told leaves it g0 g2
+received_so told leaves reads it g0 g1 g2 lost still one two l = go l.why
+  where
+    one_more : (piece : Piece) → leaves ≡ false → lost ≡ piece ∷ [] → g2 ≡ g0 ++ (pieces told false ++ piece ∷ [])
+    one_more piece stays e = two ∙ (ap (λ (s : List Piece). g1 ++ s) e ∙ (ap (λ (s : List Piece). s ++ piece ∷ []) (one ∙ ap (λ (b : Bool). g0 ++ pieces told b) stays) ∙ append_assoc g0 (pieces told false) (piece ∷ [])))
+
+    by : (piece : Piece) → leaves ≡ false → lost ≡ piece ∷ [] → ((t : Term) → MayLack it (t ∷ [])) → MayLack it [] → Received told leaves it g0 g2
+    by (Told t) stays e may none = record { lost = t ∷ []; last = false; got = one_more (Told t) stays e ∙ ap (λ (s : List Piece). g0 ++ s) (pieces-append told (t ∷ []) false); said = λ h. absurd (true≢false (sym h ∙ stays)); lacks = may t }
+    by Last stays e may none = record { lost = []; last = true; got = one_more Last stays e ∙ ap (λ (s : List Piece). g0 ++ s) (pieces-append told [] true); said = λ h. (refl, refl); lacks = none }
+
+    go : ((lost ≡ []) × MayLack it []) ⊎ ((piece : Piece) × (lost ≡ piece ∷ []) × (reads ≡ true) × ((t : Term) → MayLack it (t ∷ [])) × MayLack it []) → Received told leaves it g0 g2
+    go (inl e) = record { lost = []; last = leaves; got = two ∙ (ap (λ (s : List Piece). g1 ++ s) e.0 ∙ (append-nil g1 ∙ (one ∙ ap (λ (s : List Term). g0 ++ pieces s leaves) (sym (append-nil told))))); said = λ h. (h, refl); lacks = e.1 }
+    go (inr p) = by p.0 (still p.2) p.1 p.3 p.4
+
+why_down : (it : WorkEnd) (reads : Bool) (lost : List Piece) (leaves : Bool) (more : List Entry) → MayLose it reads lost → (reads ≡ false → (leaves ≡ true) ⊎ HasDropped (is_of 1) more) → WhyDown it leaves more
+why_down end.Over reads lost leaves more m w = absurd m
+why_down end.Down reads lost leaves more m w = w m.1
+why_down end.Stopped reads lost leaves more m w = tt
+why_down end.Full reads lost leaves more m w = tt
+why_down end.Failed reads lost leaves more m w = absurd m
+why_down end.NoMemory reads lost leaves more m w = tt
+
+pub dropped_here : (reply : Reply) → reply ≡ Dropped why.Down → HasDropped (is_of 1) (Fed connect reply ∷ [])
+dropped_here reply e = ([], connect, [], refl, ap (λ (r : Reply). Fed connect r ∷ []) e)
+
+-- behind the line by which it names itself
+pub read_behind : (old b new : SeatView) (reply : Reply) (g0 g1 : List Piece) (reads : Bool) (it : WorkEnd) → Adds old b (Fed connect reply ∷ []) → SameMarks old b → (reads ≡ false → HasDropped (is_of 1) (Fed connect reply ∷ []))
+    → ReadTo b new g0 g1 reads it → ReadsPipe old new g0 g1 it
+read_behind old b new reply g0 g1 reads it adds same dropped r =
+    let named : Goes old b (Fed connect reply ∷ []) (connect ∷ []) = goes_in old b connect reply refl adds refl in
+    let on : Goes old r.mid (Fed connect reply ∷ r.on.more) (connect ∷ lines_of r.on.told r.on.leaves) = goes_on old b r.mid (Fed connect reply ∷ []) r.on.more (connect ∷ []) (lines_of r.on.told r.on.leaves) named r.on.goes in
+    let all : Goes old new (Fed connect reply ∷ r.on.more) (connect ∷ lines_of r.on.told r.on.leaves) = goes_end old r.mid new (Fed connect reply ∷ r.on.more) (connect ∷ lines_of r.on.told r.on.leaves) on r.ends.ends.adds in
+    let so : Received r.on.told r.on.leaves it g0 g1 = received_so r.on.told r.on.leaves r.reads' it g0 r.got_mid g1 r.ends.lost r.on.still r.on.got r.ends.got (loses it r.reads' r.ends.lost r.ends.may) in
+    record {
+      more = Fed connect reply ∷ r.on.more;
+      given = connect ∷ lines_of r.on.told r.on.leaves;
+      goes = all;
+      told = r.on.told;
+      lost = so.lost;
+      last = so.last;
+      leaves = r.on.leaves;
+      names = inl refl;
+      events_are = ap (filter_map event_in) all.given_are ∙ events_of_lines r.on.told r.on.leaves;
+      got = so.got;
+      said = so.said;
+      lacks = so.lacks;
+      why = why_down it r.reads' r.ends.lost r.on.leaves (Fed connect reply ∷ r.on.more) r.ends.may
+          (λ h. ⊎_elim (λ e. inr (dropped_before (is_of 1) (Fed connect reply ∷ []) r.on.more (dropped e))) (λ w. ⊎_elim (λ l. inl l) (λ d. inr (dropped_after (is_of 1) (Fed connect reply ∷ []) r.on.more d)) w) (r.on.why h));
+      marks = marks_on old r.mid new it (marks_both old b r.mid same r.on.marks) r.ends.ends.marks;
+      ends = ends_on old r.mid new (Fed connect reply ∷ r.on.more) it on.adds r.ends.ends.ends;
+    }
+
+lack_none : (it : WorkEnd) → IsEarly it → MayLack it []
+lack_none end.Over e = absurd e
+lack_none end.Down e = absurd e
+lack_none end.Stopped e = omega arith
+lack_none end.Full e = omega arith
+lack_none end.Failed e = absurd e
+lack_none end.NoMemory e = omega arith
+
+why_early : (it : WorkEnd) (leaves : Bool) (more : List Entry) → IsEarly it → WhyDown it leaves more
+why_early end.Over leaves more e = absurd e
+why_early end.Down leaves more e = absurd e
+why_early end.Stopped leaves more e = tt
+why_early end.Full leaves more e = tt
+why_early end.Failed leaves more e = absurd e
+why_early end.NoMemory leaves more e = tt
+
+-- the line was refused
+pub read_refused : (old new : SeatView) (got : List Piece) (it : WorkEnd) → EndsAs old new it × IsEarly it → ReadsPipe old new got got it
+read_refused old new got it e =
+    record {
+      more = [];
+      given = [];
+      goes = record { adds = e.0.adds; given_are = refl; cuts = refl };
+      told = [];
+      lost = [];
+      last = false;
+      leaves = false;
+      names = inr (refl, refl, e.1);
+      events_are = refl;
+      got = sym (append-nil got);
+      said = λ h. absurd (true≢false (sym h));
+      lacks = lack_none it e.1;
+      why = why_early it false [] e.1;
+      marks = e.0.marks;
+      ends = e.0.ends;
+    }
+
+pub read_to : (a b c : SeatView) (g0 g1 g2 : List Piece) (r0 r1 : Bool) (it : WorkEnd) → ReadsOn a b g0 g1 r0 r1 → EndsReading b c g1 g2 r1 it → ReadTo a c g0 g2 r0 it
+read_to a b c g0 g1 g2 r0 r1 it one e = record { mid = b; got_mid = g1; reads' = r1; on = one; ends = e }

@@ -1,0 +1,9 @@
+pub mod Passing
+pub mod Piping
+pub mod Pieces
+pub mod Workers
+pub mod Ticking
+pub mod Clocks
+pub mod Jobs
+pub mod Parts
+pub mod Helpers

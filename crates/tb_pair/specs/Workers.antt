@@ -1,0 +1,97 @@
+-- What each of the two workers of a pipe has done once it ends: over what its seat has seen, and over what its end of the pipe sent or received in the call.
+use Rattle.std.specs.Prelude.{◌≡◌, ◌≤◌, ◌⊎◌, Bool, true, List, [], ◌∷◌, ◌++◌, length, None}
+use Rattle.tb_terms.specs.declared.term.Term.{Term}
+use Rattle.tb_log.specs.declared.entry.Input.{Input}
+use Rattle.tb_log.specs.declared.entry.Entry.{Entry}
+use Rattle.tb_log.specs.Lanes.{inputs}
+use Rattle.tb_tools.specs.Finding.{next_out}
+use Rattle.tb_core.specs.Cores.{HandIn, HandOut}
+use Rattle.tb_lock.specs.Seats.{SeatView}
+use Rattle.tb_run.specs.declared.ends.WorkEnd.{WorkEnd}
+use Rattle.tb_run.specs.declared.ends.WorkEnd.TheVariants as end
+use Rattle.tb_run.specs.Dropping.{HasDropped}
+use Rattle.tb_run.specs.Outcomes.{is_of}
+use Rattle.tb_run.specs.Seats.{Adds, Marks, FoundFull}
+use Rattle.tb_run.specs.Workers.{bus_of, cut_count}
+use Rattle.tb_pair.specs.declared.piece.Piece.{Piece}
+use Rattle.tb_pair.specs.Pieces.{pieces}
+use Rattle.tb_pair.specs.Piping.{does, events, connect, lines_of}
+
+-- an end by a refused call, or since memory ran out
+abbrev pub IsEarly : WorkEnd → Type 0
+IsEarly end.Over = ⊥
+IsEarly end.Down = ⊥
+IsEarly end.Stopped = Unit {0}
+IsEarly end.Full = Unit {0}
+IsEarly end.Failed = ⊥
+IsEarly end.NoMemory = Unit {0}
+
+-- why a worker of a pipe may end so
+abbrev pub PipeEnds : SeatView → SeatView → WorkEnd → Type 0
+PipeEnds old new end.Over = ⊥
+-- the bus is down, and nothing is left to be handed out
+PipeEnds old new end.Down = (next_out 1 (bus_of new).bench ≡ None) × ((bus_of new).down ≡ true)
+PipeEnds old new end.Stopped = Unit {0}
+-- what is to be handed out next found no room, or an input
+PipeEnds old new end.Full = FoundFull (HandOut 1) old new ⊎ ((it : Input) × FoundFull (HandIn it) old new)
+PipeEnds old new end.Failed = ⊥
+PipeEnds old new end.NoMemory = Unit {0}
+
+-- A worker of a pipe that adds these entries: the inputs of lane 1 among them are these, and none says that something couldn't be put.
+pub record Goes (old new : SeatView) (more : List Entry) (given : List Input) : Type 0 where
+  pub adds : Adds old new more
+  pub given_are : inputs more 1 ≡ given
+  pub cuts : cut_count 1 more ≡ 0
+
+-- `pipe_writer`: its end has sent a front of what the tool was told to do. Where it has said that nothing more comes, that front is the whole.
+pub record WritesPipe (old new : SeatView) (sent_old sent_new : List Piece) (it : WorkEnd) : Type 0 where
+  pub more : List Entry
+  pub given : List Input
+  pub goes : Goes old new more given
+  -- the tool names itself, and gives nothing else
+  pub names : (given ≡ connect ∷ []) ⊎ ((given ≡ []) × IsEarly it)
+  pub front : List Term
+  pub rest : List Term
+  pub last : Bool
+  pub told : does more ≡ front ++ rest
+  pub sent : sent_new ≡ sent_old ++ pieces front last
+  pub whole : last ≡ true → rest ≡ []
+  pub marks : Marks old new it
+  pub ends : PipeEnds old new it
+
+-- what was received and not handed in: nothing where the bus is down, one term at most at an early end
+abbrev pub MayLack : WorkEnd → List Term → Type 0
+MayLack end.Over lost = ⊥
+MayLack end.Down lost = lost ≡ []
+MayLack end.Stopped lost = length lost ≤ 1
+MayLack end.Full lost = length lost ≤ 1
+MayLack end.Failed lost = ⊥
+MayLack end.NoMemory lost = length lost ≤ 1
+
+-- a worker that ends since its bus is down has read to the end: the tool has left, or an input of its lane was dropped since the bus was down
+abbrev pub WhyDown : WorkEnd → Bool → List Entry → Type 0
+WhyDown end.Over leaves more = ⊥
+WhyDown end.Down leaves more = (leaves ≡ true) ⊎ HasDropped (is_of 1) more
+WhyDown end.Stopped leaves more = Unit {0}
+WhyDown end.Full leaves more = Unit {0}
+WhyDown end.Failed leaves more = ⊥
+WhyDown end.NoMemory leaves more = Unit {0}
+
+-- `pipe_reader`: the events of its seat are the terms that its end received, but for the last at an early end. The tool leaves only where it was received that nothing more comes.
+pub record ReadsPipe (old new : SeatView) (got_old got_new : List Piece) (it : WorkEnd) : Type 0 where
+  pub more : List Entry
+  pub given : List Input
+  pub goes : Goes old new more given
+  pub told : List Term
+  pub lost : List Term
+  pub last : Bool
+  pub leaves : Bool
+  -- the tool names itself, then gives these events, then perhaps leaves
+  pub names : (given ≡ connect ∷ lines_of told leaves) ⊎ ((given ≡ []) × (told ≡ []) × IsEarly it)
+  pub events_are : events more ≡ told
+  pub got : got_new ≡ got_old ++ pieces (told ++ lost) last
+  pub said : leaves ≡ true → (last ≡ true) × (lost ≡ [])
+  pub lacks : MayLack it lost
+  pub why : WhyDown it leaves more
+  pub marks : Marks old new it
+  pub ends : PipeEnds old new it

@@ -1,0 +1,69 @@
+ghost use Rattle.std.specs.Prelude.{◌≡◌, ◌+◌, ℕ, [], ◌∷◌, map, length, true, Option};
+ghost use Rattle.std.specs.List.{fold};
+ghost use Rattle.atomic_table.specs.Seated.{TableId};
+ghost use Rattle.rtrb.specs.Ring.{IsPair, received, sent};
+ghost use Rattle.tb_edge.specs.Ends.{ClockView};
+ghost use Rattle.tb_lock.specs.Rights.{In, Out as Outs, AreAmong, all_rights, has, united, without};
+ghost use Rattle.tb_lock.specs.Seats.{SeatView};
+ghost use Rattle.tb_run.specs.declared.ends.WorkEnd.{WorkEnd};
+ghost use Rattle.tb_run.specs.Parting.{CanPart};
+ghost use Rattle.tb_run.specs.Parts.{to_tick};
+ghost use Rattle.tb_pair.specs.Clocks.{ClockPasses};
+ghost use Rattle.tb_pair.specs.Jobs.{CanServe};
+ghost use Rattle.tb_pair.specs.Parts.{pair_rights, pair_left, to_pipe};
+ghost use Rattle.tb_pair.specs.Passing.{IsPartOf, Passes};
+ghost use Rattle.tb_pair.specs.Ticking.{CanTick, TicksPair};
+ghost use Rattle.tb_pair.specs.Workers.{WritesPipe, ReadsPipe};
+
+use crate::pipe::{PipeIn, PipeOut};
+
+/// The two ends of a pipe meet again, once both workers have ended. `begun` and `done` are the seat of the worker that wrote, before and
+/// after its work, and `last` is the seat that has seen all of its bus's log; so it is with `others_begun`, `others_done`, and
+/// `others_last` for the worker that read. The two logs then agree about the pipe.
+pub fn ends_meet<'a>(writes: PipeIn<'a>, reads: PipeOut<'a>)
+    requires { IsPair writes.end reads.end }
+    ensures { (bus others_bus : TableId)
+        (begun done last others_begun others_done others_last : SeatView)
+        (writer reader : WorkEnd)
+        → WritesPipe begun done [] (sent writes.entry.end) writer
+        → ReadsPipe others_begun others_done [] (received reads.entry.end) reader
+        → CanServe bus begun → IsPartOf begun done last
+        → CanServe others_bus others_begun → IsPartOf others_begun others_done others_last
+        → Passes last.seen others_last.seen writer reader }
+{
+    let PipeIn {
+        end: mut producer,
+        ..
+    } = writes;
+    let PipeOut {
+        end: mut consumer,
+        ..
+    } = reads;
+    consumer.slots_beside(&mut producer);
+}
+
+/// After its work the tick worker of a pair has handed the ticks of one clock to two buses, so the two logs agree about that clock. The
+/// seats are named as for `ends_meet`.
+pub fn ticks_meet()
+    ensures { (most : ℕ) (told_old told_new : Option ClockView) (faults_old faults_new : ℕ)
+        (bus others_bus : TableId)
+        (begun done last others_begun others_done others_last : SeatView)
+        (it others : WorkEnd)
+        → TicksPair most begun done others_begun others_done
+        told_old told_new faults_old faults_new it others
+        → CanTick bus begun → IsPartOf begun done last
+        → CanTick others_bus others_begun → IsPartOf others_begun others_done others_last
+        → ClockPasses most last.seen others_last.seen
+        told_old told_new faults_old faults_new it others }
+{}
+
+/// The first seat of a bus of a pair can be parted into one for each worker and one that hands in ticks, and these come together again
+/// to all rights and all room. The worker of the pipe has both rights of lane 1.
+pub fn a_pair_parts()
+    ensures can { CanPart all_rights pair_rights }
+    ensures ticks { AreAmong to_tick pair_left }
+    ensures unite { fold united (without pair_left to_tick) (to_tick ∷ pair_rights) ≡ all_rights }
+    ensures rooms { fold (λ (a b : ℕ). a + b) 31 (1 ∷ map (λ _. 1) pair_rights) ≡ 64 }
+    ensures count { length pair_rights ≡ 32 }
+    ensures pipe { (has to_pipe (In 1) ≡ true) × (has to_pipe (Outs 1) ≡ true) }
+{}

@@ -1,0 +1,63 @@
+//! An input is handed in by a worker that goes on where its bus is down.
+ghost use Rattle.std.specs.Prelude.{◌≡◌, true};
+ghost use Rattle.tb_log.specs.Shapes.{IsInputInShape};
+ghost use Rattle.tb_core.specs.Cores.{HandIn};
+ghost use Rattle.tb_lock.specs.Rights.{In, has, right_to};
+ghost use Rattle.tb_pair.specs.Piping.{connect};
+ghost use Rattle.tb_pair.specs.Helpers.Settling.{Settles, settled};
+
+use crate::lines::connect_input;
+use std::alloc::Global;
+use std::sync::Wait;
+use tb_algebra::Walker;
+use tb_bells::Bells;
+use tb_lock::{Seat, Shared};
+use tb_log::Input;
+use tb_run::{WorkEnd, hand, stop};
+
+/// Hands an input in, and gives whether the bus isn't down, or why the worker ends.
+pub(crate) fn hand_over<W: Walker, R: Wait>(
+    rt: &R,
+    shared: &Shared<W>,
+    bells: &Bells,
+    seat: &mut Seat,
+    input: Input,
+) -> Result<bool, WorkEnd>
+    requires own { seat.old.bus ≡ shared.now }
+    requires form { IsInputInShape input }
+    requires right { has seat.old.rights (right_to (HandIn input)) ≡ true }
+    ensures { Settles input seat.old seat.new result }
+{
+    settle(hand(rt, shared, bells, seat, input))
+}
+
+fn settle(answer: Option<WorkEnd>) -> Result<bool, WorkEnd>
+    ensures { result ≡ settled answer }
+{
+    match answer {
+        None => Ok(true),
+        Some(WorkEnd::Down) => Ok(false),
+        Some(end) => Err(end),
+    }
+}
+
+/// Hands in the line by which the tool of lane 1 names itself.
+pub(crate) fn name_itself<W: Walker, R: Wait>(
+    rt: &R,
+    alloc: Global,
+    shared: &Shared<W>,
+    bells: &Bells,
+    seat: &mut Seat,
+) -> Result<bool, WorkEnd>
+    requires own { seat.old.bus ≡ shared.now }
+    requires reads { has seat.old.rights (In 1) ≡ true }
+    ensures { Settles connect seat.old seat.new result }
+{
+    match connect_input(alloc) {
+        Ok(input) => hand_over(rt, shared, bells, seat, input),
+        Err(_) => {
+            stop(rt, shared, bells, seat);
+            Err(WorkEnd::NoMemory)
+        }
+    }
+}

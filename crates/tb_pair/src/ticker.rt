@@ -1,0 +1,143 @@
+ghost use Rattle.std.specs.Prelude.{◌≡◌, ◌⊎◌, ◌+◌, ℕ, None, MatchOption};
+ghost use Rattle.tb_lock.specs.Seats.{SeatView};
+ghost use Rattle.tb_run.specs.Ticking.{EndsAll};
+ghost use Rattle.tb_pair.specs.Ticking.{CanTick, TicksSeat, TicksPair, IsCut};
+ghost use Rattle.tb_pair.specs.Helpers.Ticking.{Ticked, TickedAll, TicksOne, NoTick, MayEnd};
+
+use std::sync::Wait;
+use tb_algebra::Walker;
+use tb_bells::Bells;
+use tb_edge::{Beat, Clock};
+use tb_lock::{Seat, Shared};
+use tb_log::Input;
+use tb_run::{WorkEnd, hand};
+
+/// One of two buses that get the ticks of one clock.
+#[derive(Drop)]
+pub struct TickedBus<'a, W: Walker> {
+    pub shared: &'a Shared<W>,
+    pub bells: &'a Bells,
+    /// Has the right to hand in ticks.
+    pub seat: Seat,
+    /// Why the bus gets no more of them, if it gets none.
+    pub end: Option<WorkEnd>,
+}
+
+/// Hands each tick of a clock to two buses, to the one and then to the other, `ticks` of them at most, and then that no more come. A bus
+/// that is down or has refused one gets no more. Gives why each has ended.
+pub fn pair_ticker<'a, W: Walker, R: Wait, C: Clock>(
+    rt: &R,
+    one: &mut TickedBus<'a, W>,
+    other: &mut TickedBus<'a, W>,
+    clock: &mut C,
+    ticks: u64,
+) -> (WorkEnd, WorkEnd)
+    requires one { CanTick one.old.shared.now one.old.seat × (one.old.end ≡ None) }
+    requires other { CanTick other.old.shared.now other.old.seat × (other.old.end ≡ None) }
+    ensures { TicksPair ticks one.old.seat one.new.seat other.old.seat other.new.seat
+        (C.told clock.old) (C.told clock.new) (C.faults clock.old) (C.faults clock.new)
+        result.0 result.1 }
+{
+    let wanted = tick_all(rt, one, other, clock, ticks);
+    let one_end = no_more(rt, one, wanted);
+    let other_end = no_more(rt, other, wanted);
+    (one_end, other_end)
+}
+
+/// Hands in the ticks, and gives why no more come.
+fn tick_all<'a, W: Walker, R: Wait, C: Clock>(
+    rt: &R,
+    one: &mut TickedBus<'a, W>,
+    other: &mut TickedBus<'a, W>,
+    clock: &mut C,
+    ticks: u64,
+) -> WorkEnd
+    requires one { CanTick one.old.shared.now one.old.seat × (one.old.end ≡ None) }
+    requires other { CanTick other.old.shared.now other.old.seat × (other.old.end ≡ None) }
+    ensures ticked { TickedAll ticks one.old.seat one.new.seat one.new.end
+        other.old.seat other.new.seat other.new.end
+        (C.told clock.old) (C.told clock.new) (C.faults clock.old) (C.faults clock.new) result }
+    ensures one { CanTick one.new.shared.now one.new.seat }
+    ensures other { CanTick other.new.shared.now other.new.seat }
+{
+    for _done in 0..ticks {
+        match tick_one(rt, one, other, clock) {
+            Some(wanted) => return wanted,
+            None => {}
+        }
+    }
+    WorkEnd::Over
+}
+
+/// Hands in the next tick, or gives why no more come.
+fn tick_one<'a, W: Walker, R: Wait, C: Clock>(
+    rt: &R,
+    one: &mut TickedBus<'a, W>,
+    other: &mut TickedBus<'a, W>,
+    clock: &mut C,
+) -> Option<WorkEnd>
+    requires one { CanTick one.old.shared.now one.old.seat }
+    requires other { CanTick other.old.shared.now other.old.seat }
+    ensures ticked { MatchOption result
+        (TicksOne one.old.seat one.new.seat one.old.end one.new.end
+        other.old.seat other.new.seat other.old.end other.new.end
+        (C.told clock.old) (C.told clock.new) (C.faults clock.old) (C.faults clock.new))
+        (λ wanted. (one.new.seat ≡ one.old.seat) × (other.new.seat ≡ other.old.seat)
+        × (one.new.end ≡ one.old.end) × (other.new.end ≡ other.old.end)
+        × NoTick one.old.end other.old.end (C.told clock.old) (C.told clock.new)
+        (C.faults clock.old) (C.faults clock.new) wanted) }
+    ensures one { CanTick one.new.shared.now one.new.seat }
+    ensures other { CanTick other.new.shared.now other.new.seat }
+{
+    if one.end.is_some() && other.end.is_some() {
+        return Some(WorkEnd::Down);
+    }
+    match clock.wait() {
+        Beat::Tick => {
+            tick(rt, one);
+            tick(rt, other);
+            None
+        }
+        Beat::End => Some(WorkEnd::Over),
+        Beat::Failed => Some(WorkEnd::Failed),
+    }
+}
+
+/// Hands a tick to a bus that gets them still.
+fn tick<'a, W: Walker, R: Wait>(rt: &R, bus: &mut TickedBus<'a, W>)
+    requires { CanTick bus.old.shared.now bus.old.seat }
+    ensures ticked { (begun : SeatView) (given : ℕ) → Ticked begun bus.old.seat given bus.old.end
+        → Ticked begun bus.new.seat (given + 1) bus.new.end }
+    ensures can { CanTick bus.new.shared.now bus.new.seat }
+{
+    match bus.end {
+        Some(_) => {}
+        None => bus.end = hand(rt, bus.shared, bus.bells, &mut bus.seat, Input::Tick),
+    }
+}
+
+/// Hands in that no more ticks come, to a bus that gets them still.
+fn no_more<'a, W: Walker, R: Wait>(rt: &R, bus: &mut TickedBus<'a, W>, wanted: WorkEnd) -> WorkEnd
+    requires can { CanTick bus.old.shared.now bus.old.seat }
+    requires may { MayEnd bus.old.end wanted }
+    ensures seat { (begun : SeatView) (given : ℕ) → Ticked begun bus.old.seat given bus.old.end
+        → TicksSeat begun bus.new.seat given result }
+    ensures by { (begun : SeatView) (given : ℕ) → Ticked begun bus.old.seat given bus.old.end
+        → (result ≡ wanted) ⊎ IsCut result }
+{
+    match bus.end {
+        Some(it) => it,
+        None => say_so(rt, bus, wanted),
+    }
+}
+
+fn say_so<'a, W: Walker, R: Wait>(rt: &R, bus: &mut TickedBus<'a, W>, end: WorkEnd) -> WorkEnd
+    requires { CanTick bus.old.shared.now bus.old.seat }
+    ensures { EndsAll bus.old.seat bus.new.seat end result }
+{
+    match hand(rt, bus.shared, bus.bells, &mut bus.seat, Input::NoTicks) {
+        None => end,
+        Some(WorkEnd::Down) => end,
+        Some(other) => other,
+    }
+}
