@@ -3,6 +3,7 @@
 #![tactic(auto)]
 
 mod fault;
+mod interfaces;
 mod logs;
 mod offers;
 mod scripts;
@@ -101,6 +102,9 @@ fn answered(alloc: Global, name: &str, args: &[Vec<u8>]) -> Result<Vec<u8>, Faul
         return Ok(answer);
     }
     if let Some(answer) = logs::answer(alloc, name, args)? {
+        return Ok(answer);
+    }
+    if let Some(answer) = interfaces::answer(alloc, name, args)? {
         return Ok(answer);
     }
     offers::answer(alloc, name, args)?.ok_or(Fault::Line)

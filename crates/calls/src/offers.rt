@@ -10,11 +10,13 @@ use crate::walkers::{count_bound, explored, seen_after};
 use std::alloc::Global;
 use tb_algebra::{Rewriter, is_ready};
 use tb_body::{Act, Body, Program};
+use tb_code::{Code, Span, compile};
 use tb_func::{Store, eval, pattern};
-use tb_match::{Binds, match_list, match_term};
+use tb_match::{Binds, copy_binds, match_list, match_term};
 use tb_script::{ScriptFault, load};
 use tb_terms::{
-    Expr, Exprs, Items, NoMemory, Patterns, Sort, Terms, has_sort, initial, write_term,
+    Expr, Exprs, Items, NoMemory, Patterns, Sort, Terms, copy_patterns, has_sort, initial,
+    write_term,
 };
 use tb_walk::Walk;
 
@@ -34,7 +36,7 @@ pub(crate) fn answer(
 fn is_call(name: &str) -> bool {
     match name {
         "offers" | "offers_shared" | "accepts" | "walkers_agree" | "is_ready" => true,
-        "eval" | "match_list" | "has_sort" | "initial" => true,
+        "eval" | "match_list" | "has_sort" | "initial" | "compile" => true,
         _ => false,
     }
 }
@@ -65,6 +67,7 @@ fn over(
         "match_list" => matched(alloc, body, args),
         "has_sort" => of_sort(alloc, body, args),
         "initial" => initial_of(alloc, body, args),
+        "compile" => compiled(alloc, body, args),
         _ => return Ok(None),
     };
     Ok(Some(found?))
@@ -239,11 +242,21 @@ fn received(body: &Body) -> Result<&Exprs, Fault> {
     }
 }
 
-/// What terms bind where they match what a body's first atom receives. One term is matched by itself too.
+/// What terms bind where they match what a body's first atom receives. One term is matched by itself too. Copies are matched, and
+/// copies of what is bound are told.
 fn matched(alloc: Global, body: &Body, args: &[Vec<u8>]) -> Result<Vec<u8>, Fault> {
-    let patterns = patterns(alloc, body)?;
     let terms = terms(alloc, args)?;
-    both_matches(alloc, &patterns, &terms)
+    matched_terms(alloc, body, &terms)
+}
+
+fn matched_terms(alloc: Global, body: &Body, terms: &Terms) -> Result<Vec<u8>, Fault> {
+    let patterns = patterns(alloc, body)?;
+    copies_match(alloc, &patterns, terms)
+}
+
+fn copies_match(alloc: Global, patterns: &Patterns, terms: &Terms) -> Result<Vec<u8>, Fault> {
+    let copies = copy_patterns(alloc, patterns)?;
+    both_matches(alloc, &copies, terms)
 }
 
 fn both_matches(alloc: Global, patterns: &Patterns, terms: &Terms) -> Result<Vec<u8>, Fault> {
@@ -269,10 +282,15 @@ fn alone_too(
 
 fn match_text(alloc: Global, found: Result<Option<Binds>, NoMemory>) -> Result<Vec<u8>, Fault> {
     match found {
-        Ok(Some(binds)) => binds_text(alloc, &binds),
+        Ok(Some(binds)) => copies_text(alloc, &binds),
         Ok(None) => said(alloc, "no match"),
         Err(NoMemory) => Err(Fault::NoMemory),
     }
+}
+
+fn copies_text(alloc: Global, binds: &Binds) -> Result<Vec<u8>, Fault> {
+    let copies = copy_binds(alloc, binds)?;
+    binds_text(alloc, &copies)
 }
 
 fn binds_text(alloc: Global, binds: &Binds) -> Result<Vec<u8>, Fault> {
@@ -305,4 +323,29 @@ fn of_sort(alloc: Global, body: &Body, args: &[Vec<u8>]) -> Result<Vec<u8>, Faul
     let sort = sort(body)?;
     let term = term(alloc, one(args)?)?;
     yes_or_no(alloc, has_sort(&term, sort))
+}
+
+/// How many positions the code of a body has, how many entries its lists have together, and from which position on each has a list.
+fn compiled(alloc: Global, body: &Body, args: &[Vec<u8>]) -> Result<Vec<u8>, Fault> {
+    none(args)?;
+    let code = compile(alloc, body)?;
+    code_text(alloc, &code)
+}
+
+fn code_text(alloc: Global, code: &Code) -> Result<Vec<u8>, Fault> {
+    let (positions, entries) = (code.nodes.len(), code.entries.len());
+    let from = first_listed(code.spans.as_slice());
+    let text = format!(in alloc; "{positions} positions, {entries} entries from {from} on")?;
+    said(alloc, text.as_str())
+}
+
+/// The first position from which on each has a list.
+fn first_listed(spans: &[Span]) -> usize {
+    let mut first: usize = 0;
+    for (at, span) in spans.iter().enumerate() {
+        if span.count == 0 {
+            first = at.saturating_add(1);
+        }
+    }
+    first
 }

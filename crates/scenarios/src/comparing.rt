@@ -6,6 +6,7 @@ use crate::live::{Wanted, What};
 use crate::logged::{first_missing, inputs_of, times_of};
 use crate::playing::{Played, play};
 use crate::rewriting::{asked, rewritten};
+use crate::verifying::verifying;
 use std::alloc::Global;
 use std::sync::Wait;
 use std::thread::Threads;
@@ -19,9 +20,48 @@ pub(crate) fn difference<R: Threads + Wait + Sync>(
     case: &Case,
 ) -> Result<Option<String>, NoMemory> {
     match play(rt, alloc, case)? {
-        Some(played) => difference_of(alloc, case, &played),
+        Some(played) => difference_or_verified(rt, alloc, case, &played),
         None => Ok(Some(String::from_str(alloc, "there are not sixteen lanes")?)),
     }
+}
+
+/// The same of a call that was made, and of the log that it put as that of a trace.
+fn difference_or_verified<R: Threads + Wait + Sync>(
+    rt: &R,
+    alloc: Global,
+    case: &Case,
+    played: &Played,
+) -> Result<Option<String>, NoMemory> {
+    if let Some(what) = difference_of(alloc, case, played)? {
+        return Ok(Some(what));
+    }
+    if case.is_once || !has_log(played) {
+        return Ok(None);
+    }
+    match verifying(alloc, case, played.out.as_slice())? {
+        Some(verified) => difference_verified(rt, alloc, &verified),
+        None => Ok(None),
+    }
+}
+
+/// What `verify` says of the log of a case, but that it is a trace.
+fn difference_verified<R: Threads + Wait + Sync>(
+    rt: &R,
+    alloc: Global,
+    verified: &Case,
+) -> Result<Option<String>, NoMemory> {
+    let Some(played) = play(rt, alloc, verified)? else {
+        return Ok(None);
+    };
+    match difference_played(alloc, verified, &played)? {
+        Some(what) => Ok(Some(format!(in alloc; "its log, by verify: {what}")?)),
+        None => Ok(None),
+    }
+}
+
+/// Whether the whole log was put, where the words ask for one.
+fn has_log(played: &Played) -> bool {
+    played.status == 0 || played.status == 4
 }
 
 fn difference_of(alloc: Global, case: &Case, played: &Played) -> Result<Option<String>, NoMemory> {
@@ -34,7 +74,7 @@ fn difference_of(alloc: Global, case: &Case, played: &Played) -> Result<Option<S
     if let Some(what) = difference_asked(alloc, case)? {
         return Ok(Some(what));
     }
-    if case.is_once || (played.status != 0 && played.status != 4) {
+    if case.is_once || !has_log(played) {
         return Ok(None);
     }
     match rewritten(alloc, case)? {

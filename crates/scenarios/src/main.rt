@@ -11,6 +11,7 @@ mod live;
 mod logged;
 mod playing;
 mod rewriting;
+mod verifying;
 
 use case::Case;
 use comparing::difference;

@@ -49,6 +49,18 @@ fn command_text(alloc: Global, command: &Command) -> Result<String, NoMemory> {
             write!(text, ", {ticks} ticks, {events} entries")?;
             Ok(text)
         }
+        Command::Verify {
+            script,
+            log,
+            connects,
+        } => {
+            let mut text = format!(in alloc; "verify {}, log {}", script.as_str(), log.as_str())?;
+            write_connects(connects, &mut text)?;
+            Ok(text)
+        }
+        Command::Iface { script, tool } => {
+            Ok(format!(in alloc; "iface {}, tool {}", script.as_str(), tool.as_str())?)
+        }
         Command::Ring { n, k } => Ok(format!(in alloc; "ring {n} {k}")?),
     }
 }

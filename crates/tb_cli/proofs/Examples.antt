@@ -1,6 +1,6 @@
 -- What some words ask for, and the faults of others, worked out by hand: each rule once at least.
 use Rattle.std.proofs.Common.{◌≡◌, ℕ, zero, suc, List, [], ◌∷◌, replicate, Some, None, Ok, Err, codes, refl}
-use Rattle.tb_cli.specs.declared.command.Command.TheVariants.{Check, Sim, Run, Ring}
+use Rattle.tb_cli.specs.declared.command.Command.TheVariants.{Check, Sim, Run, Verify, Iface, Ring}
 use Rattle.tb_cli.specs.declared.fault.WordFault.TheVariants.{NoCommand, Unknown, Missing, Extra, Number, Range}
 use Rattle.tb_cli.specs.Words.{asked}
 
@@ -264,3 +264,41 @@ ring_word = refl
 
 ring_empty : asked (codes "ring" ∷ codes "10" ∷ [] ∷ []) ≡ Err (Number 3)
 ring_empty = refl
+
+-- `verify` has a script, a log, and commands to connect
+verify_asked : asked (codes "verify" ∷ codes "a.tb" ∷ codes "--connect" ∷ codes "k" ∷ codes "a.log" ∷ codes "--connect" ∷ codes "m" ∷ []) ≡ Ok (Verify (codes "a.tb") (codes "a.log") (codes "k" ∷ codes "m" ∷ []))
+verify_asked = refl
+
+verify_bare : asked (codes "verify" ∷ []) ≡ Err Missing
+verify_bare = refl
+
+verify_half : asked (codes "verify" ∷ codes "a.tb" ∷ []) ≡ Err Missing
+verify_half = refl
+
+verify_extra : asked (codes "verify" ∷ codes "a.tb" ∷ codes "a.log" ∷ codes "b.log" ∷ []) ≡ Err (Extra 4)
+verify_extra = refl
+
+verify_events : asked (codes "verify" ∷ codes "a.tb" ∷ codes "a.log" ∷ codes "--events" ∷ codes "7" ∷ []) ≡ Err (Unknown 4)
+verify_events = refl
+
+verify_odd : asked (codes "verify" ∷ codes "a.tb" ∷ (11 ∷ []) ∷ []) ≡ Err (Unknown 3)
+verify_odd = refl
+
+-- `iface` has a script and a tool, and no options
+iface_asked : asked (codes "iface" ∷ codes "a.tb" ∷ codes "t" ∷ []) ≡ Ok (Iface (codes "a.tb") (codes "t"))
+iface_asked = refl
+
+iface_empty : asked (codes "iface" ∷ codes "a.tb" ∷ [] ∷ []) ≡ Ok (Iface (codes "a.tb") [])
+iface_empty = refl
+
+iface_half : asked (codes "iface" ∷ codes "a.tb" ∷ []) ≡ Err Missing
+iface_half = refl
+
+iface_extra : asked (codes "iface" ∷ codes "a.tb" ∷ codes "t" ∷ codes "u" ∷ []) ≡ Err (Extra 4)
+iface_extra = refl
+
+iface_connect : asked (codes "iface" ∷ codes "a.tb" ∷ codes "t" ∷ codes "--connect" ∷ codes "k" ∷ []) ≡ Err (Unknown 4)
+iface_connect = refl
+
+iface_odd : asked (codes "iface" ∷ codes "a.tb" ∷ (11 ∷ []) ∷ []) ≡ Err (Unknown 3)
+iface_odd = refl

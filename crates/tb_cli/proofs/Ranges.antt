@@ -30,6 +30,8 @@ made-within verb.Run parts fits = (
   (number-in run parts ticks fits refl (omega arith) (omega arith, omega arith)).1,
   number-in run parts events fits refl (omega arith) (omega arith, omega arith),
 )
+made-within verb.Verify parts fits = (fits.option connect refl).few
+made-within verb.Iface parts fits = tt
 made-within verb.Ring parts fits = let h = ring-numbers parts fits in (h.processes, h.rounds.0, h.rounds.1)
 
 row-within : (row : Row) (parts : List Part) (answer : Answer) (command : Command) → row ≡ row_by row.verb → row_answer row parts ≡ answer → made row parts answer ≡ Ok command → IsWithin command

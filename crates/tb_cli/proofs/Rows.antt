@@ -17,4 +17,4 @@ found-by test (first ∷ rows) row all e = by (test first) (found-by test rows r
   by false behind h = behind h
 
 pub row-by : (word : List ℕ) (row : Row) → row_named word ≡ Some row → row ≡ row_by row.verb
-row-by word row e = found-by (λ (r : Row). bytes_eq r.word word) table row (refl, (refl, (refl, (refl, tt)))) e
+row-by word row e = found-by (λ (r : Row). bytes_eq r.word word) table row (refl, (refl, (refl, (refl, (refl, (refl, tt)))))) e

@@ -51,11 +51,18 @@ sim = record { verb = verb.Sim; word = codes "sim"; operands = File ∷ []; opti
 abbrev pub run : Row
 run = record { verb = verb.Run; word = codes "run"; operands = File ∷ []; options = connect ∷ ticks ∷ events ∷ [] }
 
+abbrev pub verify : Row
+verify = record { verb = verb.Verify; word = codes "verify"; operands = File ∷ File ∷ []; options = connect ∷ [] }
+
+-- a tool's name is read as that of a file is
+abbrev pub iface : Row
+iface = record { verb = verb.Iface; word = codes "iface"; operands = File ∷ File ∷ []; options = [] }
+
 abbrev pub ring : Row
 ring = record { verb = verb.Ring; word = codes "ring"; operands = Number 2 10000 ∷ Factor 1000000 ∷ []; options = [] }
 
 abbrev pub table : List Row
-table = check ∷ sim ∷ run ∷ ring ∷ []
+table = check ∷ sim ∷ run ∷ verify ∷ iface ∷ ring ∷ []
 
 abbrev pub row_named : List ℕ → Option Row
 row_named word = find (λ (row : Row). bytes_eq row.word word) table
@@ -89,6 +96,8 @@ abbrev pub make : Verb → List Part → Command
 make verb.Check parts = command.Check (operand 0 parts)
 make verb.Sim parts = command.Sim (operand 0 parts) (file_of feed parts) (commands_of connect parts) (number_of steps parts) (number_of events parts)
 make verb.Run parts = command.Run (operand 0 parts) (commands_of connect parts) (number_of ticks parts) (number_of events parts)
+make verb.Verify parts = command.Verify (operand 0 parts) (operand 1 parts) (commands_of connect parts)
+make verb.Iface parts = command.Iface (operand 0 parts) (operand 1 parts)
 make verb.Ring parts = command.Ring (digits_value (operand 0 parts)) (digits_value (operand 1 parts))
 
 -- so many commands may be connected: one on each lane
@@ -100,4 +109,6 @@ abbrev pub IsWithin : Command → Type 0
 IsWithin (command.Check script) = ⊤
 IsWithin (command.Sim script file commands step_limit event_limit) = (length commands ≤ most_connects) × ((1 ≤ step_limit) × (step_limit ≤ 4000000)) × ((1 ≤ event_limit) × (event_limit ≤ 4000000))
 IsWithin (command.Run script commands tick_limit event_limit) = (length commands ≤ most_connects) × (tick_limit ≤ 10000000) × ((1 ≤ event_limit) × (event_limit ≤ 4000000))
+IsWithin (command.Verify script log commands) = length commands ≤ most_connects
+IsWithin (command.Iface script tool) = ⊤
 IsWithin (command.Ring n k) = ((2 ≤ n) × (n ≤ 10000)) × (1 ≤ k) × (n * k ≤ 1000000)

@@ -3,7 +3,7 @@
 
 ghost use Rattle.std.specs.Prelude.{◌≡◌, map, option_map, option_copied, string_bytes, IfOk};
 ghost use Rattle.tb_cli.specs.Parts.{parts_of};
-ghost use Rattle.tb_cli.specs.Table.{make, IsWithin, check, sim, run, ring, row_named};
+ghost use Rattle.tb_cli.specs.Table.{make, IsWithin, check, sim, run, verify, iface, ring, row_named};
 ghost use Rattle.tb_cli.specs.Helpers.Tables.{row_of};
 ghost use Rattle.tb_cli.specs.Helpers.Fitting.{row_by, RowFits};
 
@@ -35,6 +35,18 @@ pub enum Command {
         connects: Texts,
         ticks: u64,
         events: u32,
+    },
+    /// Whether the file of the name `log` is the text of a trace of that script, with these commands connected.
+    Verify {
+        script: Text,
+        log: Text,
+        connects: Texts,
+    },
+    /// The interface of the tool of this name in that script: what the tool may receive and send. Any string is taken
+    /// for a name here.
+    Iface {
+        script: Text,
+        tool: Text,
     },
     /// A summary of the simulation of a ring of `n` processes that a message goes round `k` times.
     Ring {
@@ -103,6 +115,20 @@ const RUN: Row = Row {
     options: &[CONNECT, TICKS, EVENTS],
 };
 
+const VERIFY: Row = Row {
+    verb: Verb::Verify,
+    word: "verify",
+    operands: &[Kind::File, Kind::File],
+    options: &[CONNECT],
+};
+
+const IFACE: Row = Row {
+    verb: Verb::Iface,
+    word: "iface",
+    operands: &[Kind::File, Kind::File],
+    options: &[],
+};
+
 const RING: Row = Row {
     verb: Verb::Ring,
     word: "ring",
@@ -116,7 +142,7 @@ const RING: Row = Row {
     options: &[],
 };
 
-static TABLE: [Row; 4] = [CHECK, SIM, RUN, RING];
+static TABLE: [Row; 6] = [CHECK, SIM, RUN, VERIFY, IFACE, RING];
 
 /// The row of the command with this first word.
 pub(crate) fn row_named(word: &str) -> Option<&'static Row>
@@ -136,6 +162,8 @@ pub(crate) fn make_command(alloc: Global, verb: Verb, words: &[String]) -> Resul
         Verb::Check => make_check(alloc, words),
         Verb::Sim => make_sim(alloc, words),
         Verb::Run => make_run(alloc, words),
+        Verb::Verify => make_verify(alloc, words),
+        Verb::Iface => make_iface(alloc, words),
         Verb::Ring => Ok(make_ring(words)),
     }
 }
@@ -186,6 +214,33 @@ fn make_run(alloc: Global, words: &[String]) -> Result<Command, NoMemory>
         ticks: u64::from(ticks),
         events,
     })
+}
+
+fn make_verify(alloc: Global, words: &[String]) -> Result<Command, NoMemory>
+    requires { RowFits verify (parts_of (map string_bytes words.now)) }
+    ensures is { IfOk result
+        (λ command. command ≡ make Verb.Verify (parts_of (map string_bytes words.now))) }
+    ensures within { IfOk result IsWithin }
+{
+    let script = operand_text(alloc, words, 0)?;
+    let log = operand_text(alloc, words, 1)?;
+    let connects = option_commands(alloc, &CONNECT, words)?;
+    Ok(Command::Verify {
+        script,
+        log,
+        connects,
+    })
+}
+
+fn make_iface(alloc: Global, words: &[String]) -> Result<Command, NoMemory>
+    requires { RowFits iface (parts_of (map string_bytes words.now)) }
+    ensures is { IfOk result
+        (λ command. command ≡ make Verb.Iface (parts_of (map string_bytes words.now))) }
+    ensures within { IfOk result IsWithin }
+{
+    let script = operand_text(alloc, words, 0)?;
+    let tool = operand_text(alloc, words, 1)?;
+    Ok(Command::Iface { script, tool })
 }
 
 fn make_ring(words: &[String]) -> Command

@@ -9,8 +9,8 @@ use tb_line::Line;
 pub enum WordFault {
     /// There were no words.
     NoCommand,
-    /// The word at this position is no command, no option of its command, or a file's name or a command to
-    /// connect that is no string.
+    /// The word at this position is no command, no option of its command, or the name of a file or of a tool, or a
+    /// command to connect, that is no string.
     Unknown(usize),
     /// An operand lacks, or the value of an option.
     Missing,

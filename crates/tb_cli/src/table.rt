@@ -10,13 +10,15 @@ pub(crate) enum Verb {
     Check,
     Sim,
     Run,
+    Verify,
+    Iface,
     Ring,
 }
 
 /// What the value of an operand or of an option is.
 #[derive(Clone, Copy)]
 pub(crate) enum Kind {
-    /// The name of a file.
+    /// The name of a file, or of a tool: any string.
     File,
     /// A command to connect, one of several.
     Command,

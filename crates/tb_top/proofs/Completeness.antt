@@ -1,6 +1,7 @@
 -- Where nothing of the outside fails, and no limit is met, a command ends well, or memory ran out.
 use Rattle.std.proofs.Common.{◌≡◌, ◌≢◌, ℕ, ◌*◌, ◌<◌, ◌≤◌, Option, Some, None, List, [], ◌∷◌, Result, Ok, Err, refl, ap, sym, ◌∙◌, subst, length, inl, inr, ◌⊎◌, arith}
 use Rattle.tb_body.specs.declared.program.Program.{Program}
+use Rattle.tb_bus.specs.declared.origin.Origin.{Origin}
 use Rattle.tb_bus.specs.Buses.{start}
 use Rattle.tb_cli.specs.declared.command.Command.{Command}
 use Rattle.tb_cli.specs.declared.command.Command.TheVariants as command
@@ -16,6 +17,8 @@ use Rattle.tb_feed.proofs.FeedLemmas.{feed-fine, one-feed}
 use Rattle.tb_log.specs.declared.entry.Entry.{Entry}
 use Rattle.tb_log.specs.declared.entry.Input.{Input}
 use Rattle.tb_gen.specs.Ring.{ring_text}
+use Rattle.tb_iface.specs.Interfaces.{interface_of}
+use Rattle.tb_iface.specs.declared.answer.Interface.{Interface}
 use Rattle.tb_ring_law.specs.Ends.{GoesDown}
 use Rattle.tb_ring_law.proofs.GoesDown.{ring-goes-down}
 use Rattle.tb_script.specs.Findings.{IsFound, NoTokens, NoScript, Improper, Recursive, Large, ManyRoots, Program'}
@@ -26,20 +29,26 @@ use Rattle.tb_sim.specs.declared.ends.SimEnd.{SimEnd}
 use Rattle.tb_sim.specs.declared.ends.SimEnd.TheVariants as sim
 use Rattle.tb_sim.proofs.SimTraces.{one-sim}
 use Rattle.tb_top.specs.Check.{CheckOutcome}
-use Rattle.tb_top.specs.Loading.{HasProgram, IsLoaded, IsRefused, IsTooLong, IsUnloaded, most_bytes}
+use Rattle.tb_top.specs.Loading.{HasProgram, IsLoaded, IsLoadedWithin, IsLongerThan, IsRefused, IsTooLong, IsUnloaded, most_bytes}
 use Rattle.tb_top.specs.Outcomes.{Comes}
 use Rattle.tb_top.specs.Causes.{IsCaused}
-use Rattle.tb_top.specs.Completeness.{MustEnd, Reads}
+use Rattle.tb_top.specs.Completeness.{Due, Judged, Crowd, Long, IsDue, MustEnd, MustTell, Reads, due_status, tool_status}
+use Rattle.tb_top.specs.Iface.{IfaceOutcome}
 use Rattle.tb_top.specs.Reporting.{Reported, Reports}
 use Rattle.tb_top.specs.Ring.{IsRingOf, RingOutcome, most_of_ring, ring_origin}
 use Rattle.tb_top.specs.Sim.{IsFed, IsFeedRefused, IsSimOf, Request, SimOutcome, origin_for}
+use Rattle.tb_top.specs.Statuses.{status_of}
+use Rattle.tb_top.specs.Verify.{HasVerdict, IsCrowded, IsJudged, VerifyOutcome, VerifyRequest, log_origin, most_log_bytes}
 use Rattle.tb_top.specs.Views.{Seen}
+use Rattle.tb_verify.specs.declared.verdict.Verdict.TheVariants as verdict
+use Rattle.tb_verify.proofs.VerdictLemmas.{one_verdict}
 use Rattle.tb_top.specs.declared.fault.Fault.{Fault}
-use Rattle.tb_top.specs.declared.fault.Fault.TheVariants.{Script, Feed, Words, File, Out, Clock, Crew, Limit, NoMemory}
+use Rattle.tb_top.specs.declared.fault.Fault.TheVariants.{Script, Feed, Words, File, Out, Clock, Crew, Limit, NoMemory, Log, Stranger}
 use Rattle.tb_top.specs.declared.status.Status.{Status}
 use Rattle.tb_top.specs.declared.status.Status.TheVariants as status
 use Rattle.tb_top.specs.declared.status.Edge.TheVariants as edge
 use Rattle.tb_top.specs.declared.status.Bound.TheVariants as bound
+use Rattle.tb_top.specs.declared.status.LogWrong.TheVariants as log_wrong
 
 -- bytes that have a program aren't refused
 not-refused : (bytes : List ℕ) (program : Program) (fault : ScriptFault) → IsFound bytes (Program' program) → IsRefused bytes fault → ⊥
@@ -54,9 +63,14 @@ not-refused bytes program (script.NotBuilt token) found h = h
 not-refused bytes program script.NoMemory found h = h
 not-refused bytes program (script.TooLong len) found h = h
 
--- bytes that are loaded are those that are told
+-- bytes that are loaded are those that are told, and not more than so many
+told-within : (most : ℕ) (file : Option (List ℕ)) (bytes all : List ℕ) → file ≡ Some bytes → IsLoadedWithin most file all → (all ≡ bytes) × (length bytes ≤ most)
+told-within most file bytes all told loaded =
+    let same : all ≡ bytes = (subst (λ (it : Option (List ℕ)). IsLoadedWithin most it all) told loaded).0 in
+    (same, subst (λ (bs : List ℕ). length bs ≤ most) same loaded.1)
+
 is-told : (file : Option (List ℕ)) (bytes all : List ℕ) → file ≡ Some bytes → IsLoaded file all → all ≡ bytes
-is-told file bytes all told loaded = (subst (λ (it : Option (List ℕ)). IsLoaded it all) told loaded).0
+is-told file bytes all told loaded = (told-within most_bytes file bytes all told loaded).0
 
 -- a name that is told to hold few bytes doesn't hold too many
 not-long : (bytes : List ℕ) (len : ℕ) → length bytes ≤ most_bytes → IsTooLong (Some bytes) len → ⊥
@@ -91,6 +105,8 @@ check-well bytes program old new (Err (Feed fault)) few found file out h = absur
 check-well bytes program old new (Err (Words fault)) few found file out h = absurd h
 check-well bytes program old new (Err Clock) few found file out h = absurd h
 check-well bytes program old new (Err Crew) few found file out h = absurd h
+check-well bytes program old new (Err (Log wrong)) few found file out h = absurd h
+check-well bytes program old new (Err Stranger) few found file out h = absurd h
 check-well bytes program old new (Err (Limit bound)) few found file out h = absurd h
 
 -- a fault of a feed that reads
@@ -141,6 +157,8 @@ sim-well held request old new (Err (Feed fault)) must file out h = absurd (not-u
 sim-well held request old new (Err (Words fault)) must file out h = absurd h
 sim-well held request old new (Err Clock) must file out h = absurd h
 sim-well held request old new (Err Crew) must file out h = absurd h
+sim-well held request old new (Err (Log wrong)) must file out h = absurd h
+sim-well held request old new (Err Stranger) must file out h = absurd h
 sim-well held request old new (Err (Limit bound.Steps)) must file out (log, is, put) = let e : sim.Steps ≡ sim.Down = ends-down held request log sim.Steps must is in cc
 sim-well held request old new (Err (Limit bound.Events)) must file out (log, is, put) = let e : sim.Events ≡ sim.Down = ends-down held request log sim.Events must is in cc
 
@@ -153,6 +171,8 @@ reported-well (Err File) old new it well err h = absurd well
 reported-well (Err Out) old new it well err h = absurd well
 reported-well (Err Clock) old new it well err h = absurd well
 reported-well (Err Crew) old new it well err h = absurd well
+reported-well (Err (Log wrong)) old new it well err h = absurd well
+reported-well (Err Stranger) old new it well err h = absurd well
 reported-well (Err (Script fault)) old new it well err h = absurd well
 reported-well (Err (Feed fault)) old new it well err h = absurd well
 reported-well (Err (Words fault)) old new it well err h = absurd well
@@ -204,6 +224,8 @@ run-well held request bytes program old new (Err (Script fault)) told few found 
     not-unloaded bytes program fault few found (subst (λ (it : Option (List ℕ)). IsUnloaded it (Script fault)) told h.0)
 run-well held request bytes program old new (Err (Feed fault)) told few found file out clock crew h = h
 run-well held request bytes program old new (Err (Words fault)) told few found file out clock crew h = h
+run-well held request bytes program old new (Err (Log wrong)) told few found file out clock crew h = h
+run-well held request bytes program old new (Err Stranger) told few found file out clock crew h = h
 
 reported-live : {A : Type 0} (held : List ℕ → Option (List ℕ)) (request : RunRequest) (before after : OutsideView) (answer : Result A Fault) (old new : Option (List ℕ)) (it : Status) →
     EndsLive held request before after answer → (it ≡ status.Outside edge.Err → ⊥) → Reports answer old new it →
@@ -221,6 +243,111 @@ reported-live held request before after (Err Crew) old new it well err h = absur
 reported-live held request before after (Err (Script fault)) old new it well err h = absurd well
 reported-live held request before after (Err (Feed fault)) old new it well err h = absurd well
 reported-live held request before after (Err (Words fault)) old new it well err h = absurd well
+reported-live held request before after (Err (Log wrong)) old new it well err h = absurd well
+reported-live held request before after (Err Stranger) old new it well err h = absurd well
+
+-- what a command answers that has this status, or for which memory ran out
+abbrev Says : {A : Type 0} → Status → Result A Fault → Type 0
+Says due (Ok done) = status.Ended ≡ due
+Says due (Err fault) = (status_of fault ≡ due) ⊎ (fault ≡ NoMemory)
+
+reported-so : {A : Type 0} (answer : Result A Fault) (old new : Option (List ℕ)) (due it : Status) → Says due answer → (it ≡ status.Outside edge.Err → ⊥) → Reports answer old new it → (it ≡ due) ⊎ (it ≡ status.NoMemory)
+reported-so (Ok done) old new due it says err h = inl (h.0 ∙ says)
+reported-so (Err fault) old new due it (inl same) err (inl h) = inl (h.0 ∙ same)
+reported-so (Err fault) old new due it (inr none) err (inl h) = inr (h.0 ∙ ap status_of none)
+reported-so (Err fault) old new due it says err (inr h) = absurd (err h.0)
+
+-- what is said of the log of a request is said of the bytes that are told, as those of a log of the script's program
+judged : (held : List ℕ → Option (List ℕ)) (request : VerifyRequest) (bytes log : List ℕ) (program : Program) (Says : Origin → List ℕ → Type 0) →
+    held request.script ≡ Some bytes → IsFound bytes (Program' program) → held request.log ≡ Some log → IsJudged held request Says → (length log ≤ most_log_bytes) × Says (log_origin request program) log
+judged held request bytes log program Says told found told_log it =
+    let one : it.program ≡ program = one-program (held request.script) bytes program it.program told found it.has in
+    let same = told-within most_log_bytes (held request.log) log it.bytes told_log it.loaded in
+    (same.1, subst (λ (bs : List ℕ). Says (log_origin request program) bs) same.0 (subst (λ (p : Program). Says (log_origin request p) it.bytes) one it.says))
+
+-- a log that is told to hold these bytes is as long as they are
+long : (file : Option (List ℕ)) (log : List ℕ) (len : ℕ) → file ≡ Some log → IsLongerThan most_log_bytes file len → (most_log_bytes < length log) × (len ≡ length log)
+long file log len told longer =
+    let same : len ≡ length log = (subst (λ (it : Option (List ℕ)). IsLongerThan most_log_bytes it len) told longer).1 in
+    (subst (λ (n : ℕ). most_log_bytes < n) same longer.0, same)
+
+-- there is one thing to tell of bytes
+one-due : (origin : Origin) (bytes : List ℕ) (one other : Due) → IsDue origin bytes one → IsDue origin bytes other → one ≡ other
+one-due origin bytes (Judged verdict) (Judged same) (few, (is, room)) (small, (alike, space)) = ap Judged (one_verdict origin bytes verdict same is alike)
+one-due origin bytes (Judged verdict) Crowd (few, (is, room)) (small, (number, crowded)) = absurd (room number crowded)
+one-due origin bytes (Judged verdict) (Long len) (few, told) (over, same) = absurd (omega (arith, over, few))
+one-due origin bytes Crowd (Judged verdict) (few, (number, crowded)) (small, (is, room)) = absurd (room number crowded)
+one-due origin bytes Crowd Crowd h k = refl
+one-due origin bytes Crowd (Long len) (few, crowded) (over, same) = absurd (omega (arith, over, few))
+one-due origin bytes (Long len) (Judged verdict) (over, same) (few, told) = absurd (omega (arith, over, few))
+one-due origin bytes (Long len) Crowd (over, same) (few, crowded) = absurd (omega (arith, over, few))
+one-due origin bytes (Long len) (Long other) (over, same) (more, alike) = ap Long (same ∙ sym alike)
+
+-- the status of what is to be told
+due-one : (origin : Origin) (bytes : List ℕ) (one due : Due) → IsDue origin bytes one → IsDue origin bytes due → due_status one ≡ due_status due
+due-one origin bytes one due h k = ap due_status (one-due origin bytes one due h k)
+
+-- `verify` of a script that is accepted, and of a log that is told
+verify-well : {A : Type 0} (held : List ℕ → Option (List ℕ)) (request : VerifyRequest) (due : Due) (old new : Option (List ℕ)) (answer : Result A Fault) → MustTell held request due →
+    (answer ≡ Err File → ⊥) → (answer ≡ Err Out → ⊥) → VerifyOutcome held request old new answer → Says (due_status due) answer
+verify-well held request due old new (Ok done) must file out h =
+    due-one (log_origin request must.program) must.log (Judged verdict.Trace) due (judged held request must.bytes must.log must.program (HasVerdict verdict.Trace) must.told must.found must.told_log h.0) must.is_due
+verify-well held request due old new (Err (Log (log_wrong.Line number))) must file out h =
+    inl (due-one (log_origin request must.program) must.log (Judged (verdict.Line number)) due (judged held request must.bytes must.log must.program (HasVerdict (verdict.Line number)) must.told must.found must.told_log h.0) must.is_due)
+verify-well held request due old new (Err (Limit bound.Events)) must file out h =
+    inl (due-one (log_origin request must.program) must.log Crowd due (judged held request must.bytes must.log must.program IsCrowded must.told must.found must.told_log h.0) must.is_due)
+verify-well held request due old new (Err (Log (log_wrong.TooLong len))) must file out (accepted, longer, same) =
+    inl (due-one (log_origin request must.program) must.log (Long len) due (long (held request.log) must.log len must.told_log longer) must.is_due)
+verify-well held request due old new (Err NoMemory) must file out h = inr refl
+verify-well held request due old new (Err File) must file out h = absurd (file refl)
+verify-well held request due old new (Err Out) must file out h = absurd (out refl)
+verify-well held request due old new (Err (Script fault)) must file out h =
+    absurd (not-unloaded must.bytes must.program fault must.few must.found (subst (λ (it : Option (List ℕ)). IsUnloaded it (Script fault)) must.told h.0))
+verify-well held request due old new (Err (Limit bound.Steps)) must file out h = absurd h
+verify-well held request due old new (Err (Feed fault)) must file out h = absurd h
+verify-well held request due old new (Err (Words fault)) must file out h = absurd h
+verify-well held request due old new (Err Clock) must file out h = absurd h
+verify-well held request due old new (Err Crew) must file out h = absurd h
+verify-well held request due old new (Err Stranger) must file out h = absurd h
+
+pub verify-completes : (A : Type 0) (request : VerifyRequest) (due : Due) (old new : Seen) (told more : Option (List ℕ)) (it : Status) →
+    MustTell old.held request due → (Rose old.file_faults new.file_faults → ⊥) → (Rose old.outside.out_faults new.outside.out_faults → ⊥) → (it ≡ status.Outside edge.Err → ⊥) →
+    Reported {A = A} (Comes (Ok (command.Verify request.script request.log request.connects)) old new) told more it → (it ≡ due_status due) ⊎ (it ≡ status.NoMemory)
+verify-completes A request due old new told more it must file out err (answer, comes, reports) =
+    reported-so answer told more (due_status due) it
+    (verify-well old.held request due old.outside.put new.outside.put answer must (file-stays old new answer file comes.caused) (out-stays old new answer out comes.caused) comes.outcome.0)
+    err reports
+
+-- `iface` of a script that is accepted
+
+has-interface : (tool : List ℕ) (program other : Program) (found : Option Interface) → other ≡ program → interface_of other tool ≡ found → tool_status found ≡ tool_status (interface_of program tool)
+has-interface tool program other found one is = ap tool_status (sym is ∙ ap (λ (p : Program). interface_of p tool) one)
+
+iface-well : {A : Type 0} (bytes tool : List ℕ) (program : Program) (old new : Option (List ℕ)) (answer : Result A Fault) → length bytes ≤ most_bytes → IsFound bytes (Program' program) →
+    (answer ≡ Err File → ⊥) → (answer ≡ Err Out → ⊥) → IfaceOutcome (Some bytes) tool old new answer → Says (tool_status (interface_of program tool)) answer
+iface-well bytes tool program old new (Ok done) few found file out (interface, it, put) =
+    has-interface tool program it.program (Some interface) (one-program (Some bytes) bytes program it.program refl found it.has) it.is
+iface-well bytes tool program old new (Err Stranger) few found file out (it, put) =
+    inl (has-interface tool program it.program None (one-program (Some bytes) bytes program it.program refl found it.has) it.none)
+iface-well bytes tool program old new (Err NoMemory) few found file out h = inr refl
+iface-well bytes tool program old new (Err File) few found file out h = absurd (file refl)
+iface-well bytes tool program old new (Err Out) few found file out h = absurd (out refl)
+iface-well bytes tool program old new (Err (Script fault)) few found file out h = absurd (not-unloaded bytes program fault few found h.0)
+iface-well bytes tool program old new (Err (Feed fault)) few found file out h = absurd h
+iface-well bytes tool program old new (Err (Words fault)) few found file out h = absurd h
+iface-well bytes tool program old new (Err Clock) few found file out h = absurd h
+iface-well bytes tool program old new (Err Crew) few found file out h = absurd h
+iface-well bytes tool program old new (Err (Limit bound)) few found file out h = absurd h
+iface-well bytes tool program old new (Err (Log wrong)) few found file out h = absurd h
+
+pub iface-completes : (A : Type 0) (script tool bytes : List ℕ) (program : Program) (old new : Seen) (told more : Option (List ℕ)) (it : Status) →
+    old.held script ≡ Some bytes → length bytes ≤ most_bytes → IsFound bytes (Program' program) → (Rose old.file_faults new.file_faults → ⊥) → (Rose old.outside.out_faults new.outside.out_faults → ⊥) → (it ≡ status.Outside edge.Err → ⊥) →
+    Reported {A = A} (Comes (Ok (command.Iface script tool)) old new) told more it → (it ≡ tool_status (interface_of program tool)) ⊎ (it ≡ status.NoMemory)
+iface-completes A script tool bytes program old new told more it holds few found file out err (answer, comes, reports) =
+    reported-so answer told more (tool_status (interface_of program tool)) it
+    (iface-well bytes tool program old.outside.put new.outside.put answer few found (file-stays old new answer file comes.caused) (out-stays old new answer out comes.caused)
+    (subst (λ (held : Option (List ℕ)). IfaceOutcome held tool old.outside.put new.outside.put answer) holds comes.outcome.0))
+    err reports
 
 -- a thing of the outside whose count stays isn't named
 clock-stays : {A : Type 0} (old new : Seen) (answer : Result A Fault) → (Rose old.outside.clock_faults new.outside.clock_faults → ⊥) → IsCaused old new answer → answer ≡ Err Clock → ⊥
@@ -260,6 +387,8 @@ ring-well n k old new (Err (Limit bound.Events)) down out (log, is, put) = let e
 ring-well n k old new (Err File) down out h = absurd h
 ring-well n k old new (Err Clock) down out h = absurd h
 ring-well n k old new (Err Crew) down out h = absurd h
+ring-well n k old new (Err (Log wrong)) down out h = absurd h
+ring-well n k old new (Err Stranger) down out h = absurd h
 ring-well n k old new (Err (Feed fault)) down out h = absurd h
 ring-well n k old new (Err (Words fault)) down out h = absurd h
 

@@ -31,11 +31,18 @@ use Rattle.tb_run.specs.declared.ends.RunWhy.TheVariants as why
 use Rattle.tb_top.specs.Run.{IsRun, LiveOutcome, RunRequest}
 use Rattle.tb_top.specs.Views.{IsLeft, Seen}
 use Rattle.tb_top.specs.Ring.{IsRingOf, RingOutcome, most_of_ring, ring_origin, summary}
+use Rattle.tb_top.specs.Iface.{IfaceOutcome}
 use Rattle.tb_top.specs.Sim.{IsFed, IsSimOf, Request, SimOutcome}
-use Rattle.tb_top.specs.Helpers.Parts.{AsksFor, AsksForFeed, EndsRun, IsBehindScript, IsLive, IsLiveFault, IsRefusedBy, IsRingSimulated, IsSimulated, IsUnread, PutsText, PutsWhole}
+use Rattle.tb_top.specs.Verify.{HasRoom, VerifyOutcome, VerifyRequest}
+use Rattle.tb_verify.specs.Verdicts.{IsCrowdedAt}
+use Rattle.tb_verify.specs.declared.verdict.Verdict.{Verdict}
+use Rattle.tb_verify.specs.declared.verdict.VerifyFault.{VerifyFault}
+use Rattle.tb_verify.specs.declared.verdict.VerifyFault.TheVariants as verify
+use Rattle.tb_top.specs.Helpers.Parts.{AsksFor, EndsRun, HasNoInterface, IsBehindScript, IsLive, IsLiveFault, IsLogUnread, IsRefusedBy, IsRingSimulated, IsSimulated, IsUnread, PutsText, PutsWhole}
 use Rattle.tb_top.specs.declared.fault.Fault.{Fault}
-use Rattle.tb_top.specs.declared.fault.Fault.TheVariants.{Script, Feed, Words, File, Out, Clock, Crew, Limit, NoMemory}
+use Rattle.tb_top.specs.declared.fault.Fault.TheVariants.{Script, Feed, Words, File, Out, Clock, Crew, Limit, NoMemory, Log, Stranger}
 use Rattle.tb_top.specs.declared.status.Bound.TheVariants as bound
+use Rattle.tb_top.specs.declared.status.LogWrong.TheVariants as log_wrong
 
 -- what isn't touched
 left : (it : OutsideView) → IsLeft it it
@@ -70,6 +77,8 @@ log-written steps origin inputs log last old new (Err (Words fault)) is trace pr
 log-written steps origin inputs log last old new (Err File) is trace proper within put held script name fed has = absurd put.0
 log-written steps origin inputs log last old new (Err Clock) is trace proper within put held script name fed has = absurd put.0
 log-written steps origin inputs log last old new (Err Crew) is trace proper within put held script name fed has = absurd put.0
+log-written steps origin inputs log last old new (Err (Log wrong)) is trace proper within put held script name fed has = absurd put.0
+log-written steps origin inputs log last old new (Err Stranger) is trace proper within put held script name fed has = absurd put.0
 
 -- a feed that isn't read ends the work on a program
 pub unread : (A : Type 0) (held : List ℕ → Option (List ℕ)) (request : Request) (program : Program) (told : Option (List ℕ)) (fault : Fault) →
@@ -80,9 +89,50 @@ unread A held request program told NoMemory h has = inl refl
 unread A held request program told Out h has = absurd h
 unread A held request program told Clock h has = absurd h
 unread A held request program told Crew h has = absurd h
+unread A held request program told (Log wrong) h has = absurd h
+unread A held request program told Stranger h has = absurd h
 unread A held request program told (Script fault) h has = absurd h
 unread A held request program told (Words fault) h has = absurd h
 unread A held request program told (Limit bound) h has = absurd h
+
+-- a log that isn't read ends the work on a program
+pub log-unread : (A : Type 0) (held : List ℕ → Option (List ℕ)) (request : VerifyRequest) (program : Program) (put : Option (List ℕ)) (fault : Fault) →
+    IsLogUnread (held request.log) fault → HasProgram (held request.script) program → VerifyOutcome {A = A} held request put put (Err fault)
+log-unread A held request program put (Log (log_wrong.TooLong len)) h has = ((program, has), h, refl)
+log-unread A held request program put (Log (log_wrong.Line number)) h has = absurd h
+log-unread A held request program put File h has = refl
+log-unread A held request program put NoMemory h has = refl
+log-unread A held request program put Out h has = absurd h
+log-unread A held request program put Clock h has = absurd h
+log-unread A held request program put Crew h has = absurd h
+log-unread A held request program put Stranger h has = absurd h
+log-unread A held request program put (Script fault) h has = absurd h
+log-unread A held request program put (Feed fault) h has = absurd h
+log-unread A held request program put (Words fault) h has = absurd h
+log-unread A held request program put (Limit bound) h has = absurd h
+
+-- where there is a verdict, there was room
+pub has-room : (origin : Origin) (bytes : List ℕ) (verdict : Verdict) →
+    ((number : ℕ) → IsCrowdedAt origin bytes number → (◌≡◌ {A = Result Verdict VerifyFault} (Ok verdict) (Err verify.Full)) ⊎ (◌≡◌ {A = Result Verdict VerifyFault} (Ok verdict) (Err verify.NoMemory))) → HasRoom origin bytes
+has-room origin bytes verdict full number crowded = no (full number crowded) where
+  no : (◌≡◌ {A = Result Verdict VerifyFault} (Ok verdict) (Err verify.Full)) ⊎ (◌≡◌ {A = Result Verdict VerifyFault} (Ok verdict) (Err verify.NoMemory)) → ⊥
+  no (inl e) = absurd cc
+  no (inr e) = absurd cc
+
+-- a tool that has no interface ends it too
+pub no-interface : (A : Type 0) (told : Option (List ℕ)) (tool : List ℕ) (program : Program) (put : Option (List ℕ)) (fault : Fault) →
+    HasNoInterface program tool fault → HasProgram told program → IfaceOutcome {A = A} told tool put put (Err fault)
+no-interface A told tool program put Stranger h has = (record { program = program; has = has; none = h }, refl)
+no-interface A told tool program put NoMemory h has = refl
+no-interface A told tool program put File h has = absurd h
+no-interface A told tool program put Out h has = absurd h
+no-interface A told tool program put Clock h has = absurd h
+no-interface A told tool program put Crew h has = absurd h
+no-interface A told tool program put (Script fault) h has = absurd h
+no-interface A told tool program put (Feed fault) h has = absurd h
+no-interface A told tool program put (Words fault) h has = absurd h
+no-interface A told tool program put (Limit bound) h has = absurd h
+no-interface A told tool program put (Log wrong) h has = absurd h
 
 -- the summary of a ring was put, or a front of it
 ring-put : {A : Type 0} (n k : ℕ) (log : List Entry) (last : SimEnd) (old new : Option (List ℕ)) (answer : Result A Fault) → IsRingOf n k log last → PutsWhole (summary n log) last old new answer → RingOutcome n k old new answer
@@ -97,6 +147,8 @@ ring-put n k log last old new (Err (Words fault)) is put = absurd put.0
 ring-put n k log last old new (Err File) is put = absurd put.0
 ring-put n k log last old new (Err Clock) is put = absurd put.0
 ring-put n k log last old new (Err Crew) is put = absurd put.0
+ring-put n k log last old new (Err (Log wrong)) is put = absurd put.0
+ring-put n k log last old new (Err Stranger) is put = absurd put.0
 
 ring-of : (n k : ℕ) (origin : Origin) (log : List Entry) (last : SimEnd) → IsFound (ring_text n k) (Program' origin.program) →
     origin ≡ ring_origin origin.program → IsSim (limits_of most_of_ring origin) (sim_start (start origin) []) log last → IsTrace (start origin) log → IsRingOf n k log last
@@ -114,24 +166,26 @@ summary-written n origin log last old new answer e is trace put k found = ring-p
 
 -- Which names were asked for.
 
--- behind the script's name the feed's was asked for
-then-feed : (told : Option (List ℕ)) (script : List ℕ) (others old mid new : List (List ℕ)) → IsAccepted told → mid ≡ old ++ script ∷ [] → new ≡ mid ++ others → AsksAll told script others old new
-then-feed told script others old mid new accepted e h =
+-- behind the script's name the others were asked for
+then-others : (told : Option (List ℕ)) (script : List ℕ) (others old mid new : List (List ℕ)) → IsAccepted told → mid ≡ old ++ script ∷ [] → new ≡ mid ++ others → AsksAll told script others old new
+then-others told script others old mid new accepted e h =
     (accepted, h ∙ ap (λ (names : List (List ℕ)). names ++ others) e ∙ append_assoc old (script ∷ []) others)
 
-pub asks-feed : {A : Type 0} (told : Option (List ℕ)) (script : List ℕ) (feed : Option (List ℕ)) (old mid new : List (List ℕ)) (answer : Result A Fault) → IsAccepted told →
-    mid ≡ old ++ script ∷ [] → IfErr answer IsBehindScript → AsksForFeed feed mid new answer → AsksBeside told script (option_to_list feed) old new answer
-asks-feed told script feed old mid new (Ok done) accepted e behind asks = then-feed told script (option_to_list feed) old mid new accepted e asks
-asks-feed told script feed old mid new (Err (Script fault)) accepted e behind asks = absurd behind
-asks-feed told script feed old mid new (Err (Feed fault)) accepted e behind asks = then-feed told script (option_to_list feed) old mid new accepted e asks
-asks-feed told script feed old mid new (Err (Words fault)) accepted e behind asks = then-feed told script (option_to_list feed) old mid new accepted e asks
-asks-feed told script feed old mid new (Err File) accepted e behind asks = inr (then-feed told script (option_to_list feed) old mid new accepted e asks)
-asks-feed told script feed old mid new (Err Out) accepted e behind asks = then-feed told script (option_to_list feed) old mid new accepted e asks
-asks-feed told script feed old mid new (Err Clock) accepted e behind asks = then-feed told script (option_to_list feed) old mid new accepted e asks
-asks-feed told script feed old mid new (Err Crew) accepted e behind asks = then-feed told script (option_to_list feed) old mid new accepted e asks
-asks-feed told script feed old mid new (Err (Limit bound)) accepted e behind asks = then-feed told script (option_to_list feed) old mid new accepted e asks
-asks-feed told script feed old mid new (Err NoMemory) accepted e behind (inl h) = inr (inl (h ∙ e))
-asks-feed told script feed old mid new (Err NoMemory) accepted e behind (inr h) = inr (inr (then-feed told script (option_to_list feed) old mid new accepted e h))
+pub asks-others : {A : Type 0} (told : Option (List ℕ)) (script : List ℕ) (others old mid new : List (List ℕ)) (answer : Result A Fault) → IsAccepted told →
+    mid ≡ old ++ script ∷ [] → IfErr answer IsBehindScript → AsksFor others mid new answer → AsksBeside told script others old new answer
+asks-others told script others old mid new (Ok done) accepted e behind asks = then-others told script others old mid new accepted e asks
+asks-others told script others old mid new (Err (Script fault)) accepted e behind asks = absurd behind
+asks-others told script others old mid new (Err (Feed fault)) accepted e behind asks = then-others told script others old mid new accepted e asks
+asks-others told script others old mid new (Err (Words fault)) accepted e behind asks = then-others told script others old mid new accepted e asks
+asks-others told script others old mid new (Err File) accepted e behind asks = inr (then-others told script others old mid new accepted e asks)
+asks-others told script others old mid new (Err Out) accepted e behind asks = then-others told script others old mid new accepted e asks
+asks-others told script others old mid new (Err Clock) accepted e behind asks = then-others told script others old mid new accepted e asks
+asks-others told script others old mid new (Err Crew) accepted e behind asks = then-others told script others old mid new accepted e asks
+asks-others told script others old mid new (Err (Log wrong)) accepted e behind asks = then-others told script others old mid new accepted e asks
+asks-others told script others old mid new (Err Stranger) accepted e behind asks = then-others told script others old mid new accepted e asks
+asks-others told script others old mid new (Err (Limit bound)) accepted e behind asks = then-others told script others old mid new accepted e asks
+asks-others told script others old mid new (Err NoMemory) accepted e behind (inl h) = inr (inl (h ∙ e))
+asks-others told script others old mid new (Err NoMemory) accepted e behind (inr h) = inr (inr (then-others told script others old mid new accepted e h))
 
 -- a command with a script alone asks for nothing more
 pub asks-alone : {A : Type 0} (told : Option (List ℕ)) (script : List ℕ) (old new : List (List ℕ)) (answer : Result A Fault) → IsAccepted told →
@@ -144,6 +198,8 @@ asks-alone told script old new (Err File) accepted e behind = inr (accepted, e)
 asks-alone told script old new (Err Out) accepted e behind = (accepted, e)
 asks-alone told script old new (Err Clock) accepted e behind = (accepted, e)
 asks-alone told script old new (Err Crew) accepted e behind = (accepted, e)
+asks-alone told script old new (Err (Log wrong)) accepted e behind = (accepted, e)
+asks-alone told script old new (Err Stranger) accepted e behind = (accepted, e)
 asks-alone told script old new (Err (Limit bound)) accepted e behind = (accepted, e)
 asks-alone told script old new (Err NoMemory) accepted e behind = inr (inr (accepted, e))
 
@@ -168,6 +224,8 @@ asks-some-of told script others old new (Err File) (inr h) = asks-all told scrip
 asks-some-of told script others old new (Err Out) h = asks-all told script others old new h
 asks-some-of told script others old new (Err Clock) h = asks-all told script others old new h
 asks-some-of told script others old new (Err Crew) h = asks-all told script others old new h
+asks-some-of told script others old new (Err (Log wrong)) h = asks-all told script others old new h
+asks-some-of told script others old new (Err Stranger) h = asks-all told script others old new h
 asks-some-of told script others old new (Err (Limit bound)) h = asks-all told script others old new h
 asks-some-of told script others old new (Err NoMemory) (inl h) = asks-none (script ∷ others) old new h
 asks-some-of told script others old new (Err NoMemory) (inr (inl h)) = asks-one script others old new h
@@ -187,6 +245,8 @@ ring-refused A n k bytes told File e h = absurd h
 ring-refused A n k bytes told Out e h = absurd h
 ring-refused A n k bytes told Clock e h = absurd h
 ring-refused A n k bytes told Crew e h = absurd h
+ring-refused A n k bytes told (Log wrong) e h = absurd h
+ring-refused A n k bytes told Stranger e h = absurd h
 ring-refused A n k bytes told (Limit bound) e h = absurd h
 
 -- memory ran out before anything was done
@@ -196,6 +256,8 @@ not-begun A (Ok (command.Check script)) old ok = (refl, left old.outside)
 not-begun A (Ok (command.Sim script feed connects steps events)) old ok = (inl refl, left old.outside)
 not-begun A (Ok (command.Ring n k)) old ok = (refl, left old.outside)
 not-begun A (Ok (command.Run script connects ticks events)) old ok = inl (refl, left old.outside)
+not-begun A (Ok (command.Verify script log connects)) old ok = (refl, left old.outside)
+not-begun A (Ok (command.Iface script tool)) old ok = (refl, left old.outside)
 
 -- a run that ended so
 abbrev run_request : List ℕ → ℕ → Origin → RunRequest
@@ -218,6 +280,8 @@ run-ended ticks origin old new back it (Err (Script fault)) runs e held script h
 run-ended ticks origin old new back it (Err (Feed fault)) runs e held script has = absurd e
 run-ended ticks origin old new back it (Err (Words fault)) runs e held script has = absurd e
 run-ended ticks origin old new back it (Err File) runs e held script has = absurd e
+run-ended ticks origin old new back it (Err (Log wrong)) runs e held script has = absurd e
+run-ended ticks origin old new back it (Err Stranger) runs e held script has = absurd e
 
 -- what rose where a thing of the outside is named
 pub out-rose : {A : Type 0} (ticks : ℕ) (origin : Origin) (old new : OutsideView) (back : CoreState) (it : RunWhy) (answer : Result A Fault) → Runs ticks old new origin back it → EndsRun it answer → answer ≡ Err Out → Rose old.out_faults new.out_faults
@@ -243,6 +307,8 @@ live-behind (Ok done) h = tt
 live-behind (Err Out) h = tt
 live-behind (Err Clock) h = tt
 live-behind (Err Crew) h = tt
+live-behind (Err (Log wrong)) h = tt
+live-behind (Err Stranger) h = tt
 live-behind (Err (Limit bound)) h = tt
 live-behind (Err NoMemory) h = tt
 live-behind (Err (Script fault)) h = h

@@ -1,15 +1,24 @@
--- What is asked of a script and a feed so that their simulation must end well, unless something of the outside fails or memory runs out.
-use Rattle.std.specs.Prelude.{◌≡◌, ◌≤◌, ℕ, List, [], Option, Some, None, length}
+-- What files must hold so that one status alone can come, unless something of the outside fails or memory runs out.
+use Rattle.std.specs.Prelude.{◌≡◌, ◌<◌, ◌≤◌, ℕ, List, [], Option, Some, None, length}
 use Rattle.tb_body.specs.declared.program.Program.{Program}
 use Rattle.tb_bus.specs.Buses.{start}
+use Rattle.tb_bus.specs.declared.origin.Origin.{Origin}
 use Rattle.tb_feed.specs.Feeds.{IsFeedOf}
 use Rattle.tb_log.specs.declared.entry.Entry.{Entry}
 use Rattle.tb_log.specs.declared.entry.Input.{Input}
+use Rattle.tb_iface.specs.declared.answer.Interface.{Interface}
 use Rattle.tb_script.specs.Findings.{IsFound, Program'}
 use Rattle.tb_sim.specs.Simulation.{IsSim, limits_of, sim_start}
 use Rattle.tb_sim.specs.declared.ends.SimEnd.TheVariants as sim
 use Rattle.tb_top.specs.Loading.{most_bytes}
 use Rattle.tb_top.specs.Sim.{Request, origin_for}
+use Rattle.tb_top.specs.Verify.{HasVerdict, IsCrowded, VerifyRequest, log_origin, most_log_bytes}
+use Rattle.tb_top.specs.declared.status.Status.{Status}
+use Rattle.tb_top.specs.declared.status.Status.TheVariants as status
+use Rattle.tb_top.specs.declared.status.Bound.TheVariants as bound
+use Rattle.tb_top.specs.declared.status.LogWrong.TheVariants as log_wrong
+use Rattle.tb_verify.specs.declared.verdict.Verdict.{Verdict}
+use Rattle.tb_verify.specs.declared.verdict.Verdict.TheVariants as verdict
 
 -- The feed reads as these inputs: its file is told to hold few bytes, which are a feed; or no file is named, and there are none.
 abbrev pub Reads : (List ℕ → Option (List ℕ)) → Option (List ℕ) → List Input → Type 0
@@ -27,3 +36,41 @@ pub record MustEnd (held : List ℕ → Option (List ℕ)) (request : Request) :
   pub reads : Reads held request.feed inputs
   pub log : List Entry
   pub ends : IsSim (limits_of request.steps (origin_for request program)) (sim_start (start (origin_for request program)) inputs) log sim.Down
+
+-- What there is to tell of the file of a log.
+pub data Due : Type 0 where
+  -- the verdict on it
+  Judged : Verdict → Due
+  -- that there is no room for one of its entries
+  Crowd : Due
+  -- that it has so many bytes, too many
+  Long : ℕ → Due
+
+-- the status that tells it
+abbrev pub due_status : Due → Status
+due_status (Judged verdict.Trace) = status.Ended
+due_status (Judged (verdict.Line number)) = status.Log (log_wrong.Line number)
+due_status Crowd = status.Limit bound.Events
+due_status (Long len) = status.Log (log_wrong.TooLong len)
+
+-- whether it is so of these bytes, as those of a log that has this origin
+abbrev pub IsDue : Origin → List ℕ → Due → Type 0
+IsDue origin bytes (Judged verdict) = (length bytes ≤ most_log_bytes) × HasVerdict verdict origin bytes
+IsDue origin bytes Crowd = (length bytes ≤ most_log_bytes) × IsCrowded origin bytes
+IsDue origin bytes (Long len) = (most_log_bytes < length bytes) × (len ≡ length bytes)
+
+-- The script's file is told to hold few bytes, which have a program; and the log's file is told to hold bytes of which this is to be told.
+pub record MustTell (held : List ℕ → Option (List ℕ)) (request : VerifyRequest) (due : Due) : Type 0 where
+  pub bytes : List ℕ
+  pub told : held request.script ≡ Some bytes
+  pub few : length bytes ≤ most_bytes
+  pub program : Program
+  pub found : IsFound bytes (Program' program)
+  pub log : List ℕ
+  pub told_log : held request.log ≡ Some log
+  pub is_due : IsDue (log_origin request program) log due
+
+-- the status that a tool with this interface calls for, or none
+abbrev pub tool_status : Option Interface → Status
+tool_status None = status.Stranger
+tool_status (Some interface) = status.Ended

@@ -3,6 +3,7 @@ pub mod Causes
 pub mod Check
 pub mod Completeness
 pub mod Helpers
+pub mod Iface
 pub mod Lines
 pub mod Loading
 pub mod OneLog
@@ -12,4 +13,5 @@ pub mod Ring
 pub mod Run
 pub mod Sim
 pub mod Statuses
+pub mod Verify
 pub mod Views

@@ -1,16 +1,23 @@
 -- The line that is put of each fault.
 use Rattle.std.specs.Prelude.{ℕ, List, [], ◌∷◌, ◌++◌, codes}
+use Rattle.std.specs.Fmt.{decimal}
 use Rattle.tb_script.specs.Lines.{script_line}
 use Rattle.tb_feed.specs.Lines.{feed_line}
 use Rattle.tb_cli.specs.Lines.{word_line}
 use Rattle.tb_top.specs.declared.fault.Fault.{Fault}
-use Rattle.tb_top.specs.declared.fault.Fault.TheVariants.{Script, Feed, Words, File, Out, Clock, Crew, Limit, NoMemory}
+use Rattle.tb_top.specs.declared.fault.Fault.TheVariants.{Script, Feed, Words, File, Out, Clock, Crew, Limit, NoMemory, Log, Stranger}
 use Rattle.tb_top.specs.declared.status.Bound.{Bound}
 use Rattle.tb_top.specs.declared.status.Bound.TheVariants as bound
+use Rattle.tb_top.specs.declared.status.LogWrong.{LogWrong}
+use Rattle.tb_top.specs.declared.status.LogWrong.TheVariants as log_wrong
 
 abbrev pub bound_words : Bound → List ℕ
 bound_words bound.Steps = codes "limit: steps"
 bound_words bound.Events = codes "limit: events"
+
+abbrev pub log_words : LogWrong → List ℕ
+log_words (log_wrong.Line number) = codes "log: line " ++ decimal number
+log_words (log_wrong.TooLong len) = codes "log: too long " ++ decimal len
 
 abbrev pub fault_words : Fault → List ℕ
 fault_words (Script fault) = script_line fault
@@ -22,6 +29,8 @@ fault_words Clock = codes "outside: clock"
 fault_words Crew = codes "outside: crew"
 fault_words (Limit bound) = bound_words bound
 fault_words NoMemory = codes "no memory"
+fault_words (Log wrong) = log_words wrong
+fault_words Stranger = codes "tool: stranger"
 
 -- the program's name, the words of the fault, and the end of the line
 abbrev pub fault_line : Fault → List ℕ

@@ -12,13 +12,20 @@ use Rattle.tb_top.specs.declared.fault.Fault.TheVariants.{Script, File, NoMemory
 abbrev pub most_bytes : ℕ
 most_bytes = 1048576
 
--- bytes that may be loaded: those that the name holds, where the files tell them, and not too many
-abbrev pub IsLoaded : Option (List ℕ) → List ℕ → Type 0
-IsLoaded told bytes = IfSome told (λ held. bytes ≡ held) × (length bytes ≤ most_bytes)
+-- bytes that may be loaded: those that the name holds, where the files tell them, and not more than so many
+abbrev pub IsLoadedWithin : ℕ → Option (List ℕ) → List ℕ → Type 0
+IsLoadedWithin most told bytes = IfSome told (λ held. bytes ≡ held) × (length bytes ≤ most)
 
 -- the name holds so many bytes, where the files tell them, and these are too many
+abbrev pub IsLongerThan : ℕ → Option (List ℕ) → ℕ → Type 0
+IsLongerThan most told len = (most < len) × IfSome told (λ held. len ≡ length held)
+
+-- the same of a script and of a feed
+abbrev pub IsLoaded : Option (List ℕ) → List ℕ → Type 0
+IsLoaded told bytes = IsLoadedWithin most_bytes told bytes
+
 abbrev pub IsTooLong : Option (List ℕ) → ℕ → Type 0
-IsTooLong told len = (most_bytes < len) × IfSome told (λ held. len ≡ length held)
+IsTooLong told len = IsLongerThan most_bytes told len
 
 -- What a fault of a script says of its bytes: this was found of them, and nothing else is.
 abbrev pub IsRefused : List ℕ → ScriptFault → Type 0

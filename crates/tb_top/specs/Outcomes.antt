@@ -7,9 +7,11 @@ use Rattle.tb_cli.specs.declared.fault.WordFault.TheVariants as word
 use Rattle.tb_top.specs.Asking.{Asks}
 use Rattle.tb_top.specs.Causes.{IsCaused}
 use Rattle.tb_top.specs.Check.{CheckOutcome}
+use Rattle.tb_top.specs.Iface.{IfaceOutcome}
 use Rattle.tb_top.specs.Ring.{RingOutcome}
 use Rattle.tb_top.specs.Run.{IsUntouched, LiveOutcome}
 use Rattle.tb_top.specs.Sim.{Request, SimOutcome}
+use Rattle.tb_top.specs.Verify.{VerifyOutcome, VerifyRequest}
 use Rattle.tb_top.specs.Views.{IsLeft, Seen}
 use Rattle.tb_top.specs.declared.fault.Fault.{Fault}
 use Rattle.tb_top.specs.declared.fault.Fault.TheVariants.{Words}
@@ -23,6 +25,9 @@ CommandOutcome (Ok (command.Sim script feed connects steps events)) old new answ
 CommandOutcome (Ok (command.Ring n k)) old new answer = RingOutcome n k old.outside.put new.outside.put answer × IsLeft old.outside new.outside
 CommandOutcome (Ok (command.Run script connects ticks events)) old new answer =
     LiveOutcome old.held (record { script = script; connects = connects; ticks = ticks; events = events }) old.outside new.outside answer
+CommandOutcome (Ok (command.Verify script log connects)) old new answer =
+    VerifyOutcome old.held (record { script = script; log = log; connects = connects }) old.outside.put new.outside.put answer × IsLeft old.outside new.outside
+CommandOutcome (Ok (command.Iface script tool)) old new answer = IfaceOutcome (old.held script) tool old.outside.put new.outside.put answer × IsLeft old.outside new.outside
 
 -- the names of the files that are asked for, in order
 abbrev pub files_of : Result Command WordFault → List (List ℕ)
@@ -31,6 +36,8 @@ files_of (Ok (command.Check script)) = script ∷ []
 files_of (Ok (command.Sim script feed connects steps events)) = script ∷ option_to_list feed
 files_of (Ok (command.Ring n k)) = []
 files_of (Ok (command.Run script connects ticks events)) = script ∷ []
+files_of (Ok (command.Verify script log connects)) = script ∷ log ∷ []
+files_of (Ok (command.Iface script tool)) = script ∷ []
 
 -- An answer may come: by what was put, by the counts of faults, and by the names that were asked for.
 pub record Comes {A : Type 0} (asked : Result Command WordFault) (old new : Seen) (answer : Result A Fault) : Type 0 where

@@ -1,9 +1,9 @@
 ghost use Rattle.std.specs.Prelude.{◌≡◌};
 ghost use Rattle.tb_line.specs.Lines.{line_text};
-ghost use Rattle.tb_top.specs.Lines.{bound_words};
+ghost use Rattle.tb_top.specs.Lines.{bound_words, log_words};
 ghost use Rattle.tb_top.specs.Helpers.Parts.{EndsAs};
 
-use crate::status::{Bound, Edge, Status};
+use crate::status::{Bound, Edge, LogWrong, Status};
 use tb_cli::WordFault;
 use tb_feed::FeedFault;
 use tb_line::Line;
@@ -29,12 +29,16 @@ pub enum Fault {
     Crew,
     Limit(Bound),
     NoMemory,
+    /// The log was refused.
+    Log(LogWrong),
+    /// The script has no such tool.
+    Stranger,
 }
 
 impl Fault {
     ghost use Rattle.std.specs.Prelude.{◌≡◌};
     ghost use Rattle.tb_line.specs.Lines.{line_text};
-    ghost use Rattle.tb_top.specs.Lines.{fault_words, bound_words};
+    ghost use Rattle.tb_top.specs.Lines.{fault_words, bound_words, log_words};
     ghost use Rattle.tb_top.specs.Statuses.{status_of};
 
     /// The status that the program ends with.
@@ -51,6 +55,8 @@ impl Fault {
             Fault::Crew => Status::Outside(Edge::Crew),
             Fault::Limit(bound) => Status::Limit(bound),
             Fault::NoMemory => Status::NoMemory,
+            Fault::Log(wrong) => Status::Log(wrong),
+            Fault::Stranger => Status::Stranger,
         }
     }
 
@@ -68,6 +74,8 @@ impl Fault {
             Fault::Crew => Line::plain(b"outside: crew"),
             Fault::Limit(bound) => bound_line(*bound),
             Fault::NoMemory => Line::plain(b"no memory"),
+            Fault::Log(wrong) => log_line(*wrong),
+            Fault::Stranger => Line::plain(b"tool: stranger"),
         }
     }
 }
@@ -78,6 +86,15 @@ fn bound_line(bound: Bound) -> Line<'static>
     match bound {
         Bound::Steps => Line::plain(b"limit: steps"),
         Bound::Events => Line::plain(b"limit: events"),
+    }
+}
+
+fn log_line(wrong: LogWrong) -> Line<'static>
+    ensures { line_text result ≡ log_words wrong }
+{
+    match wrong {
+        LogWrong::Line(number) => Line::numbered(b"log: line ", number as usize),
+        LogWrong::TooLong(len) => Line::numbered(b"log: too long ", len),
     }
 }
 

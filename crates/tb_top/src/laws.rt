@@ -1,10 +1,11 @@
 ghost use Rattle.std.specs.Prelude.{◌≡◌, ◌≢◌, ◌≤◌, ◌<◌, ◌^◌, ◌+◌, ◌*◌, ◌⊎◌, ◌++◌, ◌∷◌, [], ℕ, List, Option, Ok, Some, codes, length};
 ghost use Rattle.std.specs.Fmt.{decimal};
 ghost use Rattle.tb_body.specs.declared.program.Program.{Program};
-ghost use Rattle.tb_cli.specs.declared.command.Command.TheVariants.{Check, Ring, Run, Sim};
+ghost use Rattle.tb_cli.specs.declared.command.Command.TheVariants.{Check, Iface, Ring, Run, Sim, Verify};
 ghost use Rattle.tb_cli.specs.Words.{asked};
 ghost use Rattle.tb_edge.specs.Faults.{Rose};
 ghost use Rattle.tb_edge.specs.Sinks.{Writes};
+ghost use Rattle.tb_iface.specs.Interfaces.{interface_of};
 ghost use Rattle.tb_log.specs.LogText.{log_text};
 ghost use Rattle.tb_log.specs.declared.entry.Entry.{Entry};
 ghost use Rattle.tb_run.specs.Views.{OutsideView};
@@ -13,7 +14,7 @@ ghost use Rattle.tb_run.specs.declared.ends.RunWhy.TheVariants as why;
 ghost use Rattle.tb_script.specs.Findings.{IsFound, Program'};
 ghost use Rattle.tb_sim.specs.declared.ends.SimEnd.{SimEnd};
 ghost use Rattle.tb_sim.specs.declared.ends.SimEnd.TheVariants.{Down};
-ghost use Rattle.tb_top.specs.Completeness.{MustEnd};
+ghost use Rattle.tb_top.specs.Completeness.{Due, MustEnd, MustTell, due_status, tool_status};
 ghost use Rattle.tb_top.specs.Loading.{most_bytes};
 ghost use Rattle.tb_top.specs.OneLog.{HasPut, PutsAll};
 ghost use Rattle.tb_top.specs.Outcomes.{Comes};
@@ -21,6 +22,7 @@ ghost use Rattle.tb_top.specs.Reporting.{Reported};
 ghost use Rattle.tb_top.specs.Ring.{IsRingOf, summary};
 ghost use Rattle.tb_top.specs.Run.{IsRun, RunRequest};
 ghost use Rattle.tb_top.specs.Sim.{IsSimOf, Request};
+ghost use Rattle.tb_top.specs.Verify.{VerifyRequest};
 ghost use Rattle.tb_top.specs.Views.{Seen};
 
 use crate::status::{Bound, Edge, Status};
@@ -46,6 +48,30 @@ pub fn a_simulation_that_ends_is_put()
         → Reported {A = Unit {0}} (Comes (Ok (Sim request.script request.feed request.connects
         request.steps request.events)) old new) told more status
         → (status ≡ Status.Ended) ⊎ (status ≡ Status.NoMemory) }
+{}
+
+/// What there is to tell of a log is told by `verify`: whether it is a trace, at which line it is none, or that there is no room for it.
+pub fn a_log_is_judged()
+    ensures { (request : VerifyRequest) (due : Due) (old new : Seen) (told more : Option (List ℕ))
+        (status : Status) → MustTell old.held request due
+        → (Rose old.file_faults new.file_faults → ⊥)
+        → (Rose old.outside.out_faults new.outside.out_faults → ⊥)
+        → (status ≡ Status.Outside Edge.Err → ⊥)
+        → Reported {A = Unit {0}}
+        (Comes (Ok (Verify request.script request.log request.connects)) old new) told more status
+        → (status ≡ due_status due) ⊎ (status ≡ Status.NoMemory) }
+{}
+
+/// The same of `iface` of a script that is accepted: the interface is put of a tool of the script, and of no other word.
+pub fn a_tool_of_a_script_has_its_interface_put()
+    ensures { (script tool bytes : List ℕ) (program : Program) (old new : Seen)
+        (told more : Option (List ℕ)) (status : Status) → old.held script ≡ Some bytes
+        → length bytes ≤ most_bytes → IsFound bytes (Program' program)
+        → (Rose old.file_faults new.file_faults → ⊥)
+        → (Rose old.outside.out_faults new.outside.out_faults → ⊥)
+        → (status ≡ Status.Outside Edge.Err → ⊥)
+        → Reported {A = Unit {0}} (Comes (Ok (Iface script tool)) old new) told more status
+        → (status ≡ tool_status (interface_of program tool)) ⊎ (status ≡ Status.NoMemory) }
 {}
 
 /// The same of `ring`, whatever the words ask for: its script is accepted, and its simulation ends by its own.

@@ -3,20 +3,25 @@ ghost use Rattle.std.specs.Prelude.{◌≡◌, ◌≤◌, [], ◌∷◌, Some, I
 ghost use Rattle.tb_edge.specs.Faults.{Rose};
 ghost use Rattle.tb_feed.specs.Feeds.{IsFeedOf};
 ghost use Rattle.tb_script.specs.Findings.{IsFound, Program'};
-ghost use Rattle.tb_top.specs.Loading.{HasProgram, IsRefused, IsUnloaded};
+ghost use Rattle.tb_top.specs.Loading.{HasProgram, IsLoadedWithin, IsRefused, IsUnloaded};
 ghost use Rattle.tb_top.specs.Sim.{IsFed};
-ghost use Rattle.tb_top.specs.Helpers.Parts.{AsksFor, AsksForFeed, IsBadFeed, IsRefusedBy, IsUnread};
+ghost use Rattle.tb_top.specs.Verify.{most_log_bytes};
+ghost use Rattle.tb_top.specs.Helpers.Parts.{AsksFor, AsksForFeed, IsBadFeed, IsLogUnread, IsRefusedBy, IsUnread};
 
 use crate::fault::Fault;
+use crate::status::LogWrong;
 use std::alloc::Global;
 use tb_body::Program;
-use tb_edge::{Files, FilesFault, Loaded};
+use tb_edge::{Bytes, Files, FilesFault, Loaded};
 use tb_feed::{Feed, FeedFault, read_feed};
 use tb_script::{ScriptFault, load};
 use tb_terms::Text;
 
-/// A longer file is refused.
+/// A longer file of a script or of a feed is refused.
 pub const MOST_BYTES: usize = 1_048_576;
+
+/// A longer file of a log is refused.
+const MOST_LOG_BYTES: usize = 67_108_864;
 
 /// The program of the script in the file of this name.
 pub fn load_script<F: Files>(alloc: Global, name: &str, files: &mut F) -> Result<Program, Fault>
@@ -86,5 +91,21 @@ fn read_bytes(alloc: Global, bytes: &[u8]) -> Result<Feed, Fault>
         Ok(feed) => Ok(feed),
         Err(FeedFault::NoMemory) => Err(Fault::NoMemory),
         Err(fault) => Err(Fault::Feed(fault)),
+    }
+}
+
+/// The bytes of the log in the file of this name.
+pub fn load_log<F: Files>(alloc: Global, name: &str, files: &mut F) -> Result<Bytes, Fault>
+    ensures ok { IfOk result (IsLoadedWithin most_log_bytes (F.held files.old name.now)) }
+    ensures err { IfErr result (IsLogUnread (F.held files.old name.now)) }
+    ensures asks { AsksFor (name.now ∷ []) (F.asked files.old) (F.asked files.new) result }
+    ensures rose { result ≡ Err Fault.File → Rose (F.faults files.old) (F.faults files.new) }
+    ensures never_falls { F.faults files.old ≤ F.faults files.new }
+{
+    match files.load(alloc, name, MOST_LOG_BYTES) {
+        Ok(Loaded::Bytes(bytes)) => Ok(bytes),
+        Ok(Loaded::TooLong(len)) => Err(Fault::Log(LogWrong::TooLong(len))),
+        Err(FilesFault::Failed) => Err(Fault::File),
+        Err(FilesFault::NoMemory) => Err(Fault::NoMemory),
     }
 }

@@ -20,6 +20,15 @@ pub enum Bound {
     Events,
 }
 
+/// Why a log was refused.
+#[derive(Clone, Copy, Debug, PartialEq, Eq)]
+pub enum LogWrong {
+    /// The lines before the line of this number, from 1, are a trace. With this line they aren't.
+    Line(u64),
+    /// The file of the log has so many bytes, too many.
+    TooLong(usize),
+}
+
 /// How a call of the program ended. Running out of memory is `NoMemory` alone, whichever part met it.
 #[derive(Debug, Drop)]
 pub enum Status {
@@ -33,6 +42,10 @@ pub enum Status {
     Outside(Edge),
     Limit(Bound),
     NoMemory,
+    /// The log isn't a trace of the script, or is too long to be checked.
+    Log(LogWrong),
+    /// The script has no tool of the name that was asked for.
+    Stranger,
 }
 
 impl Status {
@@ -51,6 +64,8 @@ impl Status {
             Status::Outside(_) => 3,
             Status::Limit(_) => 4,
             Status::NoMemory => 5,
+            Status::Log(_) => 6,
+            Status::Stranger => 7,
         }
     }
 }

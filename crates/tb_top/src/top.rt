@@ -9,11 +9,13 @@ ghost use Rattle.tb_top.specs.Views.{all_seen};
 
 use crate::check::check;
 use crate::fault::Fault;
+use crate::iface::iface;
 use crate::report::report;
 use crate::ring::ring;
 use crate::run::run_script;
 use crate::sim::sim;
 use crate::status::{Edge, Status};
+use crate::verify::verify_log;
 use std::alloc::Global;
 use std::sync::Wait;
 use std::thread::Threads;
@@ -25,7 +27,9 @@ use tb_edge::{Clock, Crew, Files, Inlet, LanePair, Outlet, Sink};
 /// puts the log of its simulation, which begins with each command connected, hands in what the feed in that file says,
 /// makes so many steps and logs so many entries at most; `run SCRIPT [--connect COMMAND] [--ticks N] [--events N]` runs it
 /// over the tools of the lanes and puts its log while it runs; `ring N K` puts a summary of the simulation of N processes in a
-/// ring, round which a message goes K times.
+/// ring, round which a message goes K times. `verify SCRIPT LOG [--connect COMMAND]` puts `trace` and a newline where the log in
+/// the second file is a trace of the script, which begins with each command connected; `iface SCRIPT TOOL` puts the interface of
+/// the tool of this name: the lines that it may receive, and those of it that a process may take.
 /// Each status but `Ended` puts its one line to `err`, and where `err` fails at that, the status is `Outside(Err)`.
 pub fn toolbus<R: Threads + Wait + Sync, F: Files, O: Sink, E: Sink, C: Clock + Send, P: Crew>(
     rt: &R,
@@ -162,6 +166,14 @@ fn do_command<R: Threads + Wait + Sync, F: Files, O: Sink, C: Clock + Send, P: C
             clock,
             crew,
         ),
+        Command::Verify {
+            script,
+            log,
+            connects,
+        } => verify_log(alloc, script.as_str(), log.as_str(), connects, files, out),
+        Command::Iface { script, tool } => {
+            iface(alloc, script.as_str(), tool.as_str(), files, out)
+        }
         Command::Ring { n, k } => ring(alloc, *n, *k, out),
     }
 }

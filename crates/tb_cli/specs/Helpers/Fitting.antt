@@ -8,13 +8,15 @@ use Rattle.tb_cli.specs.declared.table.Kind.{Kind}
 use Rattle.tb_cli.specs.declared.table.Kind.TheVariants.{File, Number, Factor}
 use Rattle.tb_cli.specs.declared.table.Kind.TheVariants as kind
 use Rattle.tb_cli.specs.Parts.{Part, given, operands_of}
-use Rattle.tb_cli.specs.Table.{Setting, Row, check, sim, run, ring, option_named, operand}
+use Rattle.tb_cli.specs.Table.{Setting, Row, check, sim, run, verify, iface, ring, option_named, operand}
 use Rattle.tb_cli.specs.Words.{most_times}
 
 abbrev pub row_by : Verb → Row
 row_by verb.Check = check
 row_by verb.Sim = sim
 row_by verb.Run = run
+row_by verb.Verify = verify
+row_by verb.Iface = iface
 row_by verb.Ring = ring
 
 -- a value behind those that were given before under the same name

@@ -1,5 +1,5 @@
 -- What the parts of the top call say to each other.
-use Rattle.std.specs.Prelude.{◌≡◌, ◌⊎◌, ℕ, List, [], ◌∷◌, ◌++◌, Option, IsSome, option_to_list, Result, Ok, Err}
+use Rattle.std.specs.Prelude.{◌≡◌, ◌⊎◌, ℕ, List, [], ◌∷◌, ◌++◌, Option, Some, None, IsSome, option_to_list, Result, Ok, Err}
 use Rattle.tb_body.specs.declared.program.Program.{Program}
 use Rattle.tb_edge.specs.Sinks.{Writes, WritesPrefix}
 use Rattle.tb_feed.specs.Feeds.{IsFirstBad}
@@ -8,18 +8,23 @@ use Rattle.tb_script.specs.Findings.{IsFound, Program'}
 use Rattle.tb_sim.specs.declared.ends.SimEnd.{SimEnd}
 use Rattle.tb_sim.specs.declared.ends.SimEnd.TheVariants as sim
 use Rattle.tb_gen.specs.Ring.{ring_text}
-use Rattle.tb_top.specs.Loading.{HasProgram, IsRefused}
+use Rattle.tb_iface.specs.Interfaces.{interface_of}
+use Rattle.tb_iface.specs.PatternTexts.{interface_text}
+use Rattle.tb_iface.specs.declared.answer.Interface.{Interface}
+use Rattle.tb_top.specs.Loading.{HasProgram, IsLoadedWithin, IsLongerThan, IsRefused}
 use Rattle.tb_run.specs.Views.{OutsideView}
 use Rattle.tb_run.specs.declared.ends.RunWhy.{RunWhy}
 use Rattle.tb_run.specs.declared.ends.RunWhy.TheVariants as why
 use Rattle.tb_top.specs.Ring.{RingOutcome}
 use Rattle.tb_top.specs.Run.{LiveOutcome}
 use Rattle.tb_top.specs.Sim.{IsFed, IsFeedRefused, SimOutcome}
+use Rattle.tb_top.specs.Verify.{VerifyOutcome, most_log_bytes}
 use Rattle.tb_bus.specs.declared.origin.Origin.{Origin}
 use Rattle.tb_log.specs.declared.entry.Input.{Input}
 use Rattle.tb_top.specs.declared.fault.Fault.{Fault}
-use Rattle.tb_top.specs.declared.fault.Fault.TheVariants.{Script, Feed, File, Out, Clock, Crew, Limit, NoMemory}
+use Rattle.tb_top.specs.declared.fault.Fault.TheVariants.{Script, Feed, File, Out, Clock, Crew, Limit, NoMemory, Log, Stranger}
 use Rattle.tb_top.specs.declared.status.Bound.TheVariants as bound
+use Rattle.tb_top.specs.declared.status.LogWrong.TheVariants as log_wrong
 
 -- these names were asked for, or perhaps none where memory ran out
 abbrev pub AsksFor : {A : Type 0} → List (List ℕ) → List (List ℕ) → List (List ℕ) → Result A Fault → Type 0
@@ -120,3 +125,26 @@ IsLiveFault Crew = Unit {0}
 IsLiveFault (Limit bound) = Unit {0}
 IsLiveFault NoMemory = Unit {0}
 IsLiveFault _ = ⊥
+
+-- why the file of a log gives no bytes
+abbrev pub IsLogUnread : Option (List ℕ) → Fault → Type 0
+IsLogUnread told (Log (log_wrong.TooLong len)) = IsLongerThan most_log_bytes told len
+IsLogUnread told File = Unit {0}
+IsLogUnread told NoMemory = Unit {0}
+IsLogUnread told _ = ⊥
+
+-- whatever file the program is that of, and whatever file the bytes are of, the outcome is that of the bytes as a log of the program
+abbrev pub IsVerified : {A : Type 0} → Program → List (List ℕ) → List ℕ → Option (List ℕ) → Option (List ℕ) → Result A Fault → Type 0
+IsVerified program connects bytes old new answer =
+    (held : List ℕ → Option (List ℕ)) (script log : List ℕ) → HasProgram (held script) program → IsLoadedWithin most_log_bytes (held log) bytes →
+    VerifyOutcome held (record { script = script; log = log; connects = connects }) old new answer
+
+-- why a tool has no interface
+abbrev pub HasNoInterface : Program → List ℕ → Fault → Type 0
+HasNoInterface program tool Stranger = interface_of program tool ≡ None
+HasNoInterface program tool NoMemory = Unit {0}
+HasNoInterface program tool _ = ⊥
+
+-- the text of the interface that a tool of this name has
+abbrev pub IsInterfaceText : Program → List ℕ → List ℕ → Type 0
+IsInterfaceText program tool text = (found : Interface) × (interface_of program tool ≡ Some found) × (text ≡ interface_text tool found)

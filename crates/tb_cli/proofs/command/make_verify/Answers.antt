@@ -1,0 +1,14 @@
+-- what the words give for each operand and option
+use Rattle.std.proofs.Common.{refl}
+use Rattle.tb_cli.specs.declared.table.Kind.TheVariants.{File}
+use Rattle.tb_cli.specs.Table.{connect}
+use Rattle.tb_cli.proofs.command.make_verify.Goals as goal
+
+pub operand_text-requires : goal.operand_text-requires
+operand_text-requires c = c.requires.operand 0 File refl
+
+pub operand_text-requires-2 : goal.operand_text-requires-2
+operand_text-requires-2 c = c.requires.operand 1 File refl
+
+pub option_commands-requires-clause-fits : goal.option_commands-requires-clause-fits
+option_commands-requires-clause-fits c = c.requires.option connect refl
