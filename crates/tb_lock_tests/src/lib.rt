@@ -1,4 +1,6 @@
-//! Tests of the shared bus, of bells, of a crew and of a run, whose threads run beside each other, and of a run with a child.
+//! Tests where no data file says a row: of the shared bus, of bells, of a crew and of a run, whose threads run beside each other,
+//! and of a run with a child; of a core that follows a log or has refused calls; of files, sinks and clocks; and of calls that
+//! neither the program nor a row makes.
 #![tactic(auto)]
 
 #[cfg(test)]
@@ -6,7 +8,11 @@ mod bells;
 #[cfg(test)]
 mod child;
 #[cfg(test)]
+mod cores;
+#[cfg(test)]
 mod crowd;
+#[cfg(test)]
+mod edge;
 #[cfg(test)]
 mod jobs;
 #[cfg(test)]
@@ -15,5 +21,7 @@ mod live;
 mod lock;
 #[cfg(test)]
 mod reads;
+#[cfg(test)]
+mod values;
 #[cfg(test)]
 mod workers;

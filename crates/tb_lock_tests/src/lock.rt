@@ -2,6 +2,7 @@ ghost use Rattle.std.specs.Prelude.{◌≡◌, ◌≤◌, IfOk};
 ghost use Rattle.tb_core.specs.Cores.{most_entries};
 ghost use Rattle.tb_lock.specs.Seats.{first_seat};
 
+use crate::cores::ui;
 use crate::crowd::{join_all, split_off, work_beside};
 use crate::workers::side_by_side;
 use std::alloc::Global;
@@ -11,7 +12,6 @@ use tb_core::{Core, CoreFault, Stepped, TakeOut};
 use tb_lock::{Rights, Seat, Shared};
 use tb_log::{Input, Log, Out, Reply, Seen};
 use tb_script::load;
-use tb_terms::{Items, Text};
 use tb_tools::LaneState;
 use tb_walk::Walk;
 
@@ -23,9 +23,8 @@ fn shared<W: Walker>(alloc: Global, limit: u32) -> Result<(Shared<W>, Seat), Fai
     requires { limit ≤ most_entries }
     ensures { IfOk result (λ made. made.1 ≡ first_seat made.0 made.1.origin) }
 {
-    let mut connects = Items::new(alloc);
-    connects.push(Text::from_str(alloc, "calc")?.ok_or("a text")?)?;
-    let core = Core::start(alloc, load(alloc, TAUS.as_bytes())?, &connects, limit)?;
+    let commands = ui(alloc)?;
+    let core = Core::start(alloc, load(alloc, TAUS.as_bytes())?, &commands, limit)?;
     match Shared::make(alloc, core) {
         Ok(made) => Ok(made),
         Err(_) => Err("no memory")?,

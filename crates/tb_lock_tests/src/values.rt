@@ -1,0 +1,48 @@
+//! Calls that neither the program nor a row of `scenarios` or `calls` makes.
+
+use crate::cores::ui;
+use std::test::Fail;
+use tb_log::{
+    Entry, Input, Out, Reply, ToolLine, is_in_shape, is_out_in_shape, is_tool_line_in_shape,
+    show_proper_entry,
+};
+use tb_notes::Inbox;
+use tb_terms::Items;
+use tb_tools::Bench;
+
+#[test]
+fn a_note_that_is_offered_is_found(rt: HostRuntime) -> Result<(), Fail> {
+    let mut inbox = Inbox::new(rt.alloc());
+    inbox.offer_note(Items::new(rt.alloc()))?;
+    inbox.show_order();
+    let found = inbox.find(&Items::new(rt.alloc()))?;
+    assert!(rt; found.is_some());
+    Ok(())
+}
+
+#[test]
+fn entries_are_in_shape_or_not(rt: HostRuntime) {
+    show_proper_entry(&Entry::Quiet);
+    let found = [
+        is_tool_line_in_shape(&ToolLine::Bad),
+        is_out_in_shape(&Out::End),
+        is_in_shape(&Entry::Fed(Input::Gone(17), Reply::Took)),
+    ];
+    assert_eq!(rt; found, [true, true, false]);
+}
+
+/// Whether a command is handed out first on lane 1.
+fn gives_command(bench: &mut Bench) -> bool {
+    if bench.next_out(1).is_none() {
+        return false;
+    }
+    matches!(bench.take_out(1), Out::Start(_))
+}
+
+#[test]
+fn what_is_to_be_handed_out_is_taken(rt: HostRuntime) -> Result<(), Fail> {
+    let commands = ui(rt.alloc())?;
+    let mut bench = Bench::new(rt.alloc(), &commands)?;
+    assert!(rt; gives_command(&mut bench));
+    Ok(())
+}
