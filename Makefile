@@ -72,8 +72,10 @@ bench:
 	bench/live
 
 # Simulates 200 random scripts, and compares their logs with those of a small model of the rules. It needs the built crates/scenarios.
+# Then the built program verifies random logs of these scripts.
 walkers:
 	bench/walkers
+	bench/walkers --verify "$(PROGRAM)"
 
 # Rejects each memory request of the built program in turn, for the table of docs/FAULTS.md. Some minutes.
 faults:

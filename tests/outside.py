@@ -99,6 +99,13 @@ def run(words, folder, seconds, env=None):
         return Run(child.returncode, out.decode("utf-8", "replace"), text_of(err), taken, left_behind())
 
 
+def verdict(program, folder, script, log, connects=()):
+    """Returns what `verify` prints of a log in the folder: `trace` or the line of its error, without the newline."""
+    words = [program, "verify", script, log] + [word for command in connects for word in ("--connect", command)]
+    done = subprocess.run(words, cwd=folder, stdin=subprocess.DEVNULL, capture_output=True, text=True, errors="replace")
+    return (done.stdout + done.stderr).rstrip("\n")
+
+
 def write(path, text):
     with open(path, "w") as file:
         file.write(text)
