@@ -100,6 +100,14 @@ impl<W: Walker> Core<W> {
         &self.log
     }
 
+    /// Lends the bus to which the log leads, as the core holds it.
+    pub fn bus(&self) -> &LiveBus<W>
+        ensures sound { IsSound W.view result.now }
+        ensures value { bus_of W.view result.now ≡ bus_now self.now }
+    {
+        &self.bus
+    }
+
     pub fn is_down(&self) -> bool
         ensures { result ≡ (bus_now self.now).down }
     {

@@ -26,15 +26,15 @@ use Rattle.tb_pair.proofs.PieceLemmas.{stand_first}
 use Rattle.tb_pair.specs.Piping.{does, told_by, events, event_in, connect, lines_of}
 use Rattle.tb_pair.specs.Jobs.{CanServe}
 use Rattle.tb_pair.specs.Passing.{IsPartOf, Passes}
-use Rattle.tb_pair.specs.Workers.{WritesPipe, ReadsPipe, WhyDown}
+use Rattle.tb_pair.specs.Workers.{IsEarly, WritesPipe, ReadsPipe, WhyDown}
 
-why_so : (it : WorkEnd) (leaves : Bool) (more : List Entry) → it ≡ end.Down → WhyDown it leaves more → (leaves ≡ true) ⊎ HasDropped (is_of 1) more
-why_so end.Over leaves more e w = absurd w
-why_so end.Down leaves more e w = w
-why_so end.Stopped leaves more e w = absurd cc
-why_so end.Full leaves more e w = absurd cc
-why_so end.Failed leaves more e w = absurd w
-why_so end.NoMemory leaves more e w = absurd cc
+why_so : (it : WorkEnd) (leaves : Bool) (more : List Entry) → WhyDown it leaves more → (leaves ≡ true) ⊎ (HasDropped (is_of 1) more ⊎ IsEarly it)
+why_so end.Over leaves more w = absurd w
+why_so end.Down leaves more w = ⊎_elim (λ l. inl l) (λ d. inr (inl d)) w
+why_so end.Stopped leaves more w = inr (inr tt)
+why_so end.Full leaves more w = inr (inr tt)
+why_so end.Failed leaves more w = absurd w
+why_so end.NoMemory leaves more w = inr (inr tt)
 
 -- an entry among one's own is one of the log
 dropped_own : (test : Input → Bool) (p : Entry → Bool) (log : List Entry) → HasDropped test (filter p log) → HasDropped test log
@@ -57,7 +57,7 @@ dropped_own test p (x ∷ log) d = step (dropped_own test p log) (p x) d
     step hyp false h = more (hyp h)
 
 -- what the tool of lane 1 was told to do is said by the entries of the right for it alone
-does_own : (rights : Rights) → has rights (Outs 1) ≡ true → (log : List Entry) → does (own rights log) ≡ does log
+pub does_own : (rights : Rights) → has rights (Outs 1) ≡ true → (log : List Entry) → does (own rights log) ≡ does log
 does_own rights there log = ap (filter_map told_by) (handed_own rights 1 there log)
 
 -- the log has, of the rights of the worker, just the entries that it has added
@@ -72,7 +72,7 @@ part_of begun done last fresh same kept =
 pub passes : (bus others_bus : TableId) (begun done last others_begun others_done others_last : SeatView) (sent got known : List Piece) (writer reader : WorkEnd)
     → WritesPipe begun done [] sent writer → ReadsPipe others_begun others_done [] got reader → got ++ known ≡ sent
     → CanServe bus begun → IsPartOf begun done last → CanServe others_bus others_begun → IsPartOf others_begun others_done others_last
-    → Passes last.seen others_last.seen writer reader
+    → Passes last.seen others_last.seen (IsEarly writer) (IsEarly reader)
 passes bus others_bus begun done last others_begun others_done others_last sent got known writer reader w r met can part others_can others_part =
     let one : own begun.rights last.seen ≡ w.more = own_is begun done last w.more part w.goes.adds in
     let other : own others_begun.rights others_last.seen ≡ r.more = own_is others_begun others_done others_last r.more others_part r.goes.adds in
@@ -94,12 +94,12 @@ passes bus others_bus begun done last others_begun others_done others_last sent 
       names = ⊎_elim (λ e. inl (ins ∙ e)) (λ e. inr (ins ∙ e.0, e.1)) w.names;
       others_names = ⊎_elim
           (λ e. inl (others_ins ∙ (r.goes.given_are ∙ (e ∙ ap (λ (ts : List Term). connect ∷ lines_of ts r.leaves) (sym came)))))
-          (λ e. inr (others_ins ∙ (r.goes.given_are ∙ e.0), e.2)) r.names;
+          (λ e. inr (others_ins ∙ (r.goes.given_are ∙ e.0), e.3, e.4)) r.names;
       whole = λ left.
           let said = r.said left in
           let rest : w.rest ≡ [] = w.whole (s.said said.0) in
           came ∙ sym (all ∙ (ap (λ (x : List Term). r.told ++ (x ++ (s.more ++ w.rest))) said.1 ∙ (ap (λ (x : List Term). r.told ++ (x ++ w.rest)) (s.whole said.0) ∙ (ap (λ (x : List Term). r.told ++ x) rest ∙ append-nil r.told))));
-      why = λ down.
-          ⊎_elim (λ l. inl l) (λ d. inr (dropped_own (is_of 1) (λ (entry : Entry). has others_begun.rights (right_of entry)) others_last.seen (subst (HasDropped (is_of 1)) (sym other) d)))
-          (why_so reader r.leaves r.more down r.why);
+      why = ⊎_elim (λ l. inl l)
+          (λ w. inr (⊎_elim (λ d. inl (dropped_own (is_of 1) (λ (entry : Entry). has others_begun.rights (right_of entry)) others_last.seen (subst (HasDropped (is_of 1)) (sym other) d))) (λ e. inr e) w))
+          (why_so reader r.leaves r.more r.why);
     }

@@ -10,22 +10,23 @@ use Rattle.tb_log.specs.declared.entry.Reply.TheVariants.{Dropped}
 use Rattle.tb_log.specs.declared.entry.Why.TheVariants as why
 use Rattle.tb_log.specs.declared.entry.Entry.{Entry}
 use Rattle.tb_log.specs.declared.entry.Entry.TheVariants.{Fed}
+use Rattle.tb_core.specs.Cores.{HandIn, HandOut}
 use Rattle.tb_lock.specs.Seats.{SeatView}
 use Rattle.tb_run.specs.declared.ends.WorkEnd.{WorkEnd}
 use Rattle.tb_run.specs.declared.ends.WorkEnd.TheVariants as end
-use Rattle.tb_run.specs.Dropping.{HasDropped}
+use Rattle.tb_run.specs.Dropping.{HasDropped, is_down}
 use Rattle.tb_run.specs.Outcomes.{is_of}
-use Rattle.tb_run.specs.Seats.{Adds, SameMarks}
-use Rattle.tb_run.proofs.SeatLemmas.{marks_both, marks_none, marks_on}
+use Rattle.tb_run.specs.Seats.{Adds, FoundFull, SameMarks}
+use Rattle.tb_run.proofs.SeatLemmas.{found_on, marks_both, marks_none, marks_on}
 use Rattle.tb_pair.specs.declared.piece.Piece.{Piece}
 use Rattle.tb_pair.specs.declared.piece.Piece.TheVariants.{Told, Last}
 use Rattle.tb_pair.specs.Pieces.{pieces}
 use Rattle.tb_pair.proofs.PieceLemmas.{pieces-append}
-use Rattle.tb_pair.specs.Piping.{event_in, connect, lines_of}
-use Rattle.tb_pair.specs.Helpers.Reading.{line_of, says_last, ReadsOn, EndsReading, ReadTo, MayLose, Feeds}
-use Rattle.tb_pair.specs.Workers.{IsEarly, Goes, ReadsPipe, MayLack, WhyDown}
+use Rattle.tb_pair.specs.Piping.{event_in, event_of, connect, disconnect, lines_of}
+use Rattle.tb_pair.specs.Helpers.Reading.{line_of, says_last, ReadsOn, EndsReading, ReadTo, MayLose, PieceFull, Feeds}
+use Rattle.tb_pair.specs.Workers.{IsEarly, Goes, ReaderFull, ReadsPipe, MayLack, WhyDown}
 use Rattle.tb_pair.specs.Helpers.Settling.{EndsAs, Settles}
-use Rattle.tb_pair.proofs.PipeLemmas.{goes_none, goes_on, goes_end, goes_after, goes_in, ends_on, ends_after, dropped_before, dropped_after}
+use Rattle.tb_pair.proofs.PipeLemmas.{goes_none, goes_on, goes_end, goes_after, goes_in, ends_by, ends_after, dropped_before, dropped_after, dropped_in, dropped_none, dropped_not}
 
 lines-append : (ts us : List Term) (leaves : Bool) → lines_of ts false ++ lines_of us leaves ≡ lines_of (ts ++ us) leaves
 lines-append [] us leaves = refl
@@ -37,12 +38,12 @@ events_of_lines [] true = refl
 events_of_lines (t ∷ ts) leaves = ap (λ (l : List Term). t ∷ l) (events_of_lines ts leaves)
 
 -- nothing was received or handed in
-pub idle_on : (old new : SeatView) (got : List Piece) (reads : Bool) (more : List Entry) → Goes old new more [] → SameMarks old new → ReadsOn old new got got reads reads
-idle_on old new got reads more goes marks =
-    record { more = more; told = []; leaves = false; goes = goes; got = sym (append-nil got); still = λ h. refl; stays = λ h. h; over = λ h. (refl, refl); why = λ h. inl h; marks = marks }
+pub idle_on : (old new : SeatView) (got : List Piece) (reads : Bool) (more : List Entry) → Goes old new more [] → SameMarks old new → (HasDropped (is_of 1) more → ⊥) → ReadsOn old new got got reads reads
+idle_on old new got reads more goes marks none =
+    record { more = more; told = []; leaves = false; goes = goes; got = sym (append-nil got); still = λ h. refl; stays = λ h. h; over = λ h. (refl, refl); why = λ h. inl h; let_in = λ h. none; marks = marks }
 
 pub reads_none : (seat : SeatView) (got : List Piece) (reads : Bool) → ReadsOn seat seat got got reads reads
-reads_none seat got reads = idle_on seat seat got reads [] (goes_none seat) (marks_none seat)
+reads_none seat got reads = idle_on seat seat got reads [] (goes_none seat) (marks_none seat) (dropped_none (is_of 1))
 
 pub reads_both : (r1 : Bool) (a b c : SeatView) (g0 g1 g2 : List Piece) (r0 r2 : Bool) → ReadsOn a b g0 g1 r0 r1 → ReadsOn b c g1 g2 r1 r2 → ReadsOn a c g0 g2 r0 r2
 reads_both true a b c g0 g1 g2 r0 r2 one two =
@@ -59,6 +60,7 @@ reads_both true a b c g0 g1 g2 r0 r2 one two =
       stays = λ h. one.stays (two.stays h);
       over = λ h. absurd (true≢false (sym (one.stays refl) ∙ h));
       why = λ h. inr (⊎_elim (λ e. absurd (true≢false e)) (λ w. ⊎_elim (λ l. inl l) (λ d. inr (dropped_after (is_of 1) one.more two.more d)) w) (two.why h));
+      let_in = λ h d. ⊎_elim (λ x. one.let_in refl x) (λ x. two.let_in h x) (dropped_in (is_of 1) one.more two.more d);
       marks = marks_both a b c one.marks two.marks;
     }
 reads_both false a b c g0 g1 g2 r0 r2 one two =
@@ -75,18 +77,25 @@ reads_both false a b c g0 g1 g2 r0 r2 one two =
       stays = λ h. absurd (true≢false (sym (two.stays h)));
       over = one.over;
       why = λ h. ⊎_elim (λ e. inl e) (λ w. inr (⊎_elim (λ l. inl l) (λ d. inr (dropped_before (is_of 1) one.more two.more d)) w)) (one.why refl);
+      let_in = λ h. absurd (true≢false (sym (two.stays h)));
       marks = marks_both a b c one.marks two.marks;
     }
+
+-- a call that found no room after these did so behind what the seat had seen before
+full_on : (lost : List Piece) (a b c : SeatView) (xs : List Entry) → Adds a b xs → PieceFull b c lost → PieceFull a c lost
+full_on [] a b c xs adds f = found_on (HandOut 1) a b c xs adds f
+full_on (piece ∷ pieces) a b c xs adds f = found_on (HandIn (line_of piece)) a b c xs adds f
 
 -- behind nothing of its own
 pub feeds_after : (a b c : SeatView) (g0 g1 : List Piece) (r0 r1 : Bool) (answer : Option WorkEnd) → Adds a b [] → SameMarks a b → Feeds b c g0 g1 r0 r1 answer → Feeds a c g0 g1 r0 r1 answer
 feeds_after a b c g0 g1 r0 r1 None adds same f =
-    record { more = f.more; told = f.told; leaves = f.leaves; goes = goes_after a b c f.more (lines_of f.told f.leaves) adds f.goes; got = f.got; still = f.still; stays = f.stays; over = f.over; why = f.why; marks = marks_both a b c same f.marks }
-feeds_after a b c g0 g1 r0 r1 (Some it) adds same f = record { ends = ends_after a b c it adds same f.ends; lost = f.lost; got = f.got; may = f.may }
+    record { more = f.more; told = f.told; leaves = f.leaves; goes = goes_after a b c f.more (lines_of f.told f.leaves) adds f.goes; got = f.got; still = f.still; stays = f.stays; over = f.over; why = f.why; let_in = f.let_in; marks = marks_both a b c same f.marks }
+feeds_after a b c g0 g1 r0 r1 (Some it) adds same f =
+    record { lost = f.lost; got = f.got; may = f.may; ends = ends_after (PieceFull b c f.lost) (PieceFull a c f.lost) a b c it (full_on f.lost a b c [] adds) adds same f.ends }
 
 -- the bus is down, and nothing more is read
-pub stops_reading : (old new : SeatView) (got : List Piece) (reads : Bool) → reads ≡ false → EndsAs old new end.Down → EndsReading old new got got reads end.Down
-stops_reading old new got reads over e = record { ends = e; lost = []; got = sym (append-nil got); may = (refl, over) }
+pub stops_reading : (old new : SeatView) (got : List Piece) (reads : Bool) → reads ≡ false → EndsAs (FoundFull (HandOut 1) old new) old new end.Down → EndsReading old new got got reads end.Down
+stops_reading old new got reads over e = record { lost = []; got = sym (append-nil got); may = (refl, over); ends = e }
 
 lose_none : (it : WorkEnd) (reads : Bool) → IsEarly it → MayLose it reads []
 lose_none end.Over reads e = absurd e
@@ -104,13 +113,13 @@ lose_one end.Full piece e = inr (piece, refl, refl)
 lose_one end.Failed piece e = absurd e
 lose_one end.NoMemory piece e = inr (piece, refl, refl)
 
-pub refused_reading : (old new : SeatView) (got : List Piece) (reads : Bool) (it : WorkEnd) → EndsAs old new it × IsEarly it → EndsReading old new got got reads it
-refused_reading old new got reads it e = record { ends = e.0; lost = []; got = sym (append-nil got); may = lose_none it reads e.1 }
+pub refused_reading : (old new : SeatView) (got : List Piece) (reads : Bool) (it : WorkEnd) → EndsAs (FoundFull (HandOut 1) old new) old new it × IsEarly it → EndsReading old new got got reads it
+refused_reading old new got reads it e = record { lost = []; got = sym (append-nil got); may = lose_none it reads e.1; ends = e.0 }
 
 -- a piece was handed in
 pub fed_on : (old new : SeatView) (got : List Piece) (piece : Piece) (up : Bool) → Settles (line_of piece) old new (Ok up) → ReadsOn old new got (got ++ piece ∷ []) true (up && not (says_last piece))
 fed_on old new got (Told t) true h =
-    record { more = Fed (line_of (Told t)) h.0 ∷ []; told = t ∷ []; leaves = false; goes = goes_in old new (line_of (Told t)) h.0 refl h.1 refl; got = refl; still = λ e. refl; stays = λ e. refl; over = λ e. absurd (true≢false e); why = λ e. absurd (true≢false e); marks = h.2 }
+    record { more = Fed (line_of (Told t)) h.0 ∷ []; told = t ∷ []; leaves = false; goes = goes_in old new (line_of (Told t)) h.0 refl h.1 refl; got = refl; still = λ e. refl; stays = λ e. refl; over = λ e. absurd (true≢false e); why = λ e. absurd (true≢false e); let_in = λ e. dropped_not (is_of 1) (line_of (Told t)) h.0 (h.4 refl); marks = h.2 }
 fed_on old new got (Told t) false h =
     record {
       more = Fed (line_of (Told t)) h.0 ∷ [];
@@ -122,16 +131,17 @@ fed_on old new got (Told t) false h =
       stays = λ e. absurd (true≢false (sym e));
       over = λ e. absurd (true≢false e);
       why = λ e. inr (inr ([], line_of (Told t), [], refl, ap (λ (r : Reply). Fed (line_of (Told t)) r ∷ []) (h.3 refl)));
+      let_in = λ e. absurd (true≢false (sym e));
       marks = h.2;
     }
 fed_on old new got Last true h =
-    record { more = Fed (line_of Last) h.0 ∷ []; told = []; leaves = true; goes = goes_in old new (line_of Last) h.0 refl h.1 refl; got = refl; still = λ e. absurd (true≢false (sym e)); stays = λ e. refl; over = λ e. absurd (true≢false e); why = λ e. inr (inl refl); marks = h.2 }
+    record { more = Fed (line_of Last) h.0 ∷ []; told = []; leaves = true; goes = goes_in old new (line_of Last) h.0 refl h.1 refl; got = refl; still = λ e. absurd (true≢false (sym e)); stays = λ e. refl; over = λ e. absurd (true≢false e); why = λ e. inr (inl refl); let_in = λ e. absurd (true≢false (sym e)); marks = h.2 }
 fed_on old new got Last false h =
-    record { more = Fed (line_of Last) h.0 ∷ []; told = []; leaves = true; goes = goes_in old new (line_of Last) h.0 refl h.1 refl; got = refl; still = λ e. absurd (true≢false (sym e)); stays = λ e. refl; over = λ e. absurd (true≢false e); why = λ e. inr (inl refl); marks = h.2 }
+    record { more = Fed (line_of Last) h.0 ∷ []; told = []; leaves = true; goes = goes_in old new (line_of Last) h.0 refl h.1 refl; got = refl; still = λ e. absurd (true≢false (sym e)); stays = λ e. refl; over = λ e. absurd (true≢false e); why = λ e. inr (inl refl); let_in = λ e. absurd (true≢false (sym e)); marks = h.2 }
 
 -- it was refused
 pub fed_refused : (old new : SeatView) (got : List Piece) (piece : Piece) (it : WorkEnd) → Settles (line_of piece) old new (Err it) → EndsReading old new got (got ++ piece ∷ []) true it
-fed_refused old new got piece it e = record { ends = e.0; lost = piece ∷ []; got = refl; may = lose_one it piece e.1 }
+fed_refused old new got piece it e = record { lost = piece ∷ []; got = refl; may = lose_one it piece e.1; ends = e.0 }
 
 -- what was lost, as terms
 record Loses (it : WorkEnd) (reads : Bool) (lost : List Piece) : Type 0 where
@@ -145,27 +155,32 @@ loses end.Full reads lost m = record { why = ⊎_elim (λ e. inl (e, omega arith
 loses end.Failed reads lost m = absurd m
 loses end.NoMemory reads lost m = record { why = ⊎_elim (λ e. inl (e, omega arith)) (λ p. inr (p.0, p.1, p.2, λ t. omega arith, omega arith)) m }
 
+-- which piece was lost
+abbrev WhichLost : List Piece → List Term → Bool → Bool → Type 0
+WhichLost pieces lost last reads = (pieces ≡ []) ⊎ (((t : Term) × (pieces ≡ Told t ∷ []) × (lost ≡ t ∷ []) × (reads ≡ true)) ⊎ ((pieces ≡ Last ∷ []) × (last ≡ true) × (lost ≡ []) × (reads ≡ true)))
+
 -- what was received in all
-record Received (told : List Term) (leaves : Bool) (it : WorkEnd) (got_old got_new : List Piece) : Type 0 where
+record Received (told : List Term) (leaves reads : Bool) (it : WorkEnd) (got_old got_new gone : List Piece) : Type 0 where
   pub lost : List Term
   pub last : Bool
+  pub which : WhichLost gone lost last reads
   pub got : got_new ≡ got_old ++ pieces (told ++ lost) last
   pub said : leaves ≡ true → (last ≡ true) × (lost ≡ [])
   pub lacks : MayLack it lost
 
-received_so : (told : List Term) (leaves reads : Bool) (it : WorkEnd) (g0 g1 g2 lost : List Piece) → (reads ≡ true → leaves ≡ false) → g1 ≡ g0 ++ pieces told leaves → g2 ≡ g1 ++ lost → Loses it reads lost → Received told leaves it g0 g2
+received_so : (told : List Term) (leaves reads : Bool) (it : WorkEnd) (g0 g1 g2 lost : List Piece) → (reads ≡ true → leaves ≡ false) → g1 ≡ g0 ++ pieces told leaves → g2 ≡ g1 ++ lost → Loses it reads lost → Received told leaves reads it g0 g2 lost
 received_so told leaves reads it g0 g1 g2 lost still one two l = go l.why
   where
     one_more : (piece : Piece) → leaves ≡ false → lost ≡ piece ∷ [] → g2 ≡ g0 ++ (pieces told false ++ piece ∷ [])
     one_more piece stays e = two ∙ (ap (λ (s : List Piece). g1 ++ s) e ∙ (ap (λ (s : List Piece). s ++ piece ∷ []) (one ∙ ap (λ (b : Bool). g0 ++ pieces told b) stays) ∙ append_assoc g0 (pieces told false) (piece ∷ [])))
 
-    by : (piece : Piece) → leaves ≡ false → lost ≡ piece ∷ [] → ((t : Term) → MayLack it (t ∷ [])) → MayLack it [] → Received told leaves it g0 g2
-    by (Told t) stays e may none = record { lost = t ∷ []; last = false; got = one_more (Told t) stays e ∙ ap (λ (s : List Piece). g0 ++ s) (pieces-append told (t ∷ []) false); said = λ h. absurd (true≢false (sym h ∙ stays)); lacks = may t }
-    by Last stays e may none = record { lost = []; last = true; got = one_more Last stays e ∙ ap (λ (s : List Piece). g0 ++ s) (pieces-append told [] true); said = λ h. (refl, refl); lacks = none }
+    by : (piece : Piece) → reads ≡ true → leaves ≡ false → lost ≡ piece ∷ [] → ((t : Term) → MayLack it (t ∷ [])) → MayLack it [] → Received told leaves reads it g0 g2 lost
+    by (Told t) on stays e may none = record { lost = t ∷ []; last = false; which = inr (inl (t, e, refl, on)); got = one_more (Told t) stays e ∙ ap (λ (s : List Piece). g0 ++ s) (pieces-append told (t ∷ []) false); said = λ h. absurd (true≢false (sym h ∙ stays)); lacks = may t }
+    by Last on stays e may none = record { lost = []; last = true; which = inr (inr (e, refl, refl, on)); got = one_more Last stays e ∙ ap (λ (s : List Piece). g0 ++ s) (pieces-append told [] true); said = λ h. (refl, refl); lacks = none }
 
-    go : ((lost ≡ []) × MayLack it []) ⊎ ((piece : Piece) × (lost ≡ piece ∷ []) × (reads ≡ true) × ((t : Term) → MayLack it (t ∷ [])) × MayLack it []) → Received told leaves it g0 g2
-    go (inl e) = record { lost = []; last = leaves; got = two ∙ (ap (λ (s : List Piece). g1 ++ s) e.0 ∙ (append-nil g1 ∙ (one ∙ ap (λ (s : List Term). g0 ++ pieces s leaves) (sym (append-nil told))))); said = λ h. (h, refl); lacks = e.1 }
-    go (inr p) = by p.0 (still p.2) p.1 p.3 p.4
+    go : ((lost ≡ []) × MayLack it []) ⊎ ((piece : Piece) × (lost ≡ piece ∷ []) × (reads ≡ true) × ((t : Term) → MayLack it (t ∷ [])) × MayLack it []) → Received told leaves reads it g0 g2 lost
+    go (inl e) = record { lost = []; last = leaves; which = inl e.0; got = two ∙ (ap (λ (s : List Piece). g1 ++ s) e.0 ∙ (append-nil g1 ∙ (one ∙ ap (λ (s : List Term). g0 ++ pieces s leaves) (sym (append-nil told))))); said = λ h. (h, refl); lacks = e.1 }
+    go (inr p) = by p.0 p.2 (still p.2) p.1 p.3 p.4
 
 why_down : (it : WorkEnd) (reads : Bool) (lost : List Piece) (leaves : Bool) (more : List Entry) → MayLose it reads lost → (reads ≡ false → (leaves ≡ true) ⊎ HasDropped (is_of 1) more) → WhyDown it leaves more
 why_down end.Over reads lost leaves more m w = absurd m
@@ -175,17 +190,29 @@ why_down end.Full reads lost leaves more m w = tt
 why_down end.Failed reads lost leaves more m w = absurd m
 why_down end.NoMemory reads lost leaves more m w = tt
 
+-- and which call was refused
+lines_so : (told : List Term) (leaves : Bool) → leaves ≡ false → ◌≡◌ {A = List Input} (connect ∷ lines_of told leaves) (connect ∷ lines_of told false)
+lines_so told leaves e = ap (λ (l : Bool). connect ∷ lines_of told l) e
+
+refused_so : (old mid new : SeatView) (xs : List Entry) (told : List Term) (gone : List Piece) (lost : List Term) (last leaves reads : Bool) → Adds old mid xs → (reads ≡ true → leaves ≡ false) → (reads ≡ true → HasDropped (is_of 1) xs → ⊥)
+    → WhichLost gone lost last reads → PieceFull mid new gone → ReaderFull old new xs (connect ∷ lines_of told leaves) told lost last
+refused_so old mid new xs told gone lost last leaves reads adds still let_in (inl e) f = inl (found_on (HandOut 1) old mid new xs adds (subst (PieceFull mid new) e f))
+refused_so old mid new xs told gone lost last leaves reads adds still let_in (inr (inl (t, e, l, s))) f = inr (inr (inl (t, l, lines_so told leaves (still s), let_in s, found_on (HandIn (event_of t)) old mid new xs adds (subst (PieceFull mid new) e f))))
+refused_so old mid new xs told gone lost last leaves reads adds still let_in (inr (inr (e, l, n, s))) f = inr (inr (inr (l, n, lines_so told leaves (still s), let_in s, found_on (HandIn disconnect) old mid new xs adds (subst (PieceFull mid new) e f))))
+
 pub dropped_here : (reply : Reply) → reply ≡ Dropped why.Down → HasDropped (is_of 1) (Fed connect reply ∷ [])
 dropped_here reply e = ([], connect, [], refl, ap (λ (r : Reply). Fed connect r ∷ []) e)
 
 -- behind the line by which it names itself
-pub read_behind : (old b new : SeatView) (reply : Reply) (g0 g1 : List Piece) (reads : Bool) (it : WorkEnd) → Adds old b (Fed connect reply ∷ []) → SameMarks old b → (reads ≡ false → HasDropped (is_of 1) (Fed connect reply ∷ []))
+pub read_behind : (old b new : SeatView) (reply : Reply) (g0 g1 : List Piece) (reads : Bool) (it : WorkEnd) → Adds old b (Fed connect reply ∷ []) → SameMarks old b → (reads ≡ false → HasDropped (is_of 1) (Fed connect reply ∷ [])) → (reads ≡ true → is_down reply ≡ false)
     → ReadTo b new g0 g1 reads it → ReadsPipe old new g0 g1 it
-read_behind old b new reply g0 g1 reads it adds same dropped r =
+read_behind old b new reply g0 g1 reads it adds same dropped let_in r =
     let named : Goes old b (Fed connect reply ∷ []) (connect ∷ []) = goes_in old b connect reply refl adds refl in
     let on : Goes old r.mid (Fed connect reply ∷ r.on.more) (connect ∷ lines_of r.on.told r.on.leaves) = goes_on old b r.mid (Fed connect reply ∷ []) r.on.more (connect ∷ []) (lines_of r.on.told r.on.leaves) named r.on.goes in
     let all : Goes old new (Fed connect reply ∷ r.on.more) (connect ∷ lines_of r.on.told r.on.leaves) = goes_end old r.mid new (Fed connect reply ∷ r.on.more) (connect ∷ lines_of r.on.told r.on.leaves) on r.ends.ends.adds in
-    let so : Received r.on.told r.on.leaves it g0 g1 = received_so r.on.told r.on.leaves r.reads' it g0 r.got_mid g1 r.ends.lost r.on.still r.on.got r.ends.got (loses it r.reads' r.ends.lost r.ends.may) in
+    let none : r.reads' ≡ true → HasDropped (is_of 1) (Fed connect reply ∷ r.on.more) → ⊥ =
+    (λ h d. ⊎_elim (λ x. dropped_not (is_of 1) connect reply (let_in (r.on.stays h)) x) (λ x. r.on.let_in h x) (dropped_in (is_of 1) (Fed connect reply ∷ []) r.on.more d)) in
+    let so : Received r.on.told r.on.leaves r.reads' it g0 g1 r.ends.lost = received_so r.on.told r.on.leaves r.reads' it g0 r.got_mid g1 r.ends.lost r.on.still r.on.got r.ends.got (loses it r.reads' r.ends.lost r.ends.may) in
     record {
       more = Fed connect reply ∷ r.on.more;
       given = connect ∷ lines_of r.on.told r.on.leaves;
@@ -202,7 +229,8 @@ read_behind old b new reply g0 g1 reads it adds same dropped r =
       why = why_down it r.reads' r.ends.lost r.on.leaves (Fed connect reply ∷ r.on.more) r.ends.may
           (λ h. ⊎_elim (λ e. inr (dropped_before (is_of 1) (Fed connect reply ∷ []) r.on.more (dropped e))) (λ w. ⊎_elim (λ l. inl l) (λ d. inr (dropped_after (is_of 1) (Fed connect reply ∷ []) r.on.more d)) w) (r.on.why h));
       marks = marks_on old r.mid new it (marks_both old b r.mid same r.on.marks) r.ends.ends.marks;
-      ends = ends_on old r.mid new (Fed connect reply ∷ r.on.more) it on.adds r.ends.ends.ends;
+      ends = ends_by (PieceFull r.mid new r.ends.lost) (ReaderFull old new (Fed connect reply ∷ r.on.more) (connect ∷ lines_of r.on.told r.on.leaves) r.on.told so.lost so.last) new it
+          (refused_so old r.mid new (Fed connect reply ∷ r.on.more) r.on.told r.ends.lost so.lost so.last r.on.leaves r.reads' on.adds r.on.still none so.which) r.ends.ends.ends;
     }
 
 lack_none : (it : WorkEnd) → IsEarly it → MayLack it []
@@ -222,7 +250,7 @@ why_early end.Failed leaves more e = absurd e
 why_early end.NoMemory leaves more e = tt
 
 -- the line was refused
-pub read_refused : (old new : SeatView) (got : List Piece) (it : WorkEnd) → EndsAs old new it × IsEarly it → ReadsPipe old new got got it
+pub read_refused : (old new : SeatView) (got : List Piece) (it : WorkEnd) → EndsAs (FoundFull (HandIn connect) old new) old new it × IsEarly it → ReadsPipe old new got got it
 read_refused old new got it e =
     record {
       more = [];
@@ -232,14 +260,14 @@ read_refused old new got it e =
       lost = [];
       last = false;
       leaves = false;
-      names = inr (refl, refl, e.1);
+      names = inr (refl, refl, refl, refl, e.1);
       events_are = refl;
       got = sym (append-nil got);
       said = λ h. absurd (true≢false (sym h));
       lacks = lack_none it e.1;
       why = why_early it false [] e.1;
       marks = e.0.marks;
-      ends = e.0.ends;
+      ends = ends_by (FoundFull (HandIn connect) old new) (ReaderFull old new [] [] [] [] false) new it (λ f. inr (inl (refl, f))) e.0.ends;
     }
 
 pub read_to : (a b c : SeatView) (g0 g1 g2 : List Piece) (r0 r1 : Bool) (it : WorkEnd) → ReadsOn a b g0 g1 r0 r1 → EndsReading b c g1 g2 r1 it → ReadTo a c g0 g2 r0 it

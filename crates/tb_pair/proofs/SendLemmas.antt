@@ -7,9 +7,8 @@ use Rattle.std.proofs.Crossing.{crosses}
 use Rattle.rtrb.proofs.end.End.TheSendSync.{the_send as end_send}
 use Rattle.tb_algebra.specs.declared.walker.Walker.{Ghosts}
 use Rattle.tb_algebra.proofs.SendLemmas.{term_send}
-use Rattle.tb_lock.specs.contracts.shared.Shared as shared
-use Rattle.tb_lock.proofs.SendLemmas.{shared_sync}
-use Rattle.tb_run.proofs.SendLemmas.{seat_send, bells_sync}
+use Rattle.tb_run.specs.contracts.post.Post as post
+use Rattle.tb_run.proofs.SendLemmas.{seat_send, bells_sync, post_sync}
 use Rattle.tb_pair.specs.contracts.piece.Told as told
 use Rattle.tb_pair.specs.contracts.piece.Told.TheInside as told_inside
 use Rattle.tb_pair.specs.contracts.piece.Piece as piece
@@ -33,22 +32,22 @@ pipe_in_send κ = search (sendable, crosses, end_send, piece_send, bells_sync) d
 pipe_out_send : (κ : NamedLft) → IsSend (pipe_out.the_row κ)
 pipe_out_send κ = search (sendable, crosses, end_send, piece_send, bells_sync) depth 40
 
-module _ (κ : NamedLft) (W Plan Taken : RattleType) (g : Ghosts W.Denot Plan.Denot Taken.Denot) (w : IsSend W) (p : IsSend Plan) where
-  bus_sync : IsSync (shared.the_row W Plan Taken g)
-  bus_sync = shared_sync W Plan Taken g w p
+module _ (κ : NamedLft) (W Plan Taken : RattleType) (g : Ghosts W.Denot Plan.Denot Taken.Denot) (w : IsSend W) (p : IsSend Plan) (t : IsSend Taken) where
+  its_post_sync : IsSync (post.the_row W Plan Taken g)
+  its_post_sync = post_sync W Plan Taken g w p
 
   writing_send : IsSend (writing.the_row κ W Plan Taken g)
   writing_send =
       declared_send (writing.the_type κ W Plan Taken g) (
-        search (sendable, crosses, bus_sync) depth 40,
-        (search (sendable, crosses, bells_sync) depth 40, (search (sendable, crosses) depth 40, (seat_send, (pipe_in_send κ, (search (sendable, crosses) depth 40, tt))))),
+        search (sendable, crosses, its_post_sync) depth 40,
+        (seat_send, (pipe_in_send κ, (search (sendable, crosses) depth 40, tt))),
       )
 
   reading_send : IsSend (reading.the_row κ W Plan Taken g)
   reading_send =
       declared_send (reading.the_type κ W Plan Taken g) (
-        search (sendable, crosses, bus_sync) depth 40,
-        (search (sendable, crosses, bells_sync) depth 40, (search (sendable, crosses) depth 40, (seat_send, (pipe_out_send κ, (search (sendable, crosses) depth 40, tt))))),
+        search (sendable, crosses, its_post_sync) depth 40,
+        (seat_send, (pipe_out_send κ, (search (sendable, crosses) depth 40, tt))),
       )
 
   pub job_send : (X : RattleType) → IsSend X → IsSend (job.the_row κ W X Plan Taken g)
@@ -57,8 +56,8 @@ module _ (κ : NamedLft) (W Plan Taken : RattleType) (g : Ghosts W.Denot Plan.De
   ticked_bus_send : IsSend (ticked_bus.the_row κ W Plan Taken g)
   ticked_bus_send =
       declared_send (ticked_bus.the_type κ W Plan Taken g) (
-        search (sendable, crosses, bus_sync) depth 40,
-        (search (sendable, crosses, bells_sync) depth 40, (seat_send, (search (sendable, crosses) depth 40, tt))),
+        search (sendable, crosses, its_post_sync) depth 40,
+        (seat_send, (search (sendable, crosses) depth 40, tt)),
       )
 
   pub ticking_send : (C : RattleType) → IsSend C → IsSend (ticking.the_row κ W C Plan Taken g)

@@ -6,20 +6,21 @@ use Rattle.tb_terms.specs.declared.term.Term.{Term}
 use Rattle.tb_log.specs.declared.entry.Reply.{Reply}
 use Rattle.tb_log.specs.declared.entry.Out.{Out}
 use Rattle.tb_log.specs.declared.entry.Entry.TheVariants.{Fed, Gave}
+use Rattle.tb_core.specs.Cores.{HandIn, HandOut}
 use Rattle.tb_lock.specs.Seats.{SeatView}
 use Rattle.tb_run.specs.declared.ends.WorkEnd.{WorkEnd}
-use Rattle.tb_run.specs.Seats.{Adds, SameMarks}
-use Rattle.tb_run.proofs.SeatLemmas.{adds_none, marks_both, marks_none, marks_on}
+use Rattle.tb_run.specs.Seats.{Adds, FoundFull, SameMarks}
+use Rattle.tb_run.proofs.SeatLemmas.{adds_none, found_on, marks_both, marks_none, marks_on}
 use Rattle.tb_pair.specs.declared.piece.Piece.{Piece}
 use Rattle.tb_pair.specs.declared.piece.Piece.TheVariants.{Told, Last}
 use Rattle.tb_pair.specs.Pieces.{pieces}
 use Rattle.tb_pair.proofs.PieceLemmas.{pieces-append}
 use Rattle.tb_pair.specs.Helpers.Pipes.{GoesIn}
 use Rattle.tb_pair.specs.Piping.{told_by, does, connect}
-use Rattle.tb_pair.specs.Workers.{IsEarly, Goes, WritesPipe}
+use Rattle.tb_pair.specs.Workers.{IsEarly, Goes, WriterFull, WritesPipe}
 use Rattle.tb_pair.specs.Helpers.Settling.{EndsAs}
 use Rattle.tb_pair.specs.Helpers.Writing.{WritesOn, EndsWriting, Wrote, Written, PassesOn}
-use Rattle.tb_pair.proofs.PipeLemmas.{does_append, goes_on, goes_end, goes_in, goes_out, ends_on}
+use Rattle.tb_pair.proofs.PipeLemmas.{does_append, goes_on, goes_end, goes_in, goes_out, ends_by}
 
 pub nothing_on : (old new : SeatView) (sent : List Piece) (flows : Bool) → Adds old new [] → SameMarks old new → WritesOn old new sent sent flows flows
 nothing_on old new sent flows adds marks = record {
@@ -79,8 +80,8 @@ writes_both false a b c s0 s1 s2 f0 f2 one two =
     }
 
 -- behind the line by which it names itself
-pub written_on : (old mid new : SeatView) (reply : Reply) (s0 s1 : List Piece) (flows : Bool) (it : WorkEnd) → Adds old mid (Fed connect reply ∷ []) → SameMarks old mid → Wrote mid new s0 s1 true flows it → Written old new s0 s1 flows it
-written_on old mid new reply s0 s1 flows it adds same w =
+pub written_on : (old mid new : SeatView) (reply : Reply) (s0 s1 : List Piece) (flows flows' : Bool) (it : WorkEnd) → Adds old mid (Fed connect reply ∷ []) → SameMarks old mid → Wrote mid new s0 s1 flows flows' it → Written old new s0 s1 flows' it
+written_on old mid new reply s0 s1 flows flows' it adds same w =
     let named : Goes old mid (Fed connect reply ∷ []) (connect ∷ []) = goes_in old mid connect reply refl adds refl in
     let on : Goes old w.mid (Fed connect reply ∷ w.on.more) (connect ∷ []) = goes_on old mid w.mid (Fed connect reply ∷ []) w.on.more (connect ∷ []) [] named w.on.goes in
     record {
@@ -94,12 +95,12 @@ written_on old mid new reply s0 s1 flows it adds same w =
       sent = w.on.sent;
       whole = w.on.whole;
       marks = marks_on old w.mid new it (marks_both old mid w.mid same w.on.marks) w.ends.marks;
-      ends = ends_on old w.mid new (Fed connect reply ∷ w.on.more) it on.adds w.ends.ends;
+      ends = ends_by (FoundFull (HandOut 1) w.mid new) (WriterFull old new (connect ∷ [])) new it (λ f. inl (found_on (HandOut 1) old w.mid new (Fed connect reply ∷ w.on.more) on.adds f)) w.ends.ends;
     }
 
 -- the line was refused
-pub written_none : (old new : SeatView) (sent : List Piece) (it : WorkEnd) → EndsAs old new it × IsEarly it → Written old new sent sent true it
-written_none old new sent it e =
+pub written_none : (old new : SeatView) (sent : List Piece) (flows : Bool) (it : WorkEnd) → EndsAs (FoundFull (HandIn connect) old new) old new it × IsEarly it → Written old new sent sent flows it
+written_none old new sent flows it e =
     record {
       more = [];
       given = [];
@@ -111,7 +112,7 @@ written_none old new sent it e =
       sent = sym (append-nil sent);
       whole = λ h. refl;
       marks = e.0.marks;
-      ends = e.0.ends;
+      ends = ends_by (FoundFull (HandIn connect) old new) (WriterFull old new []) new it (λ f. inr (refl, f)) e.0.ends;
     }
 
 pub wrote_none : (seat : SeatView) (sent : List Piece) (flows : Bool) → WritesOn seat seat sent sent flows flows

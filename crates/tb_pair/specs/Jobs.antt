@@ -29,8 +29,8 @@ pub record ReadingDone (old new : SeatView) (pipe pipe' : PipeOut) (it : WorkEnd
 
 abbrev pub IsReady : {W J Plan Taken : Type 0} → (J → Type 0) → PairJob W J Plan Taken → Type 0
 IsReady ready (Other job) = ready job
-IsReady ready (Writes job) = CanServe job.shared.now job.seat × (job.pipe.flows ≡ true)
-IsReady ready (Reads job) = CanServe job.shared.now job.seat
+IsReady ready (Writes job) = CanServe job.post.now.shared job.seat
+IsReady ready (Reads job) = CanServe job.post.now.shared job.seat
 
 abbrev pub JobDone : {W J Plan Taken : Type 0} → (J → J → Type 0) → PairJob W J Plan Taken → PairJob W J Plan Taken → Type 0
 JobDone done (Other job) (Other job') = done job job'

@@ -1,5 +1,5 @@
 -- What each of the two workers of a pipe has done once it ends: over what its seat has seen, and over what its end of the pipe sent or received in the call.
-use Rattle.std.specs.Prelude.{◌≡◌, ◌≤◌, ◌⊎◌, Bool, true, List, [], ◌∷◌, ◌++◌, length, None}
+use Rattle.std.specs.Prelude.{◌≡◌, ◌≤◌, ◌⊎◌, Bool, true, false, List, [], ◌∷◌, ◌++◌, length, None}
 use Rattle.tb_terms.specs.declared.term.Term.{Term}
 use Rattle.tb_log.specs.declared.entry.Input.{Input}
 use Rattle.tb_log.specs.declared.entry.Entry.{Entry}
@@ -15,7 +15,7 @@ use Rattle.tb_run.specs.Seats.{Adds, Marks, FoundFull}
 use Rattle.tb_run.specs.Workers.{bus_of, cut_count}
 use Rattle.tb_pair.specs.declared.piece.Piece.{Piece}
 use Rattle.tb_pair.specs.Pieces.{pieces}
-use Rattle.tb_pair.specs.Piping.{does, events, connect, lines_of}
+use Rattle.tb_pair.specs.Piping.{does, events, connect, disconnect, event_of, lines_of}
 
 -- an end by a refused call, or since memory ran out
 abbrev pub IsEarly : WorkEnd → Type 0
@@ -26,16 +26,27 @@ IsEarly end.Full = Unit {0}
 IsEarly end.Failed = ⊥
 IsEarly end.NoMemory = Unit {0}
 
--- why a worker of a pipe may end so
-abbrev pub PipeEnds : SeatView → SeatView → WorkEnd → Type 0
-PipeEnds old new end.Over = ⊥
+-- why a worker of a pipe may end so; `Refused` says which call found no room
+abbrev pub PipeEnds : Type 0 → SeatView → WorkEnd → Type 0
+PipeEnds Refused new end.Over = ⊥
 -- the bus is down, and nothing is left to be handed out
-PipeEnds old new end.Down = (next_out 1 (bus_of new).bench ≡ None) × ((bus_of new).down ≡ true)
-PipeEnds old new end.Stopped = Unit {0}
--- what is to be handed out next found no room, or an input
-PipeEnds old new end.Full = FoundFull (HandOut 1) old new ⊎ ((it : Input) × FoundFull (HandIn it) old new)
-PipeEnds old new end.Failed = ⊥
-PipeEnds old new end.NoMemory = Unit {0}
+PipeEnds Refused new end.Down = (next_out 1 (bus_of new).bench ≡ None) × ((bus_of new).down ≡ true)
+PipeEnds Refused new end.Stopped = Unit {0}
+PipeEnds Refused new end.Full = Refused
+PipeEnds Refused new end.Failed = ⊥
+PipeEnds Refused new end.NoMemory = Unit {0}
+
+-- What found no room: what is to be handed out next, or the line by which the tool names itself, which is missing then.
+abbrev pub WriterFull : SeatView → SeatView → List Input → Type 0
+WriterFull old new given = FoundFull (HandOut 1) old new ⊎ ((given ≡ []) × FoundFull (HandIn connect) old new)
+
+-- Likewise of the reader; or the event of the term that was received last, or the line by which the tool leaves, once it was received that nothing more comes. These are missing then, and none of its inputs was dropped since the bus was down.
+abbrev pub ReaderFull : SeatView → SeatView → List Entry → List Input → List Term → List Term → Bool → Type 0
+ReaderFull old new more given told lost last =
+    FoundFull (HandOut 1) old new
+    ⊎ (((given ≡ []) × FoundFull (HandIn connect) old new)
+    ⊎ (((t : Term) × (lost ≡ t ∷ []) × (given ≡ connect ∷ lines_of told false) × (HasDropped (is_of 1) more → ⊥) × FoundFull (HandIn (event_of t)) old new)
+    ⊎ ((last ≡ true) × (lost ≡ []) × (given ≡ connect ∷ lines_of told false) × (HasDropped (is_of 1) more → ⊥) × FoundFull (HandIn disconnect) old new)))
 
 -- A worker of a pipe that adds these entries: the inputs of lane 1 among them are these, and none says that something couldn't be put.
 pub record Goes (old new : SeatView) (more : List Entry) (given : List Input) : Type 0 where
@@ -57,7 +68,7 @@ pub record WritesPipe (old new : SeatView) (sent_old sent_new : List Piece) (it 
   pub sent : sent_new ≡ sent_old ++ pieces front last
   pub whole : last ≡ true → rest ≡ []
   pub marks : Marks old new it
-  pub ends : PipeEnds old new it
+  pub ends : PipeEnds (WriterFull old new given) new it
 
 -- what was received and not handed in: nothing where the bus is down, one term at most at an early end
 abbrev pub MayLack : WorkEnd → List Term → Type 0
@@ -87,11 +98,11 @@ pub record ReadsPipe (old new : SeatView) (got_old got_new : List Piece) (it : W
   pub last : Bool
   pub leaves : Bool
   -- the tool names itself, then gives these events, then perhaps leaves
-  pub names : (given ≡ connect ∷ lines_of told leaves) ⊎ ((given ≡ []) × (told ≡ []) × IsEarly it)
+  pub names : (given ≡ connect ∷ lines_of told leaves) ⊎ ((given ≡ []) × (told ++ lost ≡ []) × (last ≡ false) × (leaves ≡ false) × IsEarly it)
   pub events_are : events more ≡ told
   pub got : got_new ≡ got_old ++ pieces (told ++ lost) last
   pub said : leaves ≡ true → (last ≡ true) × (lost ≡ [])
   pub lacks : MayLack it lost
   pub why : WhyDown it leaves more
   pub marks : Marks old new it
-  pub ends : PipeEnds old new it
+  pub ends : PipeEnds (ReaderFull old new more given told lost last) new it

@@ -7,23 +7,21 @@ ghost use Rattle.tb_pair.specs.Jobs.{IsReady, JobDone};
 use crate::pipe::{PipeIn, PipeOut};
 use crate::reader::pipe_reader;
 use crate::writer::pipe_writer;
-use std::alloc::Global;
 use std::sync::Wait;
 use std::thread::Threads;
 use tb_algebra::Walker;
-use tb_bells::Bells;
 use tb_edge::{Crew, CrewFault, Job};
-use tb_lock::{Seat, Shared};
-use tb_run::WorkEnd;
+use tb_lock::Seat;
+use tb_run::{Post, WorkEnd};
 
 /// The worker that writes the pipe, as a job.
 #[derive(Drop)]
 pub struct PipeWriting<'a, W: Walker> {
-    pub shared: &'a Shared<W>,
-    pub bells: &'a Bells,
-    pub alloc: Global,
+    /// The bus that it works on.
+    pub post: &'a Post<W>,
     /// Has both rights of lane 1.
     pub seat: Seat,
+    /// The end that it writes.
     pub pipe: PipeIn<'a>,
     /// Why the worker ended, once it has.
     pub end: WorkEnd,
@@ -32,11 +30,11 @@ pub struct PipeWriting<'a, W: Walker> {
 /// The worker that reads the pipe, as a job.
 #[derive(Drop)]
 pub struct PipeReading<'a, W: Walker> {
-    pub shared: &'a Shared<W>,
-    pub bells: &'a Bells,
-    pub alloc: Global,
+    /// The bus that it works on.
+    pub post: &'a Post<W>,
     /// Has both rights of lane 1.
     pub seat: Seat,
+    /// The end that it reads.
     pub pipe: PipeOut<'a>,
     /// Why the worker ended, once it has.
     pub end: WorkEnd,
@@ -64,24 +62,10 @@ impl<'a, W: Walker, J: Job> Job for PairJob<'a, W, J> {
         match self {
             PairJob::Other(job) => job.work(rt),
             PairJob::Writes(job) => {
-                job.end = pipe_writer(
-                    rt,
-                    job.alloc,
-                    job.shared,
-                    job.bells,
-                    &mut job.seat,
-                    &mut job.pipe,
-                );
+                job.end = pipe_writer(rt, job.post, &mut job.seat, &mut job.pipe);
             }
             PairJob::Reads(job) => {
-                job.end = pipe_reader(
-                    rt,
-                    job.alloc,
-                    job.shared,
-                    job.bells,
-                    &mut job.seat,
-                    &mut job.pipe,
-                );
+                job.end = pipe_reader(rt, job.post, &mut job.seat, &mut job.pipe);
             }
         }
     }

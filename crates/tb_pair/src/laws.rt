@@ -1,19 +1,21 @@
-ghost use Rattle.std.specs.Prelude.{◌≡◌, ◌+◌, ℕ, [], ◌∷◌, map, length, true, Option};
+ghost use Rattle.std.specs.Prelude.{◌≡◌, ◌+◌, ◌++◌, ℕ, List, [], ◌∷◌, map, length, true, Option};
 ghost use Rattle.std.specs.List.{fold};
 ghost use Rattle.atomic_table.specs.Seated.{TableId};
 ghost use Rattle.rtrb.specs.Ring.{IsPair, received, sent};
 ghost use Rattle.tb_edge.specs.Ends.{ClockView};
+ghost use Rattle.tb_edge.specs.Faults.{Rose};
 ghost use Rattle.tb_lock.specs.Rights.{In, Out as Outs, AreAmong, all_rights, has, united, without};
 ghost use Rattle.tb_lock.specs.Seats.{SeatView};
 ghost use Rattle.tb_run.specs.declared.ends.WorkEnd.{WorkEnd};
 ghost use Rattle.tb_run.specs.Parting.{CanPart};
 ghost use Rattle.tb_run.specs.Parts.{to_tick};
+ghost use Rattle.tb_pair.specs.declared.piece.Piece.{Piece};
 ghost use Rattle.tb_pair.specs.Clocks.{ClockPasses};
 ghost use Rattle.tb_pair.specs.Jobs.{CanServe};
 ghost use Rattle.tb_pair.specs.Parts.{pair_rights, pair_left, to_pipe};
 ghost use Rattle.tb_pair.specs.Passing.{IsPartOf, Passes};
 ghost use Rattle.tb_pair.specs.Ticking.{CanTick, TicksPair};
-ghost use Rattle.tb_pair.specs.Workers.{WritesPipe, ReadsPipe};
+ghost use Rattle.tb_pair.specs.Workers.{IsEarly, WritesPipe, ReadsPipe};
 
 use crate::pipe::{PipeIn, PipeOut};
 
@@ -22,14 +24,16 @@ use crate::pipe::{PipeIn, PipeOut};
 /// `others_last` for the worker that read. The two logs then agree about the pipe.
 pub fn ends_meet<'a>(writes: PipeIn<'a>, reads: PipeOut<'a>)
     requires { IsPair writes.end reads.end }
-    ensures { (bus others_bus : TableId)
+    ensures passes { (bus others_bus : TableId)
         (begun done last others_begun others_done others_last : SeatView)
         (writer reader : WorkEnd)
         → WritesPipe begun done [] (sent writes.entry.end) writer
         → ReadsPipe others_begun others_done [] (received reads.entry.end) reader
         → CanServe bus begun → IsPartOf begun done last
         → CanServe others_bus others_begun → IsPartOf others_begun others_done others_last
-        → Passes last.seen others_last.seen writer reader }
+        → Passes last.seen others_last.seen (IsEarly writer) (IsEarly reader) }
+    ensures met { (known : List Piece)
+        × (received reads.entry.end ++ known ≡ sent writes.entry.end) }
 {
     let PipeIn {
         end: mut producer,
@@ -53,8 +57,8 @@ pub fn ticks_meet()
         told_old told_new faults_old faults_new it others
         → CanTick bus begun → IsPartOf begun done last
         → CanTick others_bus others_begun → IsPartOf others_begun others_done others_last
-        → ClockPasses most last.seen others_last.seen
-        told_old told_new faults_old faults_new it others }
+        → ClockPasses most last.seen others_last.seen told_old told_new
+        (Rose faults_old faults_new) (IsEarly it) (IsEarly others) }
 {}
 
 /// The first seat of a bus of a pair can be parted into one for each worker and one that hands in ticks, and these come together again

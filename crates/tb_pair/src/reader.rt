@@ -10,55 +10,50 @@ use crate::lines::input_of;
 use crate::piece::Piece;
 use crate::pipe::{LANE, PipeOut};
 use crate::settle::{hand_over, name_itself};
-use std::alloc::Global;
 use std::sync::Wait;
 use tb_algebra::Walker;
-use tb_bells::{Bells, Sleeper};
+use tb_bells::Sleeper;
 use tb_core::TakeOut;
-use tb_lock::{Seat, Shared, calls_add_their_own};
-use tb_run::{WorkEnd, refused, stop, tell_taken};
+use tb_lock::{Seat, calls_add_their_own};
+use tb_run::{Post, WorkEnd, refused, stop};
 
 /// Names the tool of lane 1 `pipe`, and hands in the terms that come through the pipe as events of this tool. Where nothing more comes
 /// it hands in that the tool leaves. Between these it takes out what is handed out on the lane, and forgets it. It reads until nothing
 /// more comes or an input was dropped since the bus was down, and ends once the bus is down too and nothing is left on the lane; or
-/// where a call of the bus is refused or memory runs out. `alloc` is for the name and the events.
+/// where a call of the bus is refused or memory runs out.
 pub fn pipe_reader<'a, W: Walker, R: Wait>(
     rt: &R,
-    alloc: Global,
-    shared: &Shared<W>,
-    bells: &Bells,
+    post: &Post<W>,
     seat: &mut Seat,
     pipe: &mut PipeOut<'a>,
 ) -> WorkEnd
-    requires own { seat.old.bus ≡ shared.now }
+    requires own { seat.old.bus ≡ post.now.shared }
     requires reads { has seat.old.rights (In 1) ≡ true }
     requires writes { has seat.old.rights (Outs 1) ≡ true }
     ensures ring { SameConsumer pipe.old.end pipe.new.end }
     ensures work { ReadsPipe seat.old seat.new (received pipe.old.end) (received pipe.new.end)
         result }
 {
-    let end = read_all(rt, alloc, shared, bells, seat, pipe);
+    let end = read_all(rt, post, seat, pipe);
     pipe.end();
     end
 }
 
 fn read_all<'a, W: Walker, R: Wait>(
     rt: &R,
-    alloc: Global,
-    shared: &Shared<W>,
-    bells: &Bells,
+    post: &Post<W>,
     seat: &mut Seat,
     pipe: &mut PipeOut<'a>,
 ) -> WorkEnd
-    requires own { seat.old.bus ≡ shared.now }
+    requires own { seat.old.bus ≡ post.now.shared }
     requires reads { has seat.old.rights (In 1) ≡ true }
     requires writes { has seat.old.rights (Outs 1) ≡ true }
     ensures ring { SameConsumer pipe.old.end pipe.new.end }
     ensures work { ReadsPipe seat.old seat.new (received pipe.old.end) (received pipe.new.end)
         result }
 {
-    match name_itself(rt, alloc, shared, bells, seat) {
-        Ok(reads) => read_on(rt, alloc, shared, bells, seat, pipe, reads),
+    match name_itself(rt, post, seat) {
+        Ok(reads) => read_on(rt, post, seat, pipe, reads),
         Err(end) => end,
     }
 }
@@ -66,14 +61,12 @@ fn read_all<'a, W: Walker, R: Wait>(
 /// Hands in what comes, and takes out what is to be handed out and forgets it, until the worker ends.
 fn read_on<'a, W: Walker, R: Wait>(
     rt: &R,
-    alloc: Global,
-    shared: &Shared<W>,
-    bells: &Bells,
+    post: &Post<W>,
     seat: &mut Seat,
     pipe: &mut PipeOut<'a>,
     reads: bool,
 ) -> WorkEnd
-    requires own { seat.old.bus ≡ shared.now }
+    requires own { seat.old.bus ≡ post.now.shared }
     requires reads { has seat.old.rights (In 1) ≡ true }
     requires writes { has seat.old.rights (Outs 1) ≡ true }
     ensures ring { SameConsumer pipe.old.end pipe.new.end }
@@ -83,7 +76,7 @@ fn read_on<'a, W: Walker, R: Wait>(
     let mut reads = reads;
     let mut heard = 0;
     for _ in rt.forever() {
-        match read_some(rt, alloc, shared, bells, seat, pipe, &mut reads, &mut heard) {
+        match read_some(rt, post, seat, pipe, &mut reads, &mut heard) {
             Some(end) => return end,
             None => {}
         }
@@ -94,15 +87,13 @@ fn read_on<'a, W: Walker, R: Wait>(
 /// Takes out one item, or where there is none hands in one piece. Where there is neither, it sleeps.
 fn read_some<'a, W: Walker, R: Wait>(
     rt: &R,
-    alloc: Global,
-    shared: &Shared<W>,
-    bells: &Bells,
+    post: &Post<W>,
     seat: &mut Seat,
     pipe: &mut PipeOut<'a>,
     reads: &mut bool,
     heard: &mut u64,
 ) -> Option<WorkEnd>
-    requires own { seat.old.bus ≡ shared.now }
+    requires own { seat.old.bus ≡ post.now.shared }
     requires reads { has seat.old.rights (In 1) ≡ true }
     requires writes { has seat.old.rights (Outs 1) ≡ true }
     ensures ring { SameConsumer pipe.old.end pipe.new.end }
@@ -112,11 +103,11 @@ fn read_some<'a, W: Walker, R: Wait>(
         (EndsReading seat.old seat.new (received pipe.old.end) (received pipe.new.end)
         reads.old) }
 {
-    match take_out(rt, shared, bells, seat) {
+    match take_out(rt, post, seat) {
         Taken::Some => None,
-        Taken::Nothing => feed(rt, alloc, shared, bells, seat, pipe, reads, heard),
+        Taken::Nothing => feed(rt, post, seat, pipe, reads, heard),
         Taken::Closed => if *reads {
-            feed(rt, alloc, shared, bells, seat, pipe, reads, heard)
+            feed(rt, post, seat, pipe, reads, heard)
         } else {
             Some(WorkEnd::Down)
         },
@@ -138,51 +129,49 @@ pub(crate) enum Taken {
 }
 
 /// Takes out what is to be handed out next, and forgets it.
-fn take_out<W: Walker, R: Wait>(rt: &R, shared: &Shared<W>, bells: &Bells, seat: &mut Seat) -> Taken
-    requires own { seat.old.bus ≡ shared.now }
+fn take_out<W: Walker, R: Wait>(rt: &R, post: &Post<W>, seat: &mut Seat) -> Taken
+    requires own { seat.old.bus ≡ post.now.shared }
     requires writes { has seat.old.rights (Outs 1) ≡ true }
     ensures { TakesOut seat.old seat.new result }
 {
     calls_add_their_own();
-    if !shared.calls_for(LANE) {
+    if !post.shared.calls_for(LANE) {
         return Taken::Nothing;
     }
-    match shared.take_out(rt, seat, LANE) {
+    match post.shared.take_out(rt, seat, LANE) {
         Ok(TakeOut::Out(out)) => {
-            tell_taken(bells, &out);
+            post.tell_taken(&out);
             Taken::Some
         }
         Ok(TakeOut::Nothing) => Taken::Nothing,
         Ok(TakeOut::Closed) => Taken::Closed,
-        Err(fault) => Taken::Ends(refused(rt, shared, bells, seat, fault)),
+        Err(fault) => Taken::Ends(refused(rt, post, seat, fault)),
     }
 }
 
 /// Hands in the next piece if one is there, or sleeps.
 fn feed<'a, W: Walker, R: Wait>(
     rt: &R,
-    alloc: Global,
-    shared: &Shared<W>,
-    bells: &Bells,
+    post: &Post<W>,
     seat: &mut Seat,
     pipe: &mut PipeOut<'a>,
     reads: &mut bool,
     heard: &mut u64,
 ) -> Option<WorkEnd>
-    requires own { seat.old.bus ≡ shared.now }
+    requires own { seat.old.bus ≡ post.now.shared }
     requires reads { has seat.old.rights (In 1) ≡ true }
     ensures ring { SameConsumer pipe.old.end pipe.new.end }
     ensures work { Feeds seat.old seat.new (received pipe.old.end) (received pipe.new.end)
         reads.old reads.new result }
 {
     if !*reads {
-        *heard = bells.wait_past(rt, Sleeper::Writer(LANE), *heard);
+        *heard = post.bells.wait_past(rt, Sleeper::Writer(LANE), *heard);
         return None;
     }
     match pipe.next() {
-        Some(piece) => feed_piece(rt, alloc, shared, bells, seat, reads, piece),
+        Some(piece) => feed_piece(rt, post, seat, reads, piece),
         None => {
-            *heard = bells.wait_past(rt, Sleeper::Writer(LANE), *heard);
+            *heard = post.bells.wait_past(rt, Sleeper::Writer(LANE), *heard);
             None
         }
     }
@@ -191,21 +180,19 @@ fn feed<'a, W: Walker, R: Wait>(
 /// Hands a piece in, and sets whether it reads on.
 fn feed_piece<W: Walker, R: Wait>(
     rt: &R,
-    alloc: Global,
-    shared: &Shared<W>,
-    bells: &Bells,
+    post: &Post<W>,
     seat: &mut Seat,
     reads: &mut bool,
     piece: Piece,
 ) -> Option<WorkEnd>
-    requires own { seat.old.bus ≡ shared.now }
+    requires own { seat.old.bus ≡ post.now.shared }
     requires right { has seat.old.rights (In 1) ≡ true }
     requires reads { reads.old ≡ true }
     ensures { (got : List Piece)
         → Feeds seat.old seat.new got (got ++ piece ∷ []) true reads.new result }
 {
     let last = is_last(&piece);
-    match hand_piece(rt, alloc, shared, bells, seat, piece) {
+    match hand_piece(rt, post, seat, piece) {
         Ok(up) => {
             *reads = up & !last;
             None
@@ -222,20 +209,18 @@ fn is_last(piece: &Piece) -> bool
 
 fn hand_piece<W: Walker, R: Wait>(
     rt: &R,
-    alloc: Global,
-    shared: &Shared<W>,
-    bells: &Bells,
+    post: &Post<W>,
     seat: &mut Seat,
     piece: Piece,
 ) -> Result<bool, WorkEnd>
-    requires own { seat.old.bus ≡ shared.now }
+    requires own { seat.old.bus ≡ post.now.shared }
     requires right { has seat.old.rights (In 1) ≡ true }
     ensures { Settles (line_of piece) seat.old seat.new result }
 {
-    match input_of(alloc, piece) {
-        Ok(input) => hand_over(rt, shared, bells, seat, input),
+    match input_of(post.alloc, piece) {
+        Ok(input) => hand_over(rt, post, seat, input),
         Err(_) => {
-            stop(rt, shared, bells, seat);
+            stop(rt, post, seat);
             Err(WorkEnd::NoMemory)
         }
     }

@@ -7,28 +7,25 @@ ghost use Rattle.tb_pair.specs.Piping.{connect};
 ghost use Rattle.tb_pair.specs.Helpers.Settling.{Settles, settled};
 
 use crate::lines::connect_input;
-use std::alloc::Global;
 use std::sync::Wait;
 use tb_algebra::Walker;
-use tb_bells::Bells;
-use tb_lock::{Seat, Shared};
+use tb_lock::Seat;
 use tb_log::Input;
-use tb_run::{WorkEnd, hand, stop};
+use tb_run::{Post, WorkEnd, hand, stop};
 
 /// Hands an input in, and gives whether the bus isn't down, or why the worker ends.
 pub(crate) fn hand_over<W: Walker, R: Wait>(
     rt: &R,
-    shared: &Shared<W>,
-    bells: &Bells,
+    post: &Post<W>,
     seat: &mut Seat,
     input: Input,
 ) -> Result<bool, WorkEnd>
-    requires own { seat.old.bus ≡ shared.now }
+    requires own { seat.old.bus ≡ post.now.shared }
     requires form { IsInputInShape input }
     requires right { has seat.old.rights (right_to (HandIn input)) ≡ true }
     ensures { Settles input seat.old seat.new result }
 {
-    settle(hand(rt, shared, bells, seat, input))
+    settle(hand(rt, post, seat, input))
 }
 
 fn settle(answer: Option<WorkEnd>) -> Result<bool, WorkEnd>
@@ -44,19 +41,17 @@ fn settle(answer: Option<WorkEnd>) -> Result<bool, WorkEnd>
 /// Hands in the line by which the tool of lane 1 names itself.
 pub(crate) fn name_itself<W: Walker, R: Wait>(
     rt: &R,
-    alloc: Global,
-    shared: &Shared<W>,
-    bells: &Bells,
+    post: &Post<W>,
     seat: &mut Seat,
 ) -> Result<bool, WorkEnd>
-    requires own { seat.old.bus ≡ shared.now }
+    requires own { seat.old.bus ≡ post.now.shared }
     requires reads { has seat.old.rights (In 1) ≡ true }
     ensures { Settles connect seat.old seat.new result }
 {
-    match connect_input(alloc) {
-        Ok(input) => hand_over(rt, shared, bells, seat, input),
+    match connect_input(post.alloc) {
+        Ok(input) => hand_over(rt, post, seat, input),
         Err(_) => {
-            stop(rt, shared, bells, seat);
+            stop(rt, post, seat);
             Err(WorkEnd::NoMemory)
         }
     }

@@ -22,8 +22,8 @@ impl<'a, W: Walker, C: Clock> Job for PairTicking<'a, W, C> {
     ghost use Rattle.std.specs.Prelude.{◌≡◌, None};
     ghost use Rattle.tb_pair.specs.Ticking.{CanTick, TicksPair};
 
-    ghost ready = { λ it. CanTick it.one.shared.now it.one.seat × (it.one.end ≡ None)
-        × CanTick it.other.shared.now it.other.seat × (it.other.end ≡ None) };
+    ghost ready = { λ it. CanTick it.one.post.now.shared it.one.seat × (it.one.end ≡ None)
+        × CanTick it.other.post.now.shared it.other.seat × (it.other.end ≡ None) };
 
     ghost done = { λ old new. (new.clock.ghost_name ≡ old.clock.ghost_name)
         × TicksPair old.ticks old.one.seat new.one.seat old.other.seat new.other.seat

@@ -1,22 +1,21 @@
-ghost use Rattle.std.specs.Prelude.{◌≡◌, ◌⊎◌, ◌+◌, ℕ, None, MatchOption};
+ghost use Rattle.std.specs.Prelude.{◌≡◌, ◌+◌, ◌&&◌, ℕ, None, is_some, MatchOption};
 ghost use Rattle.tb_lock.specs.Seats.{SeatView};
-ghost use Rattle.tb_run.specs.Ticking.{EndsAll};
-ghost use Rattle.tb_pair.specs.Ticking.{CanTick, TicksSeat, TicksPair, IsCut};
-ghost use Rattle.tb_pair.specs.Helpers.Ticking.{Ticked, TickedAll, TicksOne, NoTick, MayEnd};
+ghost use Rattle.tb_run.specs.Helpers.Ticking.{EndsAll};
+ghost use Rattle.tb_pair.specs.Ticking.{CanTick, TicksPair};
+ghost use Rattle.tb_pair.specs.Helpers.Ticking.{Ticked, TickedMore, TickedAll, TicksOne, NoTick, SaysSo};
 
 use std::sync::Wait;
 use tb_algebra::Walker;
-use tb_bells::Bells;
 use tb_edge::{Beat, Clock};
-use tb_lock::{Seat, Shared};
+use tb_lock::Seat;
 use tb_log::Input;
-use tb_run::{WorkEnd, hand};
+use tb_run::{Post, WorkEnd, hand};
 
 /// One of two buses that get the ticks of one clock.
 #[derive(Drop)]
 pub struct TickedBus<'a, W: Walker> {
-    pub shared: &'a Shared<W>,
-    pub bells: &'a Bells,
+    /// The bus.
+    pub post: &'a Post<W>,
     /// Has the right to hand in ticks.
     pub seat: Seat,
     /// Why the bus gets no more of them, if it gets none.
@@ -32,8 +31,8 @@ pub fn pair_ticker<'a, W: Walker, R: Wait, C: Clock>(
     clock: &mut C,
     ticks: u64,
 ) -> (WorkEnd, WorkEnd)
-    requires one { CanTick one.old.shared.now one.old.seat × (one.old.end ≡ None) }
-    requires other { CanTick other.old.shared.now other.old.seat × (other.old.end ≡ None) }
+    requires one { CanTick one.old.post.now.shared one.old.seat × (one.old.end ≡ None) }
+    requires other { CanTick other.old.post.now.shared other.old.seat × (other.old.end ≡ None) }
     ensures { TicksPair ticks one.old.seat one.new.seat other.old.seat other.new.seat
         (C.told clock.old) (C.told clock.new) (C.faults clock.old) (C.faults clock.new)
         result.0 result.1 }
@@ -52,13 +51,13 @@ fn tick_all<'a, W: Walker, R: Wait, C: Clock>(
     clock: &mut C,
     ticks: u64,
 ) -> WorkEnd
-    requires one { CanTick one.old.shared.now one.old.seat × (one.old.end ≡ None) }
-    requires other { CanTick other.old.shared.now other.old.seat × (other.old.end ≡ None) }
+    requires one { CanTick one.old.post.now.shared one.old.seat × (one.old.end ≡ None) }
+    requires other { CanTick other.old.post.now.shared other.old.seat × (other.old.end ≡ None) }
     ensures ticked { TickedAll ticks one.old.seat one.new.seat one.new.end
         other.old.seat other.new.seat other.new.end
         (C.told clock.old) (C.told clock.new) (C.faults clock.old) (C.faults clock.new) result }
-    ensures one { CanTick one.new.shared.now one.new.seat }
-    ensures other { CanTick other.new.shared.now other.new.seat }
+    ensures one { CanTick one.new.post.now.shared one.new.seat }
+    ensures other { CanTick other.new.post.now.shared other.new.seat }
 {
     for _done in 0..ticks {
         match tick_one(rt, one, other, clock) {
@@ -76,8 +75,8 @@ fn tick_one<'a, W: Walker, R: Wait, C: Clock>(
     other: &mut TickedBus<'a, W>,
     clock: &mut C,
 ) -> Option<WorkEnd>
-    requires one { CanTick one.old.shared.now one.old.seat }
-    requires other { CanTick other.old.shared.now other.old.seat }
+    requires one { CanTick one.old.post.now.shared one.old.seat }
+    requires other { CanTick other.old.post.now.shared other.old.seat }
     ensures ticked { MatchOption result
         (TicksOne one.old.seat one.new.seat one.old.end one.new.end
         other.old.seat other.new.seat other.old.end other.new.end
@@ -86,10 +85,10 @@ fn tick_one<'a, W: Walker, R: Wait, C: Clock>(
         × (one.new.end ≡ one.old.end) × (other.new.end ≡ other.old.end)
         × NoTick one.old.end other.old.end (C.told clock.old) (C.told clock.new)
         (C.faults clock.old) (C.faults clock.new) wanted) }
-    ensures one { CanTick one.new.shared.now one.new.seat }
-    ensures other { CanTick other.new.shared.now other.new.seat }
+    ensures one { CanTick one.new.post.now.shared one.new.seat }
+    ensures other { CanTick other.new.post.now.shared other.new.seat }
 {
-    if one.end.is_some() && other.end.is_some() {
+    if neither(one.end, other.end) {
         return Some(WorkEnd::Down);
     }
     match clock.wait() {
@@ -103,27 +102,30 @@ fn tick_one<'a, W: Walker, R: Wait, C: Clock>(
     }
 }
 
+/// Returns whether neither bus gets ticks any more, from why each gets none.
+fn neither(one: Option<WorkEnd>, other: Option<WorkEnd>) -> bool
+    ensures { result ≡ (is_some one && is_some other) }
+{
+    one.is_some() && other.is_some()
+}
+
 /// Hands a tick to a bus that gets them still.
 fn tick<'a, W: Walker, R: Wait>(rt: &R, bus: &mut TickedBus<'a, W>)
-    requires { CanTick bus.old.shared.now bus.old.seat }
+    requires { CanTick bus.old.post.now.shared bus.old.seat }
     ensures ticked { (begun : SeatView) (given : ℕ) → Ticked begun bus.old.seat given bus.old.end
-        → Ticked begun bus.new.seat (given + 1) bus.new.end }
-    ensures can { CanTick bus.new.shared.now bus.new.seat }
+        → TickedMore begun bus.new.seat (given + 1) bus.old.end bus.new.end }
+    ensures can { CanTick bus.new.post.now.shared bus.new.seat }
 {
     match bus.end {
         Some(_) => {}
-        None => bus.end = hand(rt, bus.shared, bus.bells, &mut bus.seat, Input::Tick),
+        None => bus.end = hand(rt, bus.post, &mut bus.seat, Input::Tick),
     }
 }
 
 /// Hands in that no more ticks come, to a bus that gets them still.
 fn no_more<'a, W: Walker, R: Wait>(rt: &R, bus: &mut TickedBus<'a, W>, wanted: WorkEnd) -> WorkEnd
-    requires can { CanTick bus.old.shared.now bus.old.seat }
-    requires may { MayEnd bus.old.end wanted }
-    ensures seat { (begun : SeatView) (given : ℕ) → Ticked begun bus.old.seat given bus.old.end
-        → TicksSeat begun bus.new.seat given result }
-    ensures by { (begun : SeatView) (given : ℕ) → Ticked begun bus.old.seat given bus.old.end
-        → (result ≡ wanted) ⊎ IsCut result }
+    requires { CanTick bus.old.post.now.shared bus.old.seat }
+    ensures { SaysSo bus.old.end bus.old.seat bus.new.seat wanted result }
 {
     match bus.end {
         Some(it) => it,
@@ -132,10 +134,10 @@ fn no_more<'a, W: Walker, R: Wait>(rt: &R, bus: &mut TickedBus<'a, W>, wanted: W
 }
 
 fn say_so<'a, W: Walker, R: Wait>(rt: &R, bus: &mut TickedBus<'a, W>, end: WorkEnd) -> WorkEnd
-    requires { CanTick bus.old.shared.now bus.old.seat }
+    requires { CanTick bus.old.post.now.shared bus.old.seat }
     ensures { EndsAll bus.old.seat bus.new.seat end result }
 {
-    match hand(rt, bus.shared, bus.bells, &mut bus.seat, Input::NoTicks) {
+    match hand(rt, bus.post, &mut bus.seat, Input::NoTicks) {
         None => end,
         Some(WorkEnd::Down) => end,
         Some(other) => other,

@@ -9,59 +9,52 @@ use crate::lines::told_of;
 use crate::piece::Piece;
 use crate::pipe::{LANE, PipeIn};
 use crate::settle::name_itself;
-use std::alloc::Global;
 use std::sync::Wait;
 use tb_algebra::Walker;
 use tb_bells::Bells;
 use tb_bus::entries_are_in_shape;
 use tb_core::TakeOut;
-use tb_lock::{Seat, Shared, calls_add_their_own};
+use tb_lock::{Seat, calls_add_their_own};
 use tb_log::Out;
-use tb_run::{WorkEnd, refused, tell_taken, wait_for_call};
+use tb_run::{Post, WorkEnd, refused, wait_for_call};
 
 /// Names the tool of lane 1 `pipe`, and sends all that this tool is told to do through the pipe. It ends once the bus is down and nothing
 /// is left to be handed out on the lane, or where a call of the bus is refused or memory runs out. Then it sends that nothing more comes.
-/// If the reader has ended, it takes out all the same and sends nothing more. `alloc` is for the name.
+/// If the reader has ended, it takes out all the same and sends nothing more.
 pub fn pipe_writer<'a, W: Walker, R: Wait>(
     rt: &R,
-    alloc: Global,
-    shared: &Shared<W>,
-    bells: &Bells,
+    post: &Post<W>,
     seat: &mut Seat,
     pipe: &mut PipeIn<'a>,
 ) -> WorkEnd
-    requires own { seat.old.bus ≡ shared.now }
+    requires own { seat.old.bus ≡ post.now.shared }
     requires reads { has seat.old.rights (In 1) ≡ true }
     requires writes { has seat.old.rights (Outs 1) ≡ true }
-    requires flows { pipe.old.flows ≡ true }
     ensures ring { SameProducer pipe.old.end pipe.new.end }
     ensures work { WritesPipe seat.old seat.new (sent pipe.old.end) (sent pipe.new.end) result }
 {
     let mut heard = 0;
-    let end = write_all(rt, alloc, shared, bells, seat, pipe, &mut heard);
-    pipe.put(rt, bells, &mut heard, Piece::Last);
+    let end = write_all(rt, post, seat, pipe, &mut heard);
+    pipe.put(rt, &post.bells, &mut heard, Piece::Last);
     end
 }
 
 fn write_all<'a, W: Walker, R: Wait>(
     rt: &R,
-    alloc: Global,
-    shared: &Shared<W>,
-    bells: &Bells,
+    post: &Post<W>,
     seat: &mut Seat,
     pipe: &mut PipeIn<'a>,
     heard: &mut u64,
 ) -> WorkEnd
-    requires own { seat.old.bus ≡ shared.now }
+    requires own { seat.old.bus ≡ post.now.shared }
     requires reads { has seat.old.rights (In 1) ≡ true }
     requires writes { has seat.old.rights (Outs 1) ≡ true }
-    requires flows { pipe.old.flows ≡ true }
     ensures ring { SameProducer pipe.old.end pipe.new.end }
     ensures work { Written seat.old seat.new (sent pipe.old.end) (sent pipe.new.end)
         pipe.new.flows result }
 {
-    match name_itself(rt, alloc, shared, bells, seat) {
-        Ok(_) => write_on(rt, shared, bells, seat, pipe, heard),
+    match name_itself(rt, post, seat) {
+        Ok(_) => write_on(rt, post, seat, pipe, heard),
         Err(end) => end,
     }
 }
@@ -69,21 +62,20 @@ fn write_all<'a, W: Walker, R: Wait>(
 /// Takes out and passes on, until the bus is down and nothing is left, or a call is refused.
 fn write_on<'a, W: Walker, R: Wait>(
     rt: &R,
-    shared: &Shared<W>,
-    bells: &Bells,
+    post: &Post<W>,
     seat: &mut Seat,
     pipe: &mut PipeIn<'a>,
     heard: &mut u64,
 ) -> WorkEnd
-    requires own { seat.old.bus ≡ shared.now }
+    requires own { seat.old.bus ≡ post.now.shared }
     requires writes { has seat.old.rights (Outs 1) ≡ true }
     ensures ring { SameProducer pipe.old.end pipe.new.end }
     ensures work { Wrote seat.old seat.new (sent pipe.old.end) (sent pipe.new.end)
         pipe.old.flows pipe.new.flows result }
 {
     for _ in rt.forever() {
-        wait_for_call(rt, shared, bells, LANE, heard);
-        match write_one(rt, shared, bells, seat, pipe, heard) {
+        wait_for_call(rt, post, LANE, heard);
+        match write_one(rt, post, seat, pipe, heard) {
             Some(end) => return end,
             None => {}
         }
@@ -94,13 +86,12 @@ fn write_on<'a, W: Walker, R: Wait>(
 /// Takes out what is to be handed out next and passes it on, if something is there; gives why the worker ends, if it ends.
 fn write_one<'a, W: Walker, R: Wait>(
     rt: &R,
-    shared: &Shared<W>,
-    bells: &Bells,
+    post: &Post<W>,
     seat: &mut Seat,
     pipe: &mut PipeIn<'a>,
     heard: &mut u64,
 ) -> Option<WorkEnd>
-    requires own { seat.old.bus ≡ shared.now }
+    requires own { seat.old.bus ≡ post.now.shared }
     requires writes { has seat.old.rights (Outs 1) ≡ true }
     ensures ring { SameProducer pipe.old.end pipe.new.end }
     ensures work { MatchOption result
@@ -111,15 +102,15 @@ fn write_one<'a, W: Walker, R: Wait>(
 {
     calls_add_their_own();
     entries_are_in_shape();
-    match shared.take_out(rt, seat, LANE) {
+    match post.shared.take_out(rt, seat, LANE) {
         Ok(TakeOut::Out(out)) => {
-            tell_taken(bells, &out);
-            pass_on(rt, bells, pipe, heard, out);
+            post.tell_taken(&out);
+            pass_on(rt, &post.bells, pipe, heard, out);
             None
         }
         Ok(TakeOut::Nothing) => None,
         Ok(TakeOut::Closed) => Some(WorkEnd::Down),
-        Err(fault) => Some(refused(rt, shared, bells, seat, fault)),
+        Err(fault) => Some(refused(rt, post, seat, fault)),
     }
 }
 

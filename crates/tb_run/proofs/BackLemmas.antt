@@ -1,5 +1,5 @@
 -- What comes back of a crew, and what a run comes to by it.
-use Rattle.std.proofs.Common.{◌≡◌, ℕ, List, [], ◌∷◌, map, length, Option, Some, None, MatchOption, Result, Ok, Err, IfOk, IfErr, OnOk, refl, sym, ap, ◌∙◌, subst}
+use Rattle.std.proofs.Common.{◌≡◌, ℕ, List, [], ◌∷◌, ◌++◌, map, length, Option, Some, None, MatchOption, Result, Ok, Err, IfOk, IfErr, OnOk, sym, ap, ◌∙◌, subst}
 use Rattle.std.specs.List.{All}
 use Rattle.tb_edge.specs.Ends.{InletView, ClockView}
 use Rattle.tb_edge.specs.Faults.{Rose}
@@ -14,11 +14,12 @@ use Rattle.tb_run.specs.declared.ends.WorkEnd.{WorkEnd}
 use Rattle.tb_run.specs.declared.ends.LogEnd.{LogEnd}
 use Rattle.tb_run.specs.declared.ends.RunWhy.{RunWhy}
 use Rattle.tb_run.specs.declared.worker.Work.{Work}
+use Rattle.tb_run.specs.declared.worker.Work.TheVariants.{Steps}
 use Rattle.tb_run.specs.Jobs.{HasRight}
 use Rattle.tb_run.specs.Joining.{JoinsAll}
 use Rattle.tb_run.specs.Logging.{LogDone}
-use Rattle.tb_run.specs.Moving.{works_of, inlets_of, outlets_of}
-use Rattle.tb_run.specs.Views.{LaneView, OutsideView, views}
+use Rattle.tb_run.specs.Moving.{readers, writers, inlets_of, outlets_of}
+use Rattle.tb_run.specs.Views.{OutsideView, views}
 use Rattle.tb_run.specs.Parting.{parted, left_after}
 use Rattle.tb_run.specs.Parts.{job_rights, to_tick}
 use Rattle.tb_run.specs.Reasons.{reason_of}
@@ -72,7 +73,7 @@ module _ {X I O : Type 0} (seat : X → SeatView) (ended : X → WorkEnd) (work 
     (most : ℕ) (begun : SeatView) (is : List I) (os : List O) (xs ys : List X) (tick_begun tick_done log_begun log_done : SeatView) (tick_end : WorkEnd) (log_end : LogEnd)
     (clock_old clock_new : Option ClockView) (clock_faults_old clock_faults_new : ℕ) (put_old put_new : Option (List ℕ)) (out_faults_old out_faults_new : ℕ) (writer : WriterView)
     (crew_faults_old crew_faults_new : ℕ)
-    (first : begun ≡ first_seat begun.bus begun.origin) (seats : map seat xs ≡ parted begun job_rights) (works : map work xs ≡ works_of is os)
+    (first : begun ≡ first_seat begun.bus begun.origin) (seats : map seat xs ≡ parted begun job_rights) (works : map work xs ≡ readers 1 is ++ (writers 1 os ++ Steps ∷ []))
     (tick_is : tick_begun ≡ handed_on to_tick (left_after begun job_rights)) (log_is : log_begun ≡ handed_on no_rights (kept_of to_tick (left_after begun job_rights)))
     (sixteen_in : length is ≡ 16) (sixteen_out : length os ≡ 16) (failed : Option RunWhy) where
   -- what was done
@@ -122,8 +123,8 @@ module _ {X I O : Type 0} (seat : X → SeatView) (ended : X → WorkEnd) (work 
             clock_old clock_new clock_faults_old clock_faults_new put_old put_new out_faults_old out_faults_new writer crew_faults_old crew_faults_new
             (record { first = first; seats = seats; works = works; rights = rights; done = w.0; tick_is = tick_is; log_is = log_is; ticks = w.1; logs = w.2; joins = joins; inlets = inlets; outlets = outlets; lanes = sixteen_out; count = sixteen_in ∙ sym sixteen_out }) k)
         go (Some y) w e k =
-            let same_in : is_new ≡ is = inlets ∙ (ap (λ (zs : List X). inlets_of (map work zs)) w.1 ∙ (ap (λ (ws : List (Work I O)). inlets_of ws) works ∙ inlets_works is os)) in
-            let same_out : os_new ≡ os = outlets ∙ (ap (λ (zs : List X). outlets_of (map work zs)) w.1 ∙ (ap (λ (ws : List (Work I O)). outlets_of ws) works ∙ outlets_works is os)) in
+            let same_in : is_new ≡ is = inlets ∙ (ap (λ (zs : List X). inlets_of (map work zs)) w.1 ∙ (ap (λ (ws : List (Work I O)). inlets_of ws) works ∙ inlets_works 1 is os)) in
+            let same_out : os_new ≡ os = outlets ∙ (ap (λ (zs : List X). outlets_of (map work zs)) w.1 ∙ (ap (λ (ws : List (Work I O)). outlets_of ws) works ∙ outlets_works 1 is os)) in
             let lanes : views gave fails took faults is_new os_new ≡ views gave fails took faults is os =
             ap (λ (s : List I). views gave fails took faults s os_new) same_in ∙ ap (λ (s : List O). views gave fails took faults is s) same_out in
             let seats' : map seat ys ≡ parted begun job_rights = ap (λ (zs : List X). map seat zs) w.1 ∙ seats in

@@ -1,14 +1,13 @@
 -- What a run comes to once its bus is closed and the rest of the log was put.
-use Rattle.std.proofs.Common.{◌≡◌, ◌≤◌, ◌<◌, ◌+◌, ◌⊎◌, ℕ, List, [], ◌∷◌, ◌++◌, length, drop, Option, refl, sym, ap, ◌∙◌, subst, inl, inr, append_assoc, length-append, arith}
+use Rattle.std.proofs.Common.{◌≡◌, ◌≤◌, ◌+◌, ◌⊎◌, ℕ, List, ◌++◌, length, drop, Option, sym, ap, ◌∙◌, subst, inl, inr, append_assoc, length-append, arith}
 use Rattle.std.specs.Prelude.{IsTrue}
 use Rattle.std.specs.List.{list_all}
-use Rattle.tb_edge.specs.Ends.{ClockView, and_ticked}
+use Rattle.tb_edge.specs.Ends.{ClockView}
 use Rattle.tb_edge.specs.Faults.{Rose}
 use Rattle.tb_edge.specs.Sinks.{Writes, WritesPrefix, and_more}
 use Rattle.tb_log.specs.LogText.{log_text, log_text_from}
 use Rattle.tb_log.specs.Proper.{is_proper_entry}
 use Rattle.tb_log.specs.declared.entry.Entry.{Entry}
-use Rattle.tb_bus.specs.Buses.{start}
 use Rattle.tb_bus.specs.declared.origin.Origin.{Origin}
 use Rattle.tb_core.specs.Cores.{CoreState}
 use Rattle.tb_lock.specs.Seats.{SeatView}
@@ -18,11 +17,10 @@ use Rattle.tb_run.specs.declared.ends.RunWhy.{RunWhy}
 use Rattle.tb_run.specs.declared.ends.RunWhy.TheVariants as why
 use Rattle.tb_run.specs.Outcomes.{IsRunOf, RunOutcome, Runs, TellsFirst}
 use Rattle.tb_run.specs.Views.{LaneView, OutsideView}
-use Rattle.tb_run.specs.Running.{ComesTo, GoesToRest, HasCome, HasRun, IsAfterRest, IsPut, IsStopped, PutsRest, rest_text}
+use Rattle.tb_run.specs.Running.{ComesTo, GoesToRest, HasCome, IsAfterRest, IsPut, IsStopped, rest_text}
 use Rattle.tb_run.specs.Seats.{SeesTrace}
 use Rattle.tb_run.proofs.LimitLemmas.{LaterLaw, full_at_limit, was_full}
 use Rattle.tb_run.proofs.LogLemmas.{drop_after, more_on, text_append}
-use Rattle.tb_run.proofs.ComeLemmas.{prefix_of_put}
 
 -- the rest of a log may be put
 pub may_rest : (most : ℕ) (old new : OutsideView) (seat : SeatView) (writer : WriterView) (it : RunWhy) → ComesTo most old new seat writer it → GoesToRest seat.seen writer it

@@ -1,5 +1,5 @@
 -- What a run shows that went to its end isn't what a run shows that found the log full.
-use Rattle.std.proofs.Common.{◌≡◌, ◌≤◌, ◌<◌, ◌+◌, ◌⊎◌, ℕ, max, List, [], ◌∷◌, ◌++◌, length, map, Bool, true, false, ◌||◌, cond, Option, Some, None, refl, sym, ap, ◌∙◌, subst, inl, inr, append-nil, length-append, arith}
+use Rattle.std.proofs.Common.{◌≡◌, ◌≤◌, ◌+◌, ◌⊎◌, ℕ, max, List, [], ◌∷◌, ◌++◌, length, map, Bool, true, false, cond, Option, Some, None, refl, sym, ap, ◌∙◌, subst, inl, inr, append-nil, length-append, arith}
 use Rattle.std.specs.Prelude.{filter}
 use Rattle.std.specs.List.{AllZip}
 use Rattle.std.proofs.lemmas.List.{nil_from_length}
@@ -24,14 +24,14 @@ use Rattle.tb_bus.specs.Commands.{largest_command}
 use Rattle.tb_bus.specs.Steps.{steps}
 use Rattle.tb_bus.specs.Traces.{IsTrace, replay}
 use Rattle.tb_bus.specs.declared.origin.Origin.{Origin}
-use Rattle.tb_core.specs.Cores.{CoreState, Call, HandIn, HandOut, MakeStep, bus_now, ends_quiet, is_full, lacks_room, out_entry, step_entry}
+use Rattle.tb_core.specs.Cores.{CoreState, Call, HandOut, MakeStep, bus_now, ends_quiet, is_full, lacks_room, out_entry, step_entry}
 use Rattle.tb_core.specs.Full.{IsAtLimit, MayCall}
 use Rattle.tb_run.specs.Clocks.{ClockRan, is_time}
 use Rattle.tb_run.specs.Dropping.{AreLetIn, HasDropped}
 use Rattle.tb_run.specs.Outcomes.{IsDone, LaneRan, Runs}
-use Rattle.tb_run.specs.Refusals.{CutRefused, HadNoRoom, InputRefused, LaneRefused, NoTicksRefused, TickRefused, WasRefused}
+use Rattle.tb_run.specs.Refusals.{CutRefused, HadNoRoom, InputRefused, LaneRefused, NoTicksRefused, WasRefused}
 use Rattle.tb_run.specs.Views.{AllTell, EachLane, LaneView, OutsideView, SomeLane, Tells}
-use Rattle.tb_run.specs.Workers.{AreLines, AreTicks, IsInputFor, IsNoTicks}
+use Rattle.tb_run.specs.Workers.{AreTicks, IsInputFor, IsNoTicks}
 use Rattle.tb_run.specs.declared.ends.RunWhy.TheVariants as why_of
 use Rattle.tb_run.proofs.TraceLemmas.{trace_before}
 

@@ -1,6 +1,6 @@
 -- After all joins each seat has seen, of its own entries, just those that it had seen before.
 use Rattle.std.proofs.Common.{◌≡◌, ℕ, suc, arith, List, [], ◌∷◌, ◌++◌, Bool, true, false, ◌||◌, refl, sym, ap, ◌∙◌, subst, append_assoc, append-nil, map, ◌+◌, ◌⊎◌, inl, inr, ⊎_elim}
-use Rattle.std.specs.List.{All, FoldsTo, fold}
+use Rattle.std.specs.List.{All, fold}
 use Rattle.tb_log.specs.declared.entry.Entry.{Entry}
 use Rattle.tb_lock.specs.declared.rights.Rights.{Rights}
 use Rattle.tb_lock.specs.Rights.{Right, AreAmong, has, own, united}

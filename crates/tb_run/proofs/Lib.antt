@@ -1,9 +1,11 @@
 pub mod BackLemmas
+pub mod BusLemmas
 pub mod ClockLemmas
 pub mod CloseLemmas
 pub mod ComeLemmas
 pub mod EndLemmas
-mod EndedLemmas
+pub mod EndedLemmas
+pub mod GatherLemmas
 pub mod JoinLemmas
 pub mod LaneLemmas
 pub mod LimitLemmas
@@ -24,6 +26,7 @@ pub mod TickLemmas
 pub mod TraceLemmas
 pub mod WentLemmas
 pub mod WorkLemmas
+pub mod WorkedLemmas
 pub mod WriteLemmas
 mod BadLinesExample
 mod CutOffExample

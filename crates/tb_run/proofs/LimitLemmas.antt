@@ -1,5 +1,5 @@
 -- A run whose call was refused since the log was full shows that the log is at its limit.
-use Rattle.std.proofs.Common.{◌≡◌, ◌≤◌, ◌⊎◌, ◌+◌, ℕ, List, [], ◌∷◌, ◌++◌, length, true, sym, ap, ◌∙◌, subst, inl, inr}
+use Rattle.std.proofs.Common.{◌≡◌, ◌≤◌, ◌+◌, ℕ, List, [], ◌∷◌, ◌++◌, length, true, sym, subst, inl, inr}
 use Rattle.tb_log.specs.declared.entry.Entry.{Entry}
 use Rattle.tb_log.specs.declared.entry.Input.TheVariants as input
 use Rattle.tb_bus.specs.Buses.{start}
@@ -8,7 +8,6 @@ use Rattle.tb_bus.specs.Traces.{IsTrace}
 use Rattle.tb_bus.specs.declared.origin.Origin.{Origin}
 use Rattle.tb_core.specs.Cores.{CoreState, Call, HandIn, HandOut, MakeStep, is_full}
 use Rattle.tb_core.specs.Full.{IsAtLimit, MayCall}
-use Rattle.tb_lock.specs.Seats.{SeatView}
 use Rattle.tb_run.specs.Refusals.{HadNoRoom, LaneRefused, WasRefused}
 use Rattle.tb_run.specs.Views.{LaneView, OutsideView, SomeLane}
 use Rattle.tb_run.proofs.TraceLemmas.{trace_before}

@@ -1,8 +1,8 @@
 -- What the job that writes the log comes to, piece by piece.
 use Rattle.std.proofs.Common.{MatchOption, ◌≡◌, ◌+◌, ℕ, suc, List, [], ◌∷◌, ◌++◌, length, drop, take, Option, Some, None, refl, sym, ap, ◌∙◌, subst, append_assoc, append-nil, length-append, take-append-drop, inl, inr, arith}
-use Rattle.std.specs.Prelude.{Result, Err, IsErrOf}
+use Rattle.std.specs.Prelude.{Result, Err, IsErrOf, IfSome}
 use Rattle.tb_edge.specs.Faults.{Rose}
-use Rattle.tb_edge.specs.Sinks.{Writes, WritesPrefix, and_more}
+use Rattle.tb_edge.specs.Sinks.{WritesPrefix, and_more}
 use Rattle.tb_log.specs.declared.entry.Entry.{Entry}
 use Rattle.tb_log.specs.LogText.{log_text, log_text_from, entry_text}
 use Rattle.tb_bus.specs.Buses.{start}
@@ -174,3 +174,15 @@ pub puts_fault : (old new : SeatView) (piece : List Entry) (from to : WriterView
     → ((let r : Result (Unit {0}) LogFault = Err it in IsErrOf r fault.Out) → Rose faults_old faults_new) → PutsLast old new piece from to put_old put_new faults_old faults_new (end_by it)
 puts_fault old new piece from to put_old put_new faults_old faults_new fault.Out stops prefix rose = (stops, prefix, rose refl)
 puts_fault old new piece from to put_old put_new faults_old faults_new fault.NoMemory stops prefix rose = (stops, prefix)
+
+-- an empty piece is put by doing nothing, and the job ends over it as over alone
+pub puts_nothing : (old : SeatView) (piece : List Entry) (writer : WriterView) (put : Option (List ℕ)) (faults : ℕ) → length piece ≡ 0 → writer.held ≡ [] → (answer : Option LogEnd) → IfSome answer (λ (it : LogEnd). it ≡ end.Over)
+    → MatchOption answer (PutsSome old old piece writer writer put put faults faults) (PutsLast old old piece writer writer put put faults faults)
+puts_nothing old (entry ∷ piece) writer put faults none held answer over = absurd (omega (arith, none))
+puts_nothing old [] writer put faults none held None over = record {
+  same = refl;
+  so_many = let n : writer.written ≡ writer.written + 0 = omega arith in ap (λ (k : ℕ). let w : WriterView = record { written = k; held = writer.held } in w) n ∙ ap (λ (h : List ℕ). let w : WriterView = record { written = writer.written + 0; held = h } in w) held;
+  put = sym (more_none put);
+  calm = refl;
+}
+puts_nothing old [] writer put faults none held (Some it) over = subst (PutsLast old old [] writer writer put put faults faults) (sym over) (refl, refl, refl, refl)

@@ -1,7 +1,7 @@
 -- A run that didn't begin: nothing was logged, and the outside is as it was.
-use Rattle.std.proofs.Common.{◌≡◌, ◌≤◌, ◌+◌, ℕ, List, [], ◌∷◌, ◌++◌, map, length, false, Option, refl, sym, ap, ◌∙◌, subst, inl, arith}
-use Rattle.std.specs.Prelude.{IsTrue, ⊤}
-use Rattle.std.specs.List.{fold, list_all}
+use Rattle.std.proofs.Common.{◌≡◌, ◌≤◌, ◌+◌, ℕ, List, [], ◌∷◌, ◌++◌, length, false, Option, refl, sym, ap, ◌∙◌, subst, inl, arith}
+use Rattle.std.specs.Prelude.{IsTrue}
+use Rattle.std.specs.List.{list_all}
 use Rattle.tb_edge.specs.Ends.{ClockView}
 use Rattle.tb_edge.specs.Faults.{Rose}
 use Rattle.tb_edge.specs.Sinks.{WritesPrefix}
@@ -10,9 +10,8 @@ use Rattle.tb_log.specs.Proper.{is_proper_entry}
 use Rattle.tb_log.specs.declared.entry.Entry.{Entry}
 use Rattle.tb_core.specs.Cores.{CoreState}
 use Rattle.tb_lock.specs.declared.rights.Rights.{Rights}
-use Rattle.tb_lock.specs.Rights.{all_rights, no_rights, united, without}
+use Rattle.tb_lock.specs.Rights.{all_rights, no_rights}
 use Rattle.tb_lock.specs.Seats.{SeatView, first_seat, kept_of, handed_on, most_seats}
-use Rattle.tb_lock.specs.Histories.{longer}
 use Rattle.tb_lock.proofs.HistoryLemmas.{sparse_nil}
 use Rattle.tb_write.specs.Writers.{WriterView}
 use Rattle.tb_run.specs.declared.ends.RunWhy.{RunWhy}
@@ -24,16 +23,15 @@ use Rattle.tb_run.specs.Moving.{readers, writers, inlets_of, outlets_of}
 use Rattle.tb_run.specs.Outcomes.{LaneStopped, IsRunOf, Runs, TellsFirst}
 use Rattle.tb_run.specs.Views.{EachLane, LaneView, OutsideView}
 use Rattle.tb_run.specs.Parting.{parted, left_after}
-use Rattle.tb_run.specs.Parts.{job_rights, to_tick, rights_left}
+use Rattle.tb_run.specs.Parts.{job_rights, to_tick}
 use Rattle.tb_run.specs.Running.{ComesTo, HasCome, IsStopped, FailsFor}
-use Rattle.tb_run.proofs.JoinLemmas.{rights_of_all, room_of_all}
+use Rattle.tb_run.proofs.BusLemmas.{BusIdle, bus_idle, further_new}
 use Rattle.tb_run.proofs.LogLemmas.{prefix_none}
-use Rattle.tb_run.proofs.PartLemmas.{left_rights, left_room, left_bus, left_origin, left_seen, parted_new, parted_rights, parted_rooms, job_count, rights_unite, rooms_unite}
+use Rattle.tb_run.proofs.PartLemmas.{job_count, rights_unite}
 use Rattle.tb_run.proofs.ReadLemmas.{and_given_none}
-use Rattle.tb_run.proofs.RunLemmas.{EachNew, sees_nothing}
+use Rattle.tb_run.proofs.WorkedLemmas.{EachNew, IsNew, sees_nothing}
 use Rattle.tb_run.proofs.TickLemmas.{ticked_none}
 use Rattle.tb_run.proofs.WriteLemmas.{and_taken_none}
-use Rattle.tb_run.proofs.ComeLemmas.{bus_of_all, origin_of_all}
 
 -- a lane that nothing has happened to
 lane_same : (lane : ℕ) (view : LaneView) → LaneStopped [] lane view view
@@ -107,21 +105,6 @@ unparted most outside begun writer first =
       first = λ core closes. tt;
     }
 
--- seats that have seen nothing come together in one that has seen nothing
-abbrev pub EachUnused : List SeatView → Type 0
-EachUnused [] = ⊤
-EachUnused (seat ∷ seats) = (seat.seen ≡ []) × EachUnused seats
-
-pub new_unused : (first : SeatView) (seats : List SeatView) → EachNew first seats → EachUnused seats
-new_unused first [] n = tt
-new_unused first (seat ∷ seats) n = (n.0.seen, new_unused first seats n.1)
-
-pub seen_of_all : (seat last : SeatView) (others : List SeatView) → JoinsAll seat others last → seat.seen ≡ [] → EachUnused others → last.seen ≡ []
-seen_of_all seat last [] j e u = ap (λ (s : SeatView). s.seen) (sym j) ∙ e
-seen_of_all seat last (other ∷ others) j e u =
-    seen_of_all j.0 last others j.2
-    (ap (λ (s : SeatView). s.seen) j.1.seat ∙ (ap (λ (s : List Entry). longer s other.seen) e ∙ ap (λ (s : List Entry). longer [] s) u.0)) u.1
-
 -- where there was no crew: the first seat was parted, and its parts were joined as they were
 module _ (most : ℕ) (old new : OutsideView) (begun last tick log : SeatView) (seats : List SeatView) (writer : WriterView) (w : RunWhy)
     (first : begun ≡ first_seat begun.bus begun.origin) (parts : seats ≡ parted begun job_rights)
@@ -129,48 +112,25 @@ module _ (most : ℕ) (old new : OutsideView) (begun last tick log : SeatView) (
     (joins : JoinsAll (kept_of no_rights (kept_of to_tick (left_after begun job_rights))) (log ∷ tick ∷ seats) last)
     (lanes : new.lanes ≡ old.lanes) (clock : new.clock ≡ old.clock) (put : new.put ≡ old.put) (fails : FailsFor w old.crew_faults new.crew_faults)
     (clock_calm : new.clock_faults ≡ old.clock_faults) (out_calm : new.out_faults ≡ old.out_faults) where
-  abbrev Rest : SeatView
-  Rest = left_after begun job_rights
+  abbrev further : List Rights
+  further = to_tick ∷ no_rights ∷ []
 
-  abbrev Mine : SeatView
-  Mine = kept_of no_rights (kept_of to_tick Rest)
+  further_are_new : EachNew begun (handed_on to_tick (left_after begun job_rights) ∷ handed_on no_rights (kept_of to_tick (left_after begun job_rights)) ∷ [])
+  further_are_new = further_new begun job_rights further first
 
-  begun_seen : begun.seen ≡ []
-  begun_seen = ap (λ (s : SeatView). s.seen) first
+  the_bus : BusIdle begun last job_rights further (log ∷ tick ∷ [])
+  the_bus = bus_idle begun last job_rights further (log ∷ tick ∷ []) seats first parts (subst (IsNew begun) (sym log_is) further_are_new.1.0, (subst (IsNew begun) (sym tick_is) further_are_new.0, tt)) joins
 
-  unused : EachUnused (log ∷ tick ∷ seats)
-  unused = (
-    ap (λ (s : SeatView). s.seen) log_is ∙ (left_seen begun job_rights ∙ begun_seen),
-    (
-      ap (λ (s : SeatView). s.seen) tick_is ∙ (left_seen begun job_rights ∙ begun_seen),
-      subst EachUnused (sym parts) (new_unused begun (parted begun job_rights) (parted_new begun begun job_rights refl refl begun_seen)),
-    ),
-  )
-
-  nothing : last.seen ≡ []
-  nothing = seen_of_all Mine last (log ∷ tick ∷ seats) joins (left_seen begun job_rights ∙ begun_seen) unused
-
-  rights_are : (rs : Rights) → Rest.rights ≡ rs → fold united (without (without rs to_tick) no_rights) (no_rights ∷ to_tick ∷ job_rights) ≡ all_rights → last.rights ≡ all_rights
-  rights_are rs e unite =
-      rights_of_all Mine last (log ∷ tick ∷ seats) joins
-      ∙ (ap (λ (r : Rights). fold united Mine.rights (r ∷ tick.rights ∷ map (λ (s : SeatView). s.rights) seats)) (ap (λ (s : SeatView). s.rights) log_is)
-      ∙ (ap (λ (r : Rights). fold united Mine.rights (no_rights ∷ r ∷ map (λ (s : SeatView). s.rights) seats)) (ap (λ (s : SeatView). s.rights) tick_is)
-      ∙ (ap (λ (rs : List Rights). fold united Mine.rights (no_rights ∷ to_tick ∷ rs)) (ap (map (λ (s : SeatView). s.rights)) parts ∙ parted_rights begun job_rights)
-      ∙ (ap (λ (r : Rights). fold united (without (without r to_tick) no_rights) (no_rights ∷ to_tick ∷ job_rights)) e ∙ unite))))
-
-  room : last.room ≡ most_seats
-  room =
-      let left : Mine.room ≡ 29 = (let n = left_room begun job_rights in let m : begun.room ≡ 64 = ap (λ (s : SeatView). s.room) first in let k = job_count in omega (arith, n, m, k)) in
-      room_of_all Mine last (log ∷ tick ∷ seats) joins
-      ∙ (ap (λ (n : ℕ). fold (λ (a b : ℕ). a + b) Mine.room (n ∷ tick.room ∷ map (λ (s : SeatView). s.room) seats)) (ap (λ (s : SeatView). s.room) log_is)
-      ∙ (ap (λ (n : ℕ). fold (λ (a b : ℕ). a + b) Mine.room (1 ∷ n ∷ map (λ (s : SeatView). s.room) seats)) (ap (λ (s : SeatView). s.room) tick_is)
-      ∙ (ap (λ (ns : List ℕ). fold (λ (a b : ℕ). a + b) Mine.room (1 ∷ 1 ∷ ns)) (ap (map (λ (s : SeatView). s.room)) parts ∙ parted_rooms begun job_rights)
-      ∙ (ap (λ (n : ℕ). fold (λ (a b : ℕ). a + b) n (1 ∷ 1 ∷ map (λ _. 1) job_rights)) left ∙ rooms_unite))))
+  rights : last.rights ≡ all_rights
+  rights =
+      let log_has : log.rights ≡ no_rights = ap (λ (s : SeatView). s.rights) log_is in
+      let tick_has : tick.rights ≡ to_tick = ap (λ (s : SeatView). s.rights) tick_is in
+      the_bus.rights_are (no_rights ∷ to_tick ∷ []) (ap (λ (r : Rights). r ∷ tick.rights ∷ []) log_has ∙ ap (λ (r : Rights). no_rights ∷ r ∷ []) tick_has) rights_unite
 
   outcome : (v : RunWhy) → FailsFor v old.crew_faults new.crew_faults → ComesTo most old new last writer v
-  outcome why.Crew f = (put, lanes, clock, nothing, f)
+  outcome why.Crew f = (put, lanes, clock, the_bus.nothing, f)
   outcome why.NoMemory f =
-      subst (λ (l : List Entry). WritesPrefix old.put new.put (log_text l) × IsStopped most l old new) (sym nothing) (nothing_put old new put, nothing_stopped most old new lanes clock)
+      subst (λ (l : List Entry). WritesPrefix old.put new.put (log_text l) × IsStopped most l old new) (sym the_bus.nothing) (nothing_put old new put, nothing_stopped most old new lanes clock)
   outcome why.Ended f = absurd f
   outcome why.Clock f = absurd f
   outcome why.Out f = absurd f
@@ -186,11 +146,11 @@ module _ (most : ℕ) (old new : OutsideView) (begun last tick log : SeatView) (
 
   pub uncrewed : HasCome most old new begun last writer w
   uncrewed = record {
-    bus = bus_of_all Mine last (log ∷ tick ∷ seats) joins ∙ left_bus begun job_rights;
-    origin = origin_of_all Mine last (log ∷ tick ∷ seats) joins ∙ left_origin begun job_rights;
-    rights = rights_are rights_left (left_rights begun job_rights ∙ ap (λ (s : SeatView). fold without s.rights job_rights) first) rights_unite;
-    room = room;
-    sees = sees_nothing last nothing;
+    bus = the_bus.bus;
+    origin = the_bus.origin;
+    rights = rights;
+    room = the_bus.room_is refl (let k = job_count in let two : length further ≡ 2 = refl in let most : most_seats ≡ 64 = refl in omega (arith, k, two, most));
+    sees = the_bus.sees;
     outcome = outcome w fails;
     first = λ core closes. first_reason w fails;
   }

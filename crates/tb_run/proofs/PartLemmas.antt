@@ -1,24 +1,22 @@
 -- How the first seat of a bus is parted: each worker has its right, and all come together again.
-use Rattle.std.proofs.Common.{◌≡◌, ◌≤◌, ◌-◌, ◌+◌, ℕ, suc, nat_eq, nat_le, List, [], ◌∷◌, ◌++◌, map, length, Bool, true, false, not, ◌&&◌, ◌||◌, refl, sym, ap, ◌∙◌, subst, arith}
-use Rattle.std.specs.Prelude.{bit_and, ⊤}
+use Rattle.std.proofs.Common.{◌≡◌, ◌-◌, ◌+◌, ℕ, suc, nat_eq, nat_le, List, [], ◌∷◌, ◌++◌, map, length, Bool, true, false, not, ◌&&◌, ◌||◌, refl, ap, ◌∙◌, arith}
+use Rattle.std.specs.Prelude.{bit_and}
 use Rattle.std.specs.List.{AllZip, fold}
 use Rattle.std.proofs.lemmas.Bool.{leb-true}
-use Rattle.tb_log.specs.declared.entry.Entry.{Entry}
-use Rattle.tb_log.specs.Shapes.{IsLane}
 use Rattle.tb_lock.specs.declared.rights.Rights.{Rights}
 use Rattle.tb_lock.specs.Rights.{In, Out as Outs, AreAmong, has, all_rights, no_rights, without, united}
-use Rattle.tb_lock.specs.Seats.{SeatView, kept_of, handed_on, first_seat}
+use Rattle.tb_lock.specs.Seats.{SeatView, kept_of}
 use Rattle.tb_lock.proofs.RightLemmas.{covers}
 use Rattle.atomic_table.specs.Seated.{TableId}
 use Rattle.tb_run.specs.declared.worker.Work.{Work}
-use Rattle.tb_run.specs.declared.worker.Work.TheVariants.{Reads, Writes, Steps}
+use Rattle.tb_run.specs.declared.worker.Work.TheVariants.{Steps}
 use Rattle.tb_run.specs.Jobs.{HasRight}
-use Rattle.tb_run.specs.Moving.{readers, writers, works_of}
+use Rattle.tb_run.specs.Moving.{readers, writers}
 use Rattle.tb_run.specs.Parting.{CanPart, parted, left_after}
 use Rattle.tb_run.specs.Parts as parts
 use Rattle.tb_run.specs.Parts.{bits, in_of, out_of, to_step, to_tick, job_rights, rights_left}
 use Rattle.tb_run.specs.Running.{Fits}
-use Rattle.tb_run.proofs.RunLemmas.{IsNew, EachNew}
+use Rattle.tb_run.proofs.WorkedLemmas.{EachNew}
 
 -- these are among those, as a test
 abbrev pub are_among : Rights → Rights → Bool
@@ -85,18 +83,14 @@ pub parted_rights : (seat : SeatView) (parts : List Rights) → map (λ (s : Sea
 parted_rights seat [] = refl
 parted_rights seat (part ∷ parts) = ap (λ (ps : List Rights). part ∷ ps) (parted_rights (kept_of part seat) parts)
 
-pub parted_rooms : (seat : SeatView) (parts : List Rights) → map (λ (s : SeatView). s.room) (parted seat parts) ≡ map (λ _. 1) parts
-parted_rooms seat [] = refl
-parted_rooms seat (part ∷ parts) = ap (λ (ns : List ℕ). 1 ∷ ns) (parted_rooms (kept_of part seat) parts)
+pub parted_count_of : (seat : SeatView) (parts : List Rights) → length (parted seat parts) ≡ length parts
+parted_count_of seat [] = refl
+parted_count_of seat (part ∷ parts) = ap suc (parted_count_of (kept_of part seat) parts)
 
 -- all rights come together
 pub rights_unite : fold united (without (without rights_left to_tick) no_rights) (no_rights ∷ to_tick ∷ job_rights) ≡ all_rights
 unfolding parts.job_rights
 rights_unite = refl
-
-pub rooms_unite : fold (λ (a b : ℕ). a + b) 29 (1 ∷ 1 ∷ map (λ _. 1) job_rights) ≡ 64
-unfolding parts.job_rights
-rooms_unite = refl
 
 pub job_count : length job_rights ≡ 33
 unfolding parts.job_rights
@@ -132,23 +126,29 @@ module _ (I O : Type 0) (bus : TableId) where
         fits_writers (kept_of (out_of bit) seat) (lane + 1) more outlets e (omega arith) rest,
       )
 
-  fits_readers : (seat : SeatView) (lane : ℕ) (more : List ℕ) (inlets : List I) (outlets : List O) → seat.bus ≡ bus → length inlets ≡ length more → ins_fit lane more ≡ true → length outlets ≡ 16
-      → let ws : List (Work I O) = readers lane inlets ++ (writers 1 outlets ++ Steps ∷ []) in AllZip Fit (parted seat (map in_of more ++ (map out_of bits ++ to_step ∷ []))) ws
-  fits_readers seat lane [] [] outlets e n f m = fits_writers seat 1 bits outlets e m refl
-  fits_readers seat lane [] (inlet ∷ inlets) outlets e n f m = absurd (omega arith)
-  fits_readers seat lane (bit ∷ more) [] outlets e n f m = absurd (omega arith)
-  fits_readers seat lane (bit ∷ more) (inlet ∷ inlets) outlets e n f m =
-      let rest = right_true (nat_le 1 lane && nat_le lane 16 && has (in_of bit) (In lane)) (ins_fit (lane + 1) more) f in
-      let three = left_true (nat_le 1 lane && nat_le lane 16 && has (in_of bit) (In lane)) (ins_fit (lane + 1) more) f in
+  fits_readers : (seat : SeatView) (lane from : ℕ) (ins outs : List ℕ) (inlets : List I) (outlets : List O) → seat.bus ≡ bus → length inlets ≡ length ins → ins_fit lane ins ≡ true → length outlets ≡ length outs → outs_fit from outs ≡ true
+      → let ws : List (Work I O) = readers lane inlets ++ (writers from outlets ++ Steps ∷ []) in AllZip Fit (parted seat (map in_of ins ++ (map out_of outs ++ to_step ∷ []))) ws
+  fits_readers seat lane from [] outs [] outlets e n f m g = fits_writers seat from outs outlets e m g
+  fits_readers seat lane from [] outs (inlet ∷ inlets) outlets e n f m g = absurd (omega arith)
+  fits_readers seat lane from (bit ∷ ins) outs [] outlets e n f m g = absurd (omega arith)
+  fits_readers seat lane from (bit ∷ ins) outs (inlet ∷ inlets) outlets e n f m g =
+      let rest = right_true (nat_le 1 lane && nat_le lane 16 && has (in_of bit) (In lane)) (ins_fit (lane + 1) ins) f in
+      let three = left_true (nat_le 1 lane && nat_le lane 16 && has (in_of bit) (In lane)) (ins_fit (lane + 1) ins) f in
       let right = right_true (nat_le 1 lane && nat_le lane 16) (has (in_of bit) (In lane)) three in
       let two = left_true (nat_le 1 lane && nat_le lane 16) (has (in_of bit) (In lane)) three in (
         (e, ((leb-true 1 lane (left_true (nat_le 1 lane) (nat_le lane 16) two), leb-true lane 16 (right_true (nat_le 1 lane) (nat_le lane 16) two)), right)),
-        fits_readers (kept_of (in_of bit) seat) (lane + 1) more inlets outlets e (omega arith) rest m,
+        fits_readers (kept_of (in_of bit) seat) (lane + 1) from ins outs inlets outlets e (omega arith) rest m g,
       )
 
-  pub works_fit : (seat : SeatView) (inlets : List I) (outlets : List O) → seat.bus ≡ bus → length inlets ≡ 16 → length outlets ≡ 16 → Fits bus (parted seat job_rights) (works_of inlets outlets)
+  -- the workers of lanes from a number on, whose bits these are, and the one that makes steps
+  pub lanes_fit : (seat : SeatView) (from : ℕ) (some : List ℕ) (inlets : List I) (outlets : List O) → seat.bus ≡ bus → length inlets ≡ length some → length outlets ≡ length some → ins_fit from some ≡ true → outs_fit from some ≡ true
+      → let ws : List (Work I O) = readers from inlets ++ (writers from outlets ++ Steps ∷ []) in Fits bus (parted seat (map in_of some ++ (map out_of some ++ to_step ∷ []))) ws
+  lanes_fit seat from some inlets outlets e n m f g = fits_readers seat from from some some inlets outlets e n f m g
+
+  pub works_fit : (seat : SeatView) (inlets : List I) (outlets : List O) → seat.bus ≡ bus → length inlets ≡ 16 → length outlets ≡ 16
+      → let ws : List (Work I O) = readers 1 inlets ++ (writers 1 outlets ++ Steps ∷ []) in Fits bus (parted seat job_rights) ws
   unfolding parts.job_rights
-  works_fit seat inlets outlets e n m = fits_readers seat 1 bits inlets outlets e n refl m
+  works_fit seat inlets outlets e n m = lanes_fit seat 1 bits inlets outlets e n m refl refl
 
 readers_count : {I O : Type 0} (lane : ℕ) (is : List I) (rest : List (Work I O)) → length (readers lane is ++ rest) ≡ length is + length rest
 readers_count lane [] rest = let e : length rest ≡ 0 + length rest = omega arith in e
@@ -158,13 +158,16 @@ writers_count : {I O : Type 0} (lane : ℕ) (os : List O) (rest : List (Work I O
 writers_count lane [] rest = let e : length rest ≡ 0 + length rest = omega arith in e
 writers_count lane (o ∷ os) rest = let e = writers_count (lane + 1) os rest in omega (arith, e)
 
-pub works_count : {I O : Type 0} (is : List I) (os : List O) → length is ≡ 16 → length os ≡ 16 → length (works_of is os) ≡ 33
-works_count {I} {O} is os n m =
+pub lanes_count : {I O : Type 0} (from : ℕ) (is : List I) (os : List O) → let ws : List (Work I O) = readers from is ++ (writers from os ++ Steps ∷ []) in length ws ≡ length is + length os + 1
+lanes_count {I} {O} from is os =
     let last : List (Work I O) = Steps ∷ [] in
-    let a = readers_count 1 is (writers 1 os ++ last) in
-    let b = writers_count 1 os last in
+    let a = readers_count from is (writers from os ++ last) in
+    let b = writers_count from os last in
     let c : length last ≡ 1 = refl in
-    omega (arith, a, b, c, n, m)
+    omega (arith, a, b, c)
+
+pub works_count : {I O : Type 0} (is : List I) (os : List O) → length is ≡ 16 → length os ≡ 16 → let ws : List (Work I O) = readers 1 is ++ (writers 1 os ++ Steps ∷ []) in length ws ≡ 33
+works_count is os n m = let count = lanes_count 1 is os in omega (arith, count, n, m)
 
 pub parted_count : (seat : SeatView) → length (parted seat job_rights) ≡ 33
 unfolding parts.job_rights

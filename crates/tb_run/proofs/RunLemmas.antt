@@ -1,5 +1,5 @@
 -- What a run says of all its lanes, from what each worker has done and how all seats came together.
-use Rattle.std.proofs.Common.{◌≡◌, ◌≤◌, ◌<◌, ◌+◌, ◌⊎◌, ℕ, zero, suc, List, [], ◌∷◌, ◌++◌, map, length, Bool, true, false, ◌||◌, Option, refl, sym, ap, ◌∙◌, subst, inl, inr, ⊎_elim, append-nil, arith}
+use Rattle.std.proofs.Common.{◌≡◌, ◌≤◌, ◌<◌, ◌+◌, ◌⊎◌, ℕ, zero, suc, List, [], ◌∷◌, ◌++◌, map, length, Bool, true, false, ◌||◌, Option, Some, refl, sym, ap, ◌∙◌, subst, inl, inr, ⊎_elim, append-nil, arith}
 use Rattle.std.specs.List.{All, AllZip, list_any, cons_option}
 use Rattle.std.specs.Prelude.{⊤}
 use Rattle.std.proofs.lemmas.Bool.{cases_lt}
@@ -9,49 +9,33 @@ use Rattle.tb_edge.specs.declared.given.Taken.{Taken}
 use Rattle.tb_log.specs.declared.entry.Out.{Out}
 use Rattle.tb_log.specs.declared.entry.Entry.{Entry}
 use Rattle.tb_log.specs.Shapes.{IsLane}
-use Rattle.tb_bus.specs.Buses.{start}
-use Rattle.tb_bus.specs.Traces.{IsTrace}
-use Rattle.tb_bus.specs.declared.origin.Origin.{Origin}
 use Rattle.tb_core.specs.Cores.{MakeStep}
 use Rattle.tb_lock.specs.declared.rights.Rights.{Rights}
 use Rattle.tb_lock.specs.Rights.{In, Out as Outs, has}
 use Rattle.tb_lock.specs.Seats.{SeatView}
-use Rattle.tb_lock.specs.Histories.{IsSparse}
-use Rattle.tb_lock.proofs.HistoryLemmas.{sparse_nil}
 use Rattle.tb_run.specs.declared.ends.WorkEnd.{WorkEnd}
 use Rattle.tb_run.specs.declared.ends.WorkEnd.TheVariants as end
 use Rattle.tb_run.specs.declared.worker.Work.{Work}
 use Rattle.tb_run.specs.declared.worker.Work.TheVariants.{Reads, Writes, Steps}
-use Rattle.tb_run.specs.Seats.{Adds, Marks, SeesTrace}
+use Rattle.tb_run.specs.Seats.{Adds, Marks}
 use Rattle.tb_run.specs.Workers.{ReadsLane, WritesLane, StepsBus, ReaderEnds, WriterEnds}
 use Rattle.tb_run.specs.Jobs.{HasRight, WorkDone}
-use Rattle.tb_run.specs.Moving.{works_of, writers, inlets_of, outlets_of, inlet_of, outlet_of}
+use Rattle.tb_run.specs.Moving.{readers, writers, inlets_of, outlets_of, inlet_of, outlet_of}
 use Rattle.tb_run.specs.Outcomes.{LaneRan, LaneStopped}
 use Rattle.tb_run.specs.Refusals.{HadNoRoom, LaneRefused}
 use Rattle.tb_run.specs.Views.{EachLane, LaneView, SomeLane, views}
 use Rattle.tb_run.specs.Reasons.{is_full_end}
 use Rattle.tb_run.proofs.JoinLemmas.{Kept, AllKept}
-use Rattle.tb_run.proofs.MarkLemmas.{Worked, seats_of}
+use Rattle.tb_run.proofs.MarkLemmas.{AreQuiet}
 use Rattle.tb_run.proofs.EndLemmas.{ends_of, CameToEnd, AllCameToEnd}
 use Rattle.tb_run.proofs.LaneLemmas.{IsWhole, lane_ran, lane_stopped}
 use Rattle.tb_run.proofs.RefusedLemmas.{reader_refused, stepper_refused, writer_refused}
 use Rattle.tb_run.proofs.WentLemmas.{OfInlet, OfOutlet, View, after_readers, after_writers, each_view, some_reader, some_writer}
+use Rattle.tb_run.proofs.WorkedLemmas.{EachNew, Worked, rights_of, seats_of}
 
 or_none : (b : Bool) → (b || false) ≡ true → b ≡ true
 or_none true e = refl
 or_none false e = e
-
--- a seat that was handed out by the first of a bus, and has not been used
-pub record IsNew (first seat : SeatView) : Type 0 where
-  pub bus : seat.bus ≡ first.bus
-  pub origin : seat.origin ≡ first.origin
-  pub seen : seat.seen ≡ []
-  pub called : seat.called ≡ false
-  pub room : seat.room ≡ 1
-
-abbrev pub EachNew : SeatView → List SeatView → Type 0
-EachNew first [] = ⊤
-EachNew first (seat ∷ seats) = IsNew first seat × EachNew first seats
 
 -- this holds of why each has ended
 abbrev pub EachEnd : (WorkEnd → Type 0) → List WorkEnd → Type 0
@@ -62,23 +46,11 @@ pub any_end : (ends : List WorkEnd) → EachEnd (λ _. ⊤) ends
 any_end [] = tt
 any_end (it ∷ ends) = (tt, any_end ends)
 
--- a seat that has seen nothing sees a trace
-pub sees_nothing : (seat : SeatView) → seat.seen ≡ [] → SeesTrace seat
-sees_nothing seat e = record {
-  trace = subst (IsTrace (start seat.origin)) (sym e) tt;
-  sparse = subst IsSparse (sym e) sparse_nil;
-}
-
 first_of : {X : Type 0} (P : X → Type 0) (x : X) (xs : List X) → All P (x ∷ xs) → P x
 first_of P x xs a = a zero x (omega arith)
 
 rest_of : {X : Type 0} (P : X → Type 0) (x : X) (xs : List X) → All P (x ∷ xs) → All P xs
 rest_of P x xs a = λ k d h. a (suc k) d (omega (arith, h))
-
--- all have seen a trace of the origin of the bus
-abbrev pub EachSees : Origin → List SeatView → Type 0
-EachSees origin [] = ⊤
-EachSees origin (s ∷ ss) = (s.origin ≡ origin) × SeesTrace s × EachSees origin ss
 
 module _ {X I O : Type 0} (seat : X → SeatView) (ended : X → WorkEnd) (work : X → Work I O) (gave : I → Option InletView) (fails : I → ℕ) (took : O → Option (List Taken)) (faults : O → ℕ) where
   -- what was done, of one worker
@@ -110,38 +82,21 @@ module _ {X I O : Type 0} (seat : X → SeatView) (ended : X → WorkEnd) (work 
   marks_of old new it Steps (Reads lane' i') d = absurd d
   marks_of old new it Steps (Writes lane' o') d = absurd d
 
-  -- rights and room stay
-  pub rights_stay : (xs ys : List X) → AllZip Done xs ys → map (λ (s : SeatView). s.rights) (map seat ys) ≡ map (λ (s : SeatView). s.rights) (map seat xs)
-  rights_stay [] [] z = refl
-  rights_stay [] (y ∷ ys) z = absurd z
-  rights_stay (x ∷ xs) [] z = absurd z
-  rights_stay (x ∷ xs) (y ∷ ys) z =
-      let a = adds_of (seat x) (seat y) (ended y) (work x) (work y) z.0 in
-      ap (λ (r : Rights). r ∷ map (λ (s : SeatView). s.rights) (map seat ys)) a.1.rights ∙ ap (λ (rs : List Rights). (seat x).rights ∷ rs) (rights_stay xs ys z.1)
-
-  pub rooms_stay : (xs ys : List X) → AllZip Done xs ys → map (λ (s : SeatView). s.room) (map seat ys) ≡ map (λ (s : SeatView). s.room) (map seat xs)
-  rooms_stay [] [] z = refl
-  rooms_stay [] (y ∷ ys) z = absurd z
-  rooms_stay (x ∷ xs) [] z = absurd z
-  rooms_stay (x ∷ xs) (y ∷ ys) z =
-      let a = adds_of (seat x) (seat y) (ended y) (work x) (work y) z.0 in
-      ap (λ (n : ℕ). n ∷ map (λ (s : SeatView). s.room) (map seat ys)) a.1.room ∙ ap (λ (ns : List ℕ). (seat x).room ∷ ns) (rooms_stay xs ys z.1)
-
-  pub each_sees : (first : SeatView) (xs ys : List X) → AllZip Done xs ys → EachNew first (map seat xs) → EachSees first.origin (map seat ys)
-  each_sees first [] [] z n = tt
-  each_sees first [] (y ∷ ys) z n = absurd z
-  each_sees first (x ∷ xs) [] z n = absurd z
-  each_sees first (x ∷ xs) (y ∷ ys) z n =
-      let a = adds_of (seat x) (seat y) (ended y) (work x) (work y) z.0 in
-      (a.1.origin ∙ n.0.origin, a.1.trace (sees_nothing (seat x) n.0.seen), each_sees first xs ys z.1 n.1)
-
-  -- all workers, with their marks
-  abbrev pub worked_of : (first : SeatView) (xs ys : List X) → AllZip Done xs ys → EachNew first (map seat xs) → List Worked
+  -- all workers
+  abbrev pub worked_of : (first : SeatView) (xs ys : List X) → AllZip Done xs ys → EachNew first (map seat xs) → List (Worked first)
   worked_of first [] [] z n = []
   worked_of first [] (y ∷ ys) z n = absurd z
   worked_of first (x ∷ xs) [] z n = absurd z
   worked_of first (x ∷ xs) (y ∷ ys) z n =
-      record { begun = seat x; done = seat y; end = ended y; fresh = n.0.called; marks = marks_of (seat x) (seat y) (ended y) (work x) (work y) z.0 }
+      record {
+        begun = seat x;
+        done = seat y;
+        new = n.0;
+        more = (adds_of (seat x) (seat y) (ended y) (work x) (work y) z.0).0;
+        adds = (adds_of (seat x) (seat y) (ended y) (work x) (work y) z.0).1;
+        end = Some (ended y);
+        marks = marks_of (seat x) (seat y) (ended y) (work x) (work y) z.0;
+      }
       ∷ worked_of first xs ys z.1 n.1
 
   pub seats_worked : (first : SeatView) (xs ys : List X) (z : AllZip Done xs ys) (n : EachNew first (map seat xs)) → seats_of (worked_of first xs ys z n) ≡ map seat ys
@@ -150,11 +105,30 @@ module _ {X I O : Type 0} (seat : X → SeatView) (ended : X → WorkEnd) (work 
   seats_worked first (x ∷ xs) [] z n = absurd z
   seats_worked first (x ∷ xs) (y ∷ ys) z n = ap (λ (ss : List SeatView). seat y ∷ ss) (seats_worked first xs ys z.1 n.1)
 
+  pub rights_worked : (first : SeatView) (xs ys : List X) (z : AllZip Done xs ys) (n : EachNew first (map seat xs)) → rights_of (worked_of first xs ys z n) ≡ map (λ (s : SeatView). s.rights) (map seat xs)
+  rights_worked first [] [] z n = refl
+  rights_worked first [] (y ∷ ys) z n = absurd z
+  rights_worked first (x ∷ xs) [] z n = absurd z
+  rights_worked first (x ∷ xs) (y ∷ ys) z n = ap (λ (rs : List Rights). (seat x).rights ∷ rs) (rights_worked first xs ys z.1 n.1)
+
+  pub count_worked : (first : SeatView) (xs ys : List X) (z : AllZip Done xs ys) (n : EachNew first (map seat xs)) → length (worked_of first xs ys z n) ≡ length (map seat xs)
+  count_worked first [] [] z n = refl
+  count_worked first [] (y ∷ ys) z n = absurd z
+  count_worked first (x ∷ xs) [] z n = absurd z
+  count_worked first (x ∷ xs) (y ∷ ys) z n = ap suc (count_worked first xs ys z.1 n.1)
+
   pub ends_worked : (first : SeatView) (xs ys : List X) (z : AllZip Done xs ys) (n : EachNew first (map seat xs)) → ends_of (worked_of first xs ys z n) ≡ map ended ys
   ends_worked first [] [] z n = refl
   ends_worked first [] (y ∷ ys) z n = absurd z
   ends_worked first (x ∷ xs) [] z n = absurd z
   ends_worked first (x ∷ xs) (y ∷ ys) z n = ap (λ (es : List WorkEnd). ended y ∷ es) (ends_worked first xs ys z.1 n.1)
+
+  -- each of them tells why it ended
+  pub quiet_worked : (first : SeatView) (xs ys : List X) (z : AllZip Done xs ys) (n : EachNew first (map seat xs)) → AreQuiet (worked_of first xs ys z n)
+  quiet_worked first [] [] z n = tt
+  quiet_worked first [] (y ∷ ys) z n = absurd z
+  quiet_worked first (x ∷ xs) [] z n = absurd z
+  quiet_worked first (x ∷ xs) (y ∷ ys) z n = (tt, quiet_worked first xs ys z.1 n.1)
 
   pub came_each : (first : SeatView) (xs ys : List X) (z : AllZip Done xs ys) (n : EachNew first (map seat xs)) → AllCameToEnd (worked_of first xs ys z n) → EachEnd CameToEnd (map ended ys)
   came_each first [] [] z n c = tt
@@ -250,13 +224,13 @@ module _ {X I O : Type 0} (seat : X → SeatView) (ended : X → WorkEnd) (work 
         go (Reads lane' i') d = absurd d
         go (Writes lane' o') d = absurd d
 
-    -- the readers, the writers and the stepper
-    pub record AllWent (is : List I) (os : List O) (ys : List X) : Type 0 where
+    -- the readers of lanes from a number on, the writers and the stepper
+    pub record AllWent (from : ℕ) (is : List I) (os : List O) (ys : List X) : Type 0 where
       pub is_new : List I
-      pub reads : EachLane ReaderWent 1 is is_new
+      pub reads : EachLane ReaderWent from is is_new
       pub inlets : inlets_of (map work ys) ≡ is_new
       pub os_new : List O
-      pub writes : EachLane WriterWent 1 os os_new
+      pub writes : EachLane WriterWent from os os_new
       pub outlets : outlets_of (map work ys) ≡ os_new
       pub stepper : StepperWent
 
@@ -273,10 +247,10 @@ module _ {X I O : Type 0} (seat : X → SeatView) (ended : X → WorkEnd) (work 
     last_one (x ∷ []) (y ∷ y' ∷ ys) e z = absurd z.1
     last_one (x ∷ x' ∷ xs) (y ∷ ys) e z = absurd cc
 
-    pub all_went : (is : List I) (os : List O) (xs ys : List X) → map work xs ≡ works_of is os → AllZip Went xs ys → AllWent is os ys
-    all_went is os xs ys e z =
-        let a = after_readers work Went ReaderWent WriterWent went_reads went_writes went_steps 1 is (writers 1 os ++ Steps ∷ []) xs ys e z in
-        let b = after_writers work Went ReaderWent WriterWent went_reads went_writes went_steps 1 os (Steps ∷ []) a.xs a.others a.works a.zip in
+    pub all_went : (from : ℕ) (is : List I) (os : List O) (xs ys : List X) → map work xs ≡ readers from is ++ (writers from os ++ Steps ∷ []) → AllZip Went xs ys → AllWent from is os ys
+    all_went from is os xs ys e z =
+        let a = after_readers work Went ReaderWent WriterWent went_reads went_writes went_steps from is (writers from os ++ Steps ∷ []) xs ys e z in
+        let b = after_writers work Went ReaderWent WriterWent went_reads went_writes went_steps from os (Steps ∷ []) a.xs a.others a.works a.zip in
         let c = last_one b.xs b.others b.works b.zip in
         record {
           is_new = a.is_new;
@@ -339,17 +313,17 @@ module _ {X I O : Type 0} (seat : X → SeatView) (ended : X → WorkEnd) (work 
       refused_last (x ∷ x' ∷ xs) (y ∷ ys) e z h = absurd cc
 
       -- the reader, the writer or the stepper that was
-      pub record SomeRefused (is : List I) (os : List O) (ys : List X) : Type 0 where
+      pub record SomeRefused (from : ℕ) (is : List I) (os : List O) (ys : List X) : Type 0 where
         pub is_new : List I
         pub inlets : inlets_of (map work ys) ≡ is_new
         pub os_new : List O
         pub outlets : outlets_of (map work ys) ≡ os_new
-        pub some : SomeLane (OfInlet gave fails took faults Refused) 1 is is_new ⊎ (SomeLane (OfOutlet gave fails took faults Refused) 1 os os_new ⊎ HadNoRoom MakeStep last.origin last.seen)
+        pub some : SomeLane (OfInlet gave fails took faults Refused) from is is_new ⊎ (SomeLane (OfOutlet gave fails took faults Refused) from os os_new ⊎ HadNoRoom MakeStep last.origin last.seen)
 
-      pub some_refused : (is : List I) (os : List O) (xs ys : List X) → map work xs ≡ works_of is os → AllZip Went xs ys → list_any is_full_end (map ended ys) ≡ true → SomeRefused is os ys
-      some_refused is os xs ys e z h =
-          let a = some_reader work Went ended is_full_end (OfInlet gave fails took faults Refused) (OfOutlet gave fails took faults Refused) refused_reads refused_writes 1 is (writers 1 os ++ Steps ∷ []) xs ys e z in
-          let b = some_writer work Went ended is_full_end (OfInlet gave fails took faults Refused) (OfOutlet gave fails took faults Refused) refused_reads refused_writes 1 os (Steps ∷ []) a.xs a.others a.works a.zip in
+      pub some_refused : (from : ℕ) (is : List I) (os : List O) (xs ys : List X) → map work xs ≡ readers from is ++ (writers from os ++ Steps ∷ []) → AllZip Went xs ys → list_any is_full_end (map ended ys) ≡ true → SomeRefused from is os ys
+      some_refused from is os xs ys e z h =
+          let a = some_reader work Went ended is_full_end (OfInlet gave fails took faults Refused) (OfOutlet gave fails took faults Refused) refused_reads refused_writes from is (writers from os ++ Steps ∷ []) xs ys e z in
+          let b = some_writer work Went ended is_full_end (OfInlet gave fails took faults Refused) (OfOutlet gave fails took faults Refused) refused_reads refused_writes from os (Steps ∷ []) a.xs a.others a.works a.zip in
           let c = last_one b.xs b.others b.works b.zip in
           record {
             is_new = a.is_new;
@@ -365,8 +339,8 @@ module _ {X I O : Type 0} (seat : X → SeatView) (ended : X → WorkEnd) (work 
         lane_stopped lane last (record { gave = gave i; inlet_faults = fails i; took = took o; outlet_faults = faults o }) (record { gave = gave i'; inlet_faults = fails i'; took = took o'; outlet_faults = faults o' }) q.begun q.done s.begun s.done q.it s.it q.reads s.writes
         q.right s.right q.fresh s.fresh q.kept s.kept
 
-    pub each_stopped : (is is' : List I) (os os' : List O) → EachLane ReaderWent 1 is is' → EachLane WriterWent 1 os os' → EachLane (LaneStopped last.seen) 1 (views gave fails took faults is os) (views gave fails took faults is' os')
-    each_stopped is is' os os' q s = each_view gave fails took faults ReaderWent WriterWent (LaneStopped last.seen) stopped 1 is is' os os' q s
+    pub each_stopped : (from : ℕ) (is is' : List I) (os os' : List O) → EachLane ReaderWent from is is' → EachLane WriterWent from os os' → EachLane (LaneStopped last.seen) from (views gave fails took faults is os) (views gave fails took faults is' os')
+    each_stopped from is is' os os' q s = each_view gave fails took faults ReaderWent WriterWent (LaneStopped last.seen) stopped from is is' os os' q s
 
     module _ (whole : (it : WorkEnd) → P it → CameToEnd it) where
       reader_whole : (lane : ℕ) (lost : List Given) (begun done : SeatView) (it : WorkEnd) → CameToEnd it → ReaderEnds lane lost begun done it → IsWhole it
@@ -390,8 +364,8 @@ module _ {X I O : Type 0} (seat : X → SeatView) (ended : X → WorkEnd) (work 
           lane_ran lane last (record { gave = gave i; inlet_faults = fails i; took = took o; outlet_faults = faults o }) (record { gave = gave i'; inlet_faults = fails i'; took = took o'; outlet_faults = faults o' }) q.begun q.done s.begun s.done q.it s.it q.reads s.writes
           q.right s.right q.fresh s.fresh q.kept s.kept (reader_whole lane q.reads.last q.begun q.done q.it (whole q.it q.meets) q.reads.ends) (writer_whole lane s.writes.last s.begun s.done s.it (whole s.it s.meets) s.writes.ends)
 
-      pub each_ran : (is is' : List I) (os os' : List O) → EachLane ReaderWent 1 is is' → EachLane WriterWent 1 os os' → EachLane (LaneRan last.seen) 1 (views gave fails took faults is os) (views gave fails took faults is' os')
-      each_ran is is' os os' q s = each_view gave fails took faults ReaderWent WriterWent (LaneRan last.seen) ran 1 is is' os os' q s
+      pub each_ran : (from : ℕ) (is is' : List I) (os os' : List O) → EachLane ReaderWent from is is' → EachLane WriterWent from os os' → EachLane (LaneRan last.seen) from (views gave fails took faults is os) (views gave fails took faults is' os')
+      each_ran from is is' os os' q s = each_view gave fails took faults ReaderWent WriterWent (LaneRan last.seen) ran from is is' os os' q s
 
 -- one of the lanes
 pub lane_in : {A : Type 0} (P : ℕ → A → A → Type 0) (from : ℕ) (old new : List A) → EachLane P from old new → (lane : ℕ) → from ≤ lane → lane + 1 ≤ from + length old → (a : A) × (a' : A) × P lane a a'

@@ -24,7 +24,8 @@ use Rattle.tb_run.specs.declared.ends.WorkEnd.{WorkEnd}
 use Rattle.tb_run.specs.declared.ends.WorkEnd.TheVariants as end
 use Rattle.tb_run.specs.Dropping.{AreLetIn}
 use Rattle.tb_run.specs.Workers.{LetIn}
-use Rattle.tb_run.specs.Seats.{Adds, FoundFull, Marks, SameMarks, Stops, EndsWith, Ends, Hands, end_of}
+use Rattle.tb_run.specs.Seats.{Adds, FoundFull, Marks, SameMarks, Stops, EndsWith, Ends, Hands}
+use Rattle.tb_run.specs.Helpers.Working.{end_of}
 
 -- the laws of the shared bus
 abbrev pub SeenLaw : Type 0

@@ -13,8 +13,9 @@ use Rattle.tb_lock.specs.Seats.{SeatView}
 use Rattle.tb_run.specs.declared.ends.WorkEnd.{WorkEnd}
 use Rattle.tb_run.specs.declared.ends.WorkEnd.TheVariants as end
 use Rattle.tb_run.specs.Seats.{Adds, Hands}
-use Rattle.tb_run.specs.Workers.{AreTicks, ClockFaults, Ticks, TicksBus, TickerEnds}
-use Rattle.tb_run.specs.Ticking.{EndsAll, IsRefused}
+use Rattle.tb_run.specs.Workers.{AreTicks, ClockFaults, TicksBus, TickerEnds}
+use Rattle.tb_run.specs.Helpers.Working.{Ticks}
+use Rattle.tb_run.specs.Helpers.Ticking.{EndsAll, IsRefused}
 use Rattle.tb_run.proofs.SeatLemmas.{let_in_both, let_in_on, marks_none, marks_both, marks_on, both_marks, adds_none, adds_on, found_on}
 
 pub ticked_on : (told : Option ClockView) (m n : ℕ) (ended : Bool) → and_ticked (and_ticked told m false) n ended ≡ and_ticked told (m + n) ended
@@ -83,7 +84,7 @@ module _ (a b c : SeatView) (told_a told_b told_c : Option ClockView) (faults_a 
   cause_on Enough Enough' f k ended low (inr (inl rose)) = inr (inl (rose_on low rose))
   cause_on Enough Enough' f k ended low (inr (inr enough)) = inr (inr (f k enough))
 
-  ends_on : (Enough Enough' : ℕ → Type 0) → ((k : ℕ) → Enough k → Enough' (m + k)) → (tail : List Entry) (last : ℕ) (xs : List Entry) → Adds a b xs → (k : ℕ) (ended : Bool) (it : WorkEnd) → faults_a ≤ faults_b → TickerEnds Enough tail last b c k faults_b faults_c ended it → TickerEnds Enough' tail last a c (m + k) faults_a faults_c ended it
+  ends_on : (Enough Enough' : ℕ → Type 0) → ((k : ℕ) → Enough k → Enough' (m + k)) → (tail : List Entry) (last : ℕ) (xs : List Entry) → Adds a b xs → (k : ℕ) (ended : Bool) (it : WorkEnd) → faults_a ≤ faults_b → TickerEnds Enough (record { old = b; new = c; faults_old = faults_b; faults_new = faults_c; count = k; last = last; tail = tail; ended = ended }) it → TickerEnds Enough' (record { old = a; new = c; faults_old = faults_a; faults_new = faults_c; count = m + k; last = last; tail = tail; ended = ended }) it
   ends_on Enough Enough' f tail last xs adds k ended end.Over low (w, inl e) = (w, inl e)
   ends_on Enough Enough' f tail last xs adds k ended end.Over low (w, inr e) = (w, inr (f k e))
   ends_on Enough Enough' f tail last xs adds k ended end.Failed low e = (e.0, rose_on low e.1)
@@ -113,7 +114,7 @@ module _ (a b c : SeatView) (told_a told_b told_c : Option ClockView) (faults_a 
         marks = marks_on a b c it one.marks two.marks;
         never_falls = let p = one.calm in let q = two.never_falls in omega arith;
         faults = faults_on it one.calm two.faults;
-        ends = subst (λ (n : ℕ). TickerEnds Enough' two.tail two.last a c n faults_a faults_c two.ended it) len (ends_on Enough Enough' f two.tail two.last one.more one.adds (length two.first) two.ended it (let p = one.calm in omega arith) two.ends);
+        ends = subst (λ (n : ℕ). TickerEnds Enough' (record { old = a; new = c; faults_old = faults_a; faults_new = faults_c; count = n; last = two.last; tail = two.tail; ended = two.ended }) it) len (ends_on Enough Enough' f two.tail two.last one.more one.adds (length two.first) two.ended it (let p = one.calm in omega arith) two.ends);
       }
 
 module _ (old new : SeatView) (told_old told_new : Option ClockView) (faults_old faults_new : ℕ) (low : faults_old ≤ faults_new) where

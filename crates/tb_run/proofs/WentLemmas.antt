@@ -1,11 +1,10 @@
 -- The jobs lane by lane: what was done with the readers and the writers, as two lists of ends.
-use Rattle.std.proofs.Common.{◌≡◌, ◌+◌, ◌⊎◌, ℕ, suc, List, [], ◌∷◌, ◌++◌, map, length, Bool, true, false, ◌||◌, Option, Some, None, refl, sym, ap, ◌∙◌, subst, ◌<◌, inl, inr, ⊎_elim, arith}
-use Rattle.std.specs.List.{AllZip, list_any, filter_map, cons_option}
-use Rattle.std.specs.Prelude.{slice_index_or, ⊤}
+use Rattle.std.proofs.Common.{◌≡◌, ◌+◌, ◌⊎◌, ℕ, suc, List, [], ◌∷◌, ◌++◌, map, length, Bool, true, false, ◌||◌, Option, refl, ap, ◌∙◌, inl, inr, ⊎_elim, arith}
+use Rattle.std.specs.List.{AllZip, list_any, cons_option}
 use Rattle.tb_edge.specs.Jobs.{AllDone}
 use Rattle.tb_run.specs.declared.worker.Work.{Work}
 use Rattle.tb_run.specs.declared.worker.Work.TheVariants.{Reads, Writes, Steps}
-use Rattle.tb_run.specs.Moving.{readers, writers, works_of, inlet_of, outlet_of, inlets_of, outlets_of}
+use Rattle.tb_run.specs.Moving.{readers, writers, inlet_of, outlet_of, inlets_of, outlets_of}
 use Rattle.tb_edge.specs.Ends.{InletView}
 use Rattle.tb_edge.specs.declared.given.Taken.{Taken}
 use Rattle.tb_run.specs.Views.{EachLane, LaneView, SomeLane, views}

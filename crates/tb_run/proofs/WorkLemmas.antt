@@ -1,42 +1,36 @@
 -- What comes back of the workers, whether there was a crew or not.
-use Rattle.std.proofs.Common.{◌≡◌, ◌≤◌, ◌+◌, ℕ, zero, suc, List, [], ◌∷◌, ◌++◌, map, length, Option, Some, None, MatchOption, refl, sym, ap, ◌∙◌, subst, append-nil, arith}
+use Rattle.std.proofs.Common.{◌≡◌, ◌+◌, ℕ, zero, suc, List, [], ◌∷◌, ◌++◌, map, length, Option, refl, sym, ap, ◌∙◌, subst, append-nil, arith}
 use Rattle.std.proofs.lemmas.List.{length-map}
 use Rattle.std.specs.List.{All, AllZip, cons_option}
-use Rattle.tb_edge.specs.Ends.{InletView, ClockView}
+use Rattle.tb_edge.specs.Ends.{InletView}
 use Rattle.tb_edge.specs.Jobs.{AllDone}
 use Rattle.tb_edge.specs.declared.given.Taken.{Taken}
 use Rattle.atomic_table.specs.Seated.{TableId}
+use Rattle.tb_lock.specs.declared.rights.Rights.{Rights}
 use Rattle.tb_lock.specs.Rights.{no_rights}
 use Rattle.tb_lock.specs.Seats.{SeatView, first_seat, kept_of, handed_on}
-use Rattle.tb_write.specs.Writers.{WriterView}
 use Rattle.tb_run.specs.declared.ends.WorkEnd.{WorkEnd}
-use Rattle.tb_run.specs.declared.ends.LogEnd.{LogEnd}
-use Rattle.tb_run.specs.declared.ends.RunWhy.{RunWhy}
 use Rattle.tb_run.specs.declared.worker.Work.{Work}
 use Rattle.tb_run.specs.declared.worker.Work.TheVariants.{Reads, Writes, Steps}
-use Rattle.tb_run.specs.Joining.{JoinsAll}
-use Rattle.tb_run.specs.Logging.{LogDone}
-use Rattle.tb_run.specs.Moving.{readers, writers, works_of, inlets_of, outlets_of, inlet_of, outlet_of}
-use Rattle.tb_run.specs.Views.{OutsideView, views}
+use Rattle.tb_run.specs.Moving.{readers, writers, inlets_of, outlets_of, inlet_of, outlet_of}
 use Rattle.tb_run.specs.Parting.{parted, left_after}
 use Rattle.tb_run.specs.Parts.{job_rights, to_tick}
-use Rattle.tb_run.specs.Running.{FailsFor}
-use Rattle.tb_run.specs.Workers.{TicksBus}
-use Rattle.tb_run.proofs.ComeLemmas.{logs_add}
+use Rattle.tb_run.proofs.BusLemmas.{first_new}
 use Rattle.tb_run.proofs.NothingLemmas.{works_inlets, works_outlets, readers_outlets, writers_inlets}
-use Rattle.tb_run.proofs.PartLemmas.{left_bus, parted_new, parted_count}
-use Rattle.tb_run.proofs.RunLemmas.{Does, Done, EachNew, IsNew, adds_of}
+use Rattle.tb_run.proofs.PartLemmas.{lanes_count, left_bus}
+use Rattle.tb_run.proofs.RunLemmas.{Does, Done, adds_of}
+use Rattle.tb_run.proofs.WorkedLemmas.{EachNew}
 use Rattle.tb_run.proofs.WentLemmas.{zip_done}
 
-pub inlets_works : {I O : Type 0} (is : List I) (os : List O) → inlets_of (works_of is os) ≡ is
-inlets_works {I} {O} is os =
+pub inlets_works : {I O : Type 0} (from : ℕ) (is : List I) (os : List O) → let ws : List (Work I O) = readers from is ++ (writers from os ++ Steps ∷ []) in inlets_of ws ≡ is
+inlets_works {I} {O} from is os =
     let last : List (Work I O) = Steps ∷ [] in
-    works_inlets 1 is (writers 1 os ++ last) ∙ (ap (λ (s : List I). is ++ s) (writers_inlets 1 os last) ∙ append-nil is)
+    works_inlets from is (writers from os ++ last) ∙ (ap (λ (s : List I). is ++ s) (writers_inlets from os last) ∙ append-nil is)
 
-pub outlets_works : {I O : Type 0} (is : List I) (os : List O) → outlets_of (works_of is os) ≡ os
-outlets_works {I} {O} is os =
+pub outlets_works : {I O : Type 0} (from : ℕ) (is : List I) (os : List O) → let ws : List (Work I O) = readers from is ++ (writers from os ++ Steps ∷ []) in outlets_of ws ≡ os
+outlets_works {I} {O} from is os =
     let last : List (Work I O) = Steps ∷ [] in
-    readers_outlets 1 is (writers 1 os ++ last) ∙ (works_outlets 1 os last ∙ append-nil os)
+    readers_outlets from is (writers from os ++ last) ∙ (works_outlets from os last ∙ append-nil os)
 
 all_cons : {X : Type 0} (P : X → Type 0) (x : X) (xs : List X) → P x → All P xs → All P (x ∷ xs)
 all_cons P x xs p a zero d h = p
@@ -105,7 +99,40 @@ module _ {X I O : Type 0} (seat : X → SeatView) (ended : X → WorkEnd) (work 
       go Steps (Reads lane' i') d e = absurd d
       go Steps (Writes lane' o') d e = absurd d
 
-  -- what gathering them needs
+  -- what gathering the workers of so many lanes needs, and the one that makes steps
+  pub record CanGatherLanes (bus : TableId) (lanes : ℕ) (ys : List X) : Type 0 where
+    pub buses : All (λ (x : X). (seat x).bus ≡ bus) ys
+    pub count : length ys ≡ lanes + lanes + 1
+    pub inlets : length (inlets_of (map work ys)) ≡ lanes
+    pub outlets : length (outlets_of (map work ys)) ≡ lanes
+
+  module _ (begun : SeatView) (rights : List Rights) (from lanes : ℕ) (is : List I) (os : List O) (xs ys : List X)
+      (first : begun ≡ first_seat begun.bus begun.origin) (seats : map seat xs ≡ parted begun rights) (works : map work xs ≡ readers from is ++ (writers from os ++ Steps ∷ []))
+      (so_many_in : length is ≡ lanes) (so_many_out : length os ≡ lanes) where
+    new_seats : EachNew begun (map seat xs)
+    new_seats = subst (EachNew begun) (sym seats) (first_new begun rights first)
+
+    so_many : length xs ≡ lanes + lanes + 1
+    so_many =
+        let all : length (map work xs) ≡ length is + length os + 1 = ap length works ∙ lanes_count from is os in
+        let same : length (map work xs) ≡ length xs = length-map xs work in
+        omega (arith, all, same, so_many_in, so_many_out)
+
+    inlets_there : length (inlets_of (map work xs)) ≡ lanes
+    inlets_there = ap (λ (ws : List (Work I O)). length (inlets_of ws)) works ∙ (ap length (inlets_works from is os) ∙ so_many_in)
+
+    outlets_there : length (outlets_of (map work xs)) ≡ lanes
+    outlets_there = ap (λ (ws : List (Work I O)). length (outlets_of ws)) works ∙ (ap length (outlets_works from is os) ∙ so_many_out)
+
+    pub lanes_done : AllDone (Done seat ended work gave fails took faults) xs ys → CanGatherLanes begun.bus lanes ys
+    lanes_done d =
+        let z = zip_done (Done seat ended work gave fails took faults) xs ys d in
+        record { buses = buses_done begun xs ys z new_seats; count = d.0 ∙ so_many; inlets = inlets_stay xs ys z ∙ inlets_there; outlets = outlets_stay xs ys z ∙ outlets_there }
+
+    pub lanes_same : ys ≡ xs → CanGatherLanes begun.bus lanes ys
+    lanes_same e = subst (CanGatherLanes begun.bus lanes) (sym e) (record { buses = buses_new begun xs new_seats; count = so_many; inlets = inlets_there; outlets = outlets_there })
+
+  -- likewise, of a run, with the seats of the tick worker and of who writes the log
   pub record CanGather (bus : TableId) (ys : List X) (tick log : SeatView) : Type 0 where
     pub buses : All (λ (x : X). (seat x).bus ≡ bus) ys
     pub tick_bus : tick.bus ≡ bus
@@ -115,45 +142,21 @@ module _ {X I O : Type 0} (seat : X → SeatView) (ended : X → WorkEnd) (work 
     pub outlets : length (outlets_of (map work ys)) ≡ 16
 
   module _ (begun : SeatView) (is : List I) (os : List O) (xs ys : List X) (tick_begun tick_done log_begun log_done : SeatView)
-      (first : begun ≡ first_seat begun.bus begun.origin) (seats : map seat xs ≡ parted begun job_rights) (works : map work xs ≡ works_of is os)
+      (first : begun ≡ first_seat begun.bus begun.origin) (seats : map seat xs ≡ parted begun job_rights) (works : map work xs ≡ readers 1 is ++ (writers 1 os ++ Steps ∷ []))
       (tick_is : tick_begun ≡ handed_on to_tick (left_after begun job_rights)) (log_is : log_begun ≡ handed_on no_rights (kept_of to_tick (left_after begun job_rights)))
       (sixteen_in : length is ≡ 16) (sixteen_out : length os ≡ 16) where
-    new_seats : EachNew begun (map seat xs)
-    new_seats = subst (EachNew begun) (sym seats) (parted_new begun begun job_rights refl refl (ap (λ (s : SeatView). s.seen) first))
-
-    so_many : length xs ≡ 33
-    so_many = sym (length-map xs seat) ∙ (ap length seats ∙ parted_count begun)
-
     tick_bus : tick_begun.bus ≡ begun.bus
     tick_bus = ap (λ (s : SeatView). s.bus) tick_is ∙ left_bus begun job_rights
 
     log_bus : log_begun.bus ≡ begun.bus
     log_bus = ap (λ (s : SeatView). s.bus) log_is ∙ left_bus begun job_rights
 
-    inlets_there : length (inlets_of (map work xs)) ≡ 16
-    inlets_there = ap (λ (ws : List (Work I O)). length (inlets_of ws)) works ∙ (ap length (inlets_works is os) ∙ sixteen_in)
-
-    outlets_there : length (outlets_of (map work xs)) ≡ 16
-    outlets_there = ap (λ (ws : List (Work I O)). length (outlets_of ws)) works ∙ (ap length (outlets_works is os) ∙ sixteen_out)
+    gather_so : CanGatherLanes begun.bus 16 ys → tick_done.bus ≡ begun.bus → log_done.bus ≡ begun.bus → CanGather begun.bus ys tick_done log_done
+    gather_so lanes tick log = record { buses = lanes.buses; tick_bus = tick; log_bus = log; count = lanes.count; inlets = lanes.inlets; outlets = lanes.outlets }
 
     pub gather_done : AllDone (Done seat ended work gave fails took faults) xs ys → tick_done.bus ≡ tick_begun.bus → log_done.bus ≡ log_begun.bus → CanGather begun.bus ys tick_done log_done
-    gather_done d tick log =
-        let z = zip_done (Done seat ended work gave fails took faults) xs ys d in
-        record {
-          buses = buses_done begun xs ys z new_seats;
-          tick_bus = tick ∙ tick_bus;
-          log_bus = log ∙ log_bus;
-          count = d.0 ∙ so_many;
-          inlets = inlets_stay xs ys z ∙ inlets_there;
-          outlets = outlets_stay xs ys z ∙ outlets_there;
-        }
+    gather_done d tick log = gather_so (lanes_done begun job_rights 1 16 is os xs ys first seats works sixteen_in sixteen_out d) (tick ∙ tick_bus) (log ∙ log_bus)
 
     pub gather_same : ys ≡ xs → tick_done ≡ tick_begun → log_done ≡ log_begun → CanGather begun.bus ys tick_done log_done
-    gather_same e tick log = subst (λ (ys : List X). CanGather begun.bus ys tick_done log_done) (sym e) (record {
-      buses = buses_new begun xs new_seats;
-      tick_bus = ap (λ (s : SeatView). s.bus) tick ∙ tick_bus;
-      log_bus = ap (λ (s : SeatView). s.bus) log ∙ log_bus;
-      count = so_many;
-      inlets = inlets_there;
-      outlets = outlets_there;
-    })
+    gather_same e tick log =
+        gather_so (lanes_same begun job_rights 1 16 is os xs ys first seats works sixteen_in sixteen_out e) (ap (λ (s : SeatView). s.bus) tick ∙ tick_bus) (ap (λ (s : SeatView). s.bus) log ∙ log_bus)

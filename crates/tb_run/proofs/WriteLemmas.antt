@@ -1,6 +1,6 @@
 -- What a writer comes to, item by item.
-use Rattle.std.proofs.Common.{◌≡◌, ◌==◌, ◌≤◌, ◌+◌, ℕ, zero, suc, List, [], ◌∷◌, ◌++◌, map, Bool, true, false, not, ◌&&◌, Option, Some, None, Ok, MatchOption, if◌then◌else◌, refl, sym, ap, ◌∙◌, subst, inl, inr, ⊎_elim, append_assoc, append-nil, arith}
-use Rattle.std.specs.Prelude.{option_to_list}
+use Rattle.std.proofs.Common.{◌≡◌, ◌==◌, ◌≤◌, ◌<◌, ◌+◌, ◌^◌, ℕ, zero, suc, List, [], ◌∷◌, ◌++◌, map, Bool, true, false, not, ◌&&◌, Option, Some, None, Ok, MatchOption, if◌then◌else◌, refl, sym, ap, ◌∙◌, subst, inl, inr, ⊎_elim, append_assoc, append-nil, arith}
+use Rattle.std.specs.Prelude.{option_to_list, Result, Err, OnOk, OnErr}
 use Rattle.std.specs.List.{All}
 use Rattle.std.proofs.lemmas.List.{map-append}
 use Rattle.tb_edge.specs.Faults.{Rose}
@@ -14,6 +14,7 @@ use Rattle.tb_log.specs.declared.entry.Entry.TheVariants.{Did, Quiet, Fed, Gave}
 use Rattle.tb_log.specs.Lanes.{sent, cuts, is_cut_off}
 use Rattle.tb_log.specs.Shapes.{InShape, IsOutInShape}
 use Rattle.tb_lane.specs.Sending.{taken_of}
+use Rattle.tb_lane.specs.declared.send.SendFault.{SendFault}
 use Rattle.tb_bus.specs.Buses.{Bus, start}
 use Rattle.tb_bus.specs.Traces.{IsTrace, replay}
 use Rattle.tb_bus.specs.declared.origin.Origin.{Origin}
@@ -28,7 +29,8 @@ use Rattle.tb_lock.specs.Calls.{Called, IsTaken}
 use Rattle.tb_run.specs.declared.ends.WorkEnd.{WorkEnd}
 use Rattle.tb_run.specs.declared.ends.WorkEnd.TheVariants as end
 use Rattle.tb_run.specs.Seats.{Adds, Marks, SameMarks}
-use Rattle.tb_run.specs.Workers.{Writes, WritesLane, Counts, CountsTo, cut_count, MayLack, WriterEnds, bus_of, CutsOff, Fails, PutsIt, Puts}
+use Rattle.tb_run.specs.Workers.{WritesLane, Counts, CountsTo, cut_count, MayLack, WriterEnds, bus_of}
+use Rattle.tb_run.specs.Helpers.Working.{Writes, CutsOff, Fails, PutsIt, Puts}
 use Rattle.tb_run.proofs.SeatLemmas.{SeenLaw, AddedLaw, Refused, marks_both, marks_on, both_marks, same_marks, adds_on, adds_call, found_on, same_number}
 
 -- what was taken in two parts
@@ -284,3 +286,10 @@ module _ (lane : ℕ) (out : Out) (old mid new : SeatView) (told_old told_new : 
   pub writes_item : (answer : Option WorkEnd) → Puts lane out mid new told_old told_new faults_old faults_new answer → Answers answer
   writes_item answer (inl p) = puts_it answer p
   writes_item answer (inr f) = fails answer f f.cuts_off
+
+-- what was put, or failed to be put and was cut off
+pub puts_by : (lane : ℕ) (out : Out) (old new : SeatView) (took_old took_new : Option (List Taken)) (faults_old faults_new : ℕ) (put : Result (Unit {0}) SendFault) (answer : Option WorkEnd)
+    → OnOk put (took_new ≡ and_taken took_old (taken_of out ∷ [])) → OnErr put (took_new ≡ took_old) → OnErr put (Rose faults_old faults_new) → faults_old ≤ faults_new → (faults_old < 2 ^ 64 → faults_new < 2 ^ 64)
+    → OnOk put ((answer ≡ None) × (new ≡ old)) → OnErr put (CutsOff lane old new answer) → Puts lane out old new took_old took_new faults_old faults_new answer
+puts_by lane out old new took_old took_new faults_old faults_new (Ok done) answer took same rose low fits goes cuts = inl (record { told = took; never_falls = low; fits = fits; same = goes.1; goes_on = goes.0 })
+puts_by lane out old new took_old took_new faults_old faults_new (Err fault) answer took same rose low fits goes cuts = inr (record { told = same; rose = rose; never_falls = low; fits = fits; cuts_off = cuts })

@@ -5,7 +5,6 @@ pub mod Workers
 pub mod Seats
 pub mod Clocks
 pub mod Dropping
-pub mod Ticking
 pub mod Jobs
 pub mod Joining
 pub mod Logging
@@ -14,3 +13,4 @@ pub mod Parting
 pub mod Parts
 pub mod Reasons
 pub mod Running
+pub mod Helpers

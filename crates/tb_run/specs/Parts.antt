@@ -1,8 +1,8 @@
 -- The rights of the workers, in the order of their jobs: the readers of the lanes, their writers, the one that makes steps; then the one that hands in ticks.
-use Rattle.std.specs.Prelude.{◌≡◌, ℕ, ◌+◌, nat_eq, nat_le, Bool, true, false, not, ◌&&◌, ◌||◌, List, [], ◌∷◌, ◌++◌, map, bit_and, refl}
+use Rattle.std.specs.Prelude.{ℕ, true, false, List, [], ◌∷◌, ◌++◌, map}
 use Rattle.std.specs.List.{fold}
 use Rattle.tb_lock.specs.declared.rights.Rights.{Rights}
-use Rattle.tb_lock.specs.Rights.{In, Out, has, all_rights, no_rights, without, united}
+use Rattle.tb_lock.specs.Rights.{all_rights, without}
 
 -- the bits of the lanes
 abbrev pub bits : List ℕ

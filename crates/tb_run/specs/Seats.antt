@@ -2,7 +2,7 @@
 use Rattle.std.specs.Prelude.{◌≡◌, true, false, List, [], ◌∷◌, ◌++◌, Option, Some, None}
 use Rattle.tb_log.specs.declared.entry.Input.{Input}
 use Rattle.tb_log.specs.declared.entry.Reply.{Reply}
-use Rattle.tb_log.specs.declared.entry.Reply.TheVariants.{Took, Dropped}
+use Rattle.tb_log.specs.declared.entry.Reply.TheVariants.{Dropped}
 use Rattle.tb_log.specs.declared.entry.Why.TheVariants as why
 use Rattle.tb_log.specs.declared.entry.Entry.{Entry}
 use Rattle.tb_log.specs.declared.entry.Entry.TheVariants.{Fed}
@@ -77,16 +77,6 @@ abbrev pub Ends : CoreFault → SeatView → SeatView → WorkEnd → Type 0
 Ends fault.Stopped old new it = (it ≡ end.Stopped) × (new ≡ old)
 Ends fault.Full old new it = (it ≡ end.Full) × Stops old new
 Ends fault.NoMemory old new it = (it ≡ end.NoMemory) × Stops old new
-
--- a reply that says that the bus is down ends a worker
-abbrev pub end_of : Reply → Option WorkEnd
-end_of Took = None
-end_of (Dropped why.Unasked) = None
-end_of (Dropped why.NotLive) = None
-end_of (Dropped why.Named) = None
-end_of (Dropped why.Stranger) = None
-end_of (Dropped why.Bad) = None
-end_of (Dropped why.Down) = Some end.Down
 
 -- What becomes of an input that a worker hands in, and of the worker.
 abbrev pub Hands : Input → SeatView → SeatView → Option WorkEnd → Type 0

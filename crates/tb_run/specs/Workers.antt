@@ -26,7 +26,7 @@ use Rattle.tb_lock.specs.Seats.{SeatView}
 use Rattle.tb_run.specs.declared.ends.WorkEnd.{WorkEnd}
 use Rattle.tb_run.specs.declared.ends.WorkEnd.TheVariants as end
 use Rattle.tb_run.specs.Dropping.{AreLetIn}
-use Rattle.tb_run.specs.Seats.{Adds, Stops, Marks, SameMarks, EndsWith, FoundFull}
+use Rattle.tb_run.specs.Seats.{Adds, Marks, EndsWith, FoundFull}
 
 -- the input that stands for what the inlet of a lane gave
 abbrev pub IsInputFor : ℕ → Given → Input → Type 0
@@ -69,17 +69,6 @@ LetIn end.NoMemory log = AreLetIn log
 abbrev pub was_over : Option InletView → Bool
 was_over None = false
 was_over (Some view) = view.over
-
--- a reader that goes on: all that was given was handed in
-pub record Reads (lane : ℕ) (old new : SeatView) (gave_old gave_new : Option InletView) : Type 0 where
-  pub more : List Entry
-  pub adds : Adds old new more
-  pub fed : List Given
-  pub told : gave_new ≡ and_given gave_old fed false
-  pub lines : AreLines lane fed (inputs more lane)
-  pub none : was_over gave_old ≡ true → fed ≡ []
-  pub let_in : AreLetIn more
-  pub marks : SameMarks old new
 
 -- why a reader may end so, which may have got something last and not handed it in
 abbrev pub ReaderEnds : ℕ → List Given → SeatView → SeatView → WorkEnd → Type 0
@@ -127,15 +116,6 @@ pub record Counts (old new count : ℕ) : Type 0 where
   pub never_falls : old ≤ new
   pub fits : old < 2 ^ 64 → new < 2 ^ 64
 
--- a writer that goes on: what was handed out was put, or is cut off
-pub record Writes (lane : ℕ) (old new : SeatView) (took_old took_new : Option (List Taken)) (faults_old faults_new : ℕ) : Type 0 where
-  pub more : List Entry
-  pub adds : Adds old new more
-  pub told : took_new ≡ and_taken took_old (map taken_of (sent more lane))
-  pub starts : is_cut_off more lane ≡ false
-  pub counts : Counts faults_old faults_new (cut_count lane more)
-  pub marks : SameMarks old new
-
 -- the bus at the end of what a seat has seen
 abbrev pub bus_of : SeatView → Bus
 bus_of seat = replay (start seat.origin) seat.seen
@@ -173,39 +153,42 @@ AreTicks [] = Unit {0}
 AreTicks (Fed input.Tick reply ∷ log) = AreTicks log
 AreTicks (entry ∷ log) = ⊥
 
--- a tick worker that goes on: so many ticks were handed in
-pub record Ticks (old new : SeatView) (told_old told_new : Option ClockView) (faults_old faults_new : ℕ) (fed : ℕ) : Type 0 where
-  pub more : List Entry
-  pub adds : Adds old new more
-  pub ticks : AreTicks more
-  pub let_in : AreLetIn more
-  pub count : length more ≡ fed
-  pub told : told_new ≡ and_ticked told_old fed false
-  pub none : has_ended told_old → fed ≡ 0
-  -- no call of the clock failed
-  pub calm : faults_new ≡ faults_old
-  pub marks : SameMarks old new
-
 -- that no more ticks come, whatever became of it
 abbrev pub IsNoTicks : List Entry → Type 0
 IsNoTicks tail = (reply : Reply) × (tail ≡ Fed input.NoTicks reply ∷ [])
 
--- What stands after the ticks, and why a tick worker may end so, which may have got a tick last and not handed it in; `Enough`
--- says which number of ticks is enough.
-abbrev pub TickerEnds : (ℕ → Type 0) → List Entry → ℕ → SeatView → SeatView → ℕ → ℕ → ℕ → Bool → WorkEnd → Type 0
+-- How far a tick worker came.
+pub record TickerCame : Type 0 where
+  -- its seat before and after
+  pub old : SeatView
+  pub new : SeatView
+  -- how often the clock had failed before and after
+  pub faults_old : ℕ
+  pub faults_new : ℕ
+  -- how many ticks were handed in
+  pub count : ℕ
+  -- how many it got last and didn't hand in
+  pub last : ℕ
+  -- what stands after the ticks
+  pub tail : List Entry
+  -- whether the clock has ended
+  pub ended : Bool
+
+-- why a tick worker may end so that came so far; `Enough` says which number of ticks is enough
+abbrev pub TickerEnds : (ℕ → Type 0) → TickerCame → WorkEnd → Type 0
 -- the clock has ended, or there were as many as there may be
-TickerEnds Enough tail last old new count faults_old faults_new ended end.Over = IsNoTicks tail × ((ended ≡ true) ⊎ Enough count)
+TickerEnds Enough came end.Over = IsNoTicks came.tail × ((came.ended ≡ true) ⊎ Enough came.count)
 -- the clock failed
-TickerEnds Enough tail last old new count faults_old faults_new ended end.Failed = IsNoTicks tail × Rose faults_old faults_new
+TickerEnds Enough came end.Failed = IsNoTicks came.tail × Rose came.faults_old came.faults_new
 -- the last entry is a tick that was dropped since the bus is down
-TickerEnds Enough tail last old new count faults_old faults_new ended end.Down = (tail ≡ []) × EndsWith new (Fed input.Tick (Dropped why.Down))
+TickerEnds Enough came end.Down = (came.tail ≡ []) × EndsWith came.new (Fed input.Tick (Dropped why.Down))
 -- a tick found no room, or the word that no more come, for one of its causes
-TickerEnds Enough tail last old new count faults_old faults_new ended end.Full =
-    (tail ≡ [])
-    × (((last ≡ 1) × FoundFull (HandIn input.Tick) old new)
-    ⊎ ((last ≡ 0) × ((ended ≡ true) ⊎ (Rose faults_old faults_new ⊎ Enough count)) × FoundFull (HandIn input.NoTicks) old new))
-TickerEnds Enough tail last old new count faults_old faults_new ended end.Stopped = tail ≡ []
-TickerEnds Enough tail last old new count faults_old faults_new ended end.NoMemory = tail ≡ []
+TickerEnds Enough came end.Full =
+    (came.tail ≡ [])
+    × (((came.last ≡ 1) × FoundFull (HandIn input.Tick) came.old came.new)
+    ⊎ ((came.last ≡ 0) × ((came.ended ≡ true) ⊎ (Rose came.faults_old came.faults_new ⊎ Enough came.count)) × FoundFull (HandIn input.NoTicks) came.old came.new))
+TickerEnds Enough came end.Stopped = came.tail ≡ []
+TickerEnds Enough came end.NoMemory = came.tail ≡ []
 
 -- A failure of the clock ends a tick worker as failed, unless it is refused the word that no more come: no call failed where it ends as over, or since the bus is down.
 abbrev pub ClockFaults : ℕ → ℕ → WorkEnd → Type 0
@@ -235,7 +218,7 @@ pub record TicksBus (Enough : ℕ → Type 0) (most : ℕ) (old new : SeatView) 
   pub marks : Marks old new it
   pub never_falls : faults_old ≤ faults_new
   pub faults : ClockFaults faults_old faults_new it
-  pub ends : TickerEnds Enough tail last old new (length first) faults_old faults_new ended it
+  pub ends : TickerEnds Enough (record { old = old; new = new; faults_old = faults_old; faults_new = faults_new; count = length first; last = last; tail = tail; ended = ended }) it
 
 -- why a step worker may end so
 abbrev pub StepperEnds : SeatView → SeatView → WorkEnd → Type 0
@@ -246,53 +229,9 @@ StepperEnds old new end.Full = FoundFull MakeStep old new
 StepperEnds old new end.Failed = ⊥
 StepperEnds old new end.NoMemory = Unit {0}
 
--- a step worker that goes on
-pub record Steps (old new : SeatView) : Type 0 where
-  pub more : List Entry
-  pub adds : Adds old new more
-  pub marks : SameMarks old new
-
 -- `step_worker`
 pub record StepsBus (old new : SeatView) (it : WorkEnd) : Type 0 where
   pub more : List Entry
   pub adds : Adds old new more
   pub marks : Marks old new it
   pub ends : StepperEnds old new it
-
--- a writer goes on where the bus is down
-abbrev pub going_on : Option WorkEnd → Option WorkEnd
-going_on None = None
-going_on (Some end.Over) = Some end.Over
-going_on (Some end.Down) = None
-going_on (Some end.Stopped) = Some end.Stopped
-going_on (Some end.Full) = Some end.Full
-going_on (Some end.Failed) = Some end.Failed
-going_on (Some end.NoMemory) = Some end.NoMemory
-
--- what becomes of an item that was handed out and failed to be put
-abbrev pub CutsOff : ℕ → SeatView → SeatView → Option WorkEnd → Type 0
-CutsOff lane old new None = (reply : Reply) × Adds old new (Fed (input.Cut lane) reply ∷ []) × SameMarks old new
-CutsOff lane old new (Some end.Stopped) = Adds old new [] × (new.called ≡ old.called) × (new.told ≡ true)
-CutsOff lane old new (Some end.Full) = Stops old new × FoundFull (HandIn (input.Cut lane)) old new
-CutsOff lane old new (Some end.NoMemory) = Stops old new
-CutsOff lane old new (Some end.Over) = ⊥
-CutsOff lane old new (Some end.Down) = ⊥
-CutsOff lane old new (Some end.Failed) = ⊥
-
--- an item is put, or fails to be, which is handed in
-pub record Fails (lane : ℕ) (old new : SeatView) (took_old took_new : Option (List Taken)) (faults_old faults_new : ℕ) (answer : Option WorkEnd) : Type 0 where
-  pub told : took_new ≡ took_old
-  pub rose : Rose faults_old faults_new
-  pub never_falls : faults_old ≤ faults_new
-  pub fits : faults_old < 2 ^ 64 → faults_new < 2 ^ 64
-  pub cuts_off : CutsOff lane old new answer
-
-pub record PutsIt (out : Out) (old new : SeatView) (took_old took_new : Option (List Taken)) (faults_old faults_new : ℕ) (answer : Option WorkEnd) : Type 0 where
-  pub told : took_new ≡ and_taken took_old (taken_of out ∷ [])
-  pub never_falls : faults_old ≤ faults_new
-  pub fits : faults_old < 2 ^ 64 → faults_new < 2 ^ 64
-  pub same : new ≡ old
-  pub goes_on : answer ≡ None
-
-abbrev pub Puts : ℕ → Out → SeatView → SeatView → Option (List Taken) → Option (List Taken) → ℕ → ℕ → Option WorkEnd → Type 0
-Puts lane out old new took_old took_new faults_old faults_new answer = PutsIt out old new took_old took_new faults_old faults_new answer ⊎ Fails lane old new took_old took_new faults_old faults_new answer

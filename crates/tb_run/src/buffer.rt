@@ -14,7 +14,7 @@ pub struct Buffer {
 
 impl Buffer {
     /// Takes the memory.
-    pub(crate) fn new(alloc: Global) -> Result<Buffer, NoMemory> {
+    pub fn new(alloc: Global) -> Result<Buffer, NoMemory> {
         let bytes = Vec::with_capacity(alloc, MOST_LINE_TEXT)?;
         Ok(Buffer { bytes })
     }

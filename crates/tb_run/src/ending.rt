@@ -60,7 +60,8 @@ fn is_full_end(end: WorkEnd) -> bool
     matches!(end, WorkEnd::Full)
 }
 
-fn any_no_memory(ends: &[WorkEnd]) -> bool
+/// Returns whether one of the ends is for want of memory.
+pub fn any_no_memory(ends: &[WorkEnd]) -> bool
     ensures { result ≡ list_any is_no_memory ends.now }
 {
     for end in ends {
@@ -71,7 +72,8 @@ fn any_no_memory(ends: &[WorkEnd]) -> bool
     false
 }
 
-fn any_full(ends: &[WorkEnd]) -> bool
+/// Returns whether one of the ends is for want of room in the log.
+pub fn any_full(ends: &[WorkEnd]) -> bool
     ensures { result ≡ list_any is_full_end ends.now }
 {
     for end in ends {

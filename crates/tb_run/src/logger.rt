@@ -1,19 +1,19 @@
 //! The job that writes the log while the bus runs.
-ghost use Rattle.std.specs.Prelude.{◌≡◌, ◌+◌, [], length, MatchOption, OnOk, OnErr, IsErrOf};
+ghost use Rattle.std.specs.Prelude.{◌≡◌, ◌+◌, [], length, IfSome, MatchOption, OnOk, OnErr, IsErrOf};
 ghost use Rattle.tb_edge.specs.Faults.{Rose};
 ghost use Rattle.tb_edge.specs.Sinks.{Writes, WritesPrefix};
 ghost use Rattle.tb_log.specs.LogText.{log_text_from};
+ghost use Rattle.tb_run.specs.declared.ends.LogEnd.TheVariants.{Over};
 ghost use Rattle.tb_run.specs.Logging.{LogsOn, EndsLogging, LogDone, PutsSome, PutsLast, end_by};
 
 use crate::ends::LogEnd;
 use crate::handing::stop;
-use std::alloc::Global;
+use crate::post::Post;
 use std::sync::Wait;
-use std::sync::atomic::{AtomicU32, Ordering};
 use tb_algebra::Walker;
 use tb_bells::{Bells, Sleeper};
 use tb_edge::{Job, Sink};
-use tb_lock::{Seat, Shared, calls_add_their_own};
+use tb_lock::{Seat, calls_add_their_own};
 use tb_log::Entry;
 use tb_write::{LogFault, LogWriter};
 
@@ -24,22 +24,24 @@ const MOST: usize = 1_000;
 /// contracts see what is left behind `out` once the job is taken apart.
 #[derive(Drop)]
 pub struct LogJob<'a, W: Walker, O, L> {
-    pub shared: &'a Shared<W>,
-    pub bells: &'a Bells,
-    /// How many workers are still at work.
-    pub left: &'a AtomicU32,
-    pub alloc: Global,
+    /// The bus whose log is written.
+    pub post: &'a Post<W>,
+    /// Needs no right.
     pub seat: Seat,
+    /// Takes the text.
     pub out: &'a mut O,
+    /// Writes the text.
     pub writer: L,
+    /// Why the job ended, once it has.
     pub end: LogEnd,
 }
 
 impl<'a, W: Walker, O: Sink> Job for LogJob<'a, W, O, LogWriter> {
     ghost use Rattle.std.specs.Prelude.{◌≡◌, []};
+    ghost use Rattle.tb_run.specs.declared.ends.LogEnd.TheVariants.{Over};
     ghost use Rattle.tb_run.specs.Logging.{LogDone};
 
-    ghost ready = { λ it. (it.seat.bus ≡ it.shared.now)
+    ghost ready = { λ it. (it.seat.bus ≡ it.post.now.shared)
         × (it.writer ≡ record { written = 0; held = [] }) };
 
     ghost done = { λ old new. (new.out.ghost_name ≡ old.out.ghost_name)
@@ -47,40 +49,26 @@ impl<'a, W: Walker, O: Sink> Job for LogJob<'a, W, O, LogWriter> {
         (O.faults old.out.now) (O.faults new.out.now) new.end };
 
     fn work<R: Wait>(&mut self, rt: &R) {
-        self.end = log_all(
-            rt,
-            self.alloc,
-            self.shared,
-            self.bells,
-            self.left,
-            &mut self.seat,
-            &mut self.writer,
-            self.out,
-        );
+        self.end = log_all(rt, self.post, &mut self.seat, &mut self.writer, self.out);
     }
 }
 
 /// Writes the log, until all workers have ended.
 fn log_all<W: Walker, R: Wait, O: Sink>(
     rt: &R,
-    alloc: Global,
-    shared: &Shared<W>,
-    bells: &Bells,
-    left: &AtomicU32,
+    post: &Post<W>,
     seat: &mut Seat,
     writer: &mut LogWriter,
     out: &mut O,
 ) -> LogEnd
-    requires own { seat.old.bus ≡ shared.now }
+    requires own { seat.old.bus ≡ post.now.shared }
     requires none { writer.old ≡ record { written = 0; held = [] } }
     ensures { LogDone seat.old seat.new writer.new (O.taken out.old) (O.taken out.new)
         (O.faults out.old) (O.faults out.new) result }
 {
     let mut heard = 0;
     for _ in rt.forever() {
-        match log_some(
-            rt, alloc, shared, bells, left, seat, writer, out, &mut heard,
-        ) {
+        match log_some(rt, post, seat, writer, out, &mut heard) {
             Some(end) => return end,
             None => {}
         }
@@ -92,16 +80,13 @@ fn log_all<W: Walker, R: Wait, O: Sink>(
 /// written where no worker was left before nothing was found.
 fn log_some<W: Walker, R: Wait, O: Sink>(
     rt: &R,
-    alloc: Global,
-    shared: &Shared<W>,
-    bells: &Bells,
-    left: &AtomicU32,
+    post: &Post<W>,
     seat: &mut Seat,
     writer: &mut LogWriter,
     out: &mut O,
     heard: &mut u64,
 ) -> Option<LogEnd>
-    requires own { seat.old.bus ≡ shared.now }
+    requires own { seat.old.bus ≡ post.now.shared }
     requires held { writer.old.held ≡ [] }
     ensures { MatchOption result (LogsOn seat.old seat.new writer.old writer.new (O.taken out.old)
         (O.taken out.new) (O.faults out.old) (O.faults out.new))
@@ -109,59 +94,65 @@ fn log_some<W: Walker, R: Wait, O: Sink>(
         (O.faults out.old) (O.faults out.new)) }
 {
     calls_add_their_own();
-    let over = left.load(Ordering::SeqCst) == 0;
-    match shared.read_log(rt, alloc, seat, writer.written(), MOST) {
-        Ok(piece) => put_some(
-            rt,
-            shared,
-            bells,
-            over,
-            seat,
-            writer,
-            piece.as_slice(),
-            out,
-            heard,
-        ),
+    let over = post.is_over();
+    match post
+        .shared
+        .read_log(rt, post.alloc, seat, writer.written(), MOST)
+    {
+        Ok(piece) => {
+            let piece = piece.as_slice();
+            if piece.is_empty() {
+                wait_for_more(rt, post, over, heard)
+            } else {
+                put_some(rt, post, seat, writer, piece, out)
+            }
+        }
         Err(_) => {
-            stop(rt, shared, bells, seat);
+            stop(rt, post, seat);
             Some(LogEnd::NoMemory)
         }
     }
 }
 
+/// Waits for an entry, unless none comes any more.
+fn wait_for_more<W: Walker, R: Wait>(
+    rt: &R,
+    post: &Post<W>,
+    over: bool,
+    heard: &mut u64,
+) -> Option<LogEnd>
+    ensures { IfSome result (λ end. end ≡ Over) }
+{
+    if over {
+        return Some(LogEnd::Over);
+    }
+    *heard = post.bells.wait_past(rt, Sleeper::Log, *heard);
+    None
+}
+
 /// Puts what was read.
 fn put_some<W: Walker, R: Wait, O: Sink>(
     rt: &R,
-    shared: &Shared<W>,
-    bells: &Bells,
-    over: bool,
+    post: &Post<W>,
     seat: &mut Seat,
     writer: &mut LogWriter,
     piece: &[Entry],
     out: &mut O,
-    heard: &mut u64,
 ) -> Option<LogEnd>
-    requires own { seat.old.bus ≡ shared.now }
+    requires own { seat.old.bus ≡ post.now.shared }
     requires held { writer.old.held ≡ [] }
     ensures { MatchOption result (PutsSome seat.old seat.new piece.now writer.old writer.new
         (O.taken out.old) (O.taken out.new) (O.faults out.old) (O.faults out.new))
         (PutsLast seat.old seat.new piece.now writer.old writer.new (O.taken out.old)
         (O.taken out.new) (O.faults out.old) (O.faults out.new)) }
 {
-    if piece.is_empty() {
-        if over {
-            return Some(LogEnd::Over);
-        }
-        *heard = bells.wait_past(rt, Sleeper::Log, *heard);
-        return None;
-    }
     match put_piece(writer, piece, out) {
         Ok(()) => {
-            gather(rt, bells, piece);
+            gather(rt, &post.bells, piece);
             None
         }
         Err(fault) => {
-            stop(rt, shared, bells, seat);
+            stop(rt, post, seat);
             Some(end_of(fault))
         }
     }

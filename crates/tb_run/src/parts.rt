@@ -74,7 +74,8 @@ fn job_rights() -> [Rights; 33]
     ]
 }
 
-fn in_of(bit: u16) -> Rights
+/// The right to hand in what comes on the lane of this bit: 1 for lane 1, 2 for lane 2, 4 for lane 3, and so on.
+pub fn in_of(bit: u16) -> Rights
     ensures { result ≡ in_of bit }
 {
     Rights {
@@ -85,7 +86,8 @@ fn in_of(bit: u16) -> Rights
     }
 }
 
-fn out_of(bit: u16) -> Rights
+/// The right to take out what is to be handed out on the lane of this bit.
+pub fn out_of(bit: u16) -> Rights
     ensures { result ≡ out_of bit }
 {
     Rights {
@@ -96,7 +98,8 @@ fn out_of(bit: u16) -> Rights
     }
 }
 
-fn to_step() -> Rights
+/// The right to make steps.
+pub fn to_step() -> Rights
     ensures { result ≡ to_step }
 {
     Rights {
@@ -107,7 +110,8 @@ fn to_step() -> Rights
     }
 }
 
-fn to_tick() -> Rights
+/// The right to hand in ticks.
+pub fn to_tick() -> Rights
     ensures { result ≡ to_tick }
 {
     Rights {

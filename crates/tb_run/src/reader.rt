@@ -1,38 +1,36 @@
 ghost use Rattle.std.specs.Prelude.{◌≡◌, true, MatchOption};
 ghost use Rattle.tb_log.specs.Shapes.{IsLane};
 ghost use Rattle.tb_lock.specs.Rights.{In, has};
-ghost use Rattle.tb_run.specs.Workers.{Reads, ReadsLane};
+ghost use Rattle.tb_run.specs.Workers.{ReadsLane};
+ghost use Rattle.tb_run.specs.Helpers.Working.{Reads};
 
 use crate::ends::WorkEnd;
 use crate::handing::{hand, stop};
-use std::alloc::Global;
+use crate::post::Post;
 use std::sync::Wait;
 use tb_algebra::Walker;
-use tb_bells::Bells;
 use tb_edge::{Got, Inlet};
 use tb_lane::read_tool_line;
-use tb_lock::{Seat, Shared};
+use tb_lock::Seat;
 use tb_log::{Input, ToolLine};
 
 /// Hands in all that an inlet gives, until it is over or the bus is down. A failure of the inlet is the end of its tool.
 /// `line` is for the lines.
 pub fn read_lane<W: Walker, R: Wait, I: Inlet>(
     rt: &R,
-    alloc: Global,
-    shared: &Shared<W>,
-    bells: &Bells,
+    post: &Post<W>,
     seat: &mut Seat,
     inlet: &mut I,
     line: &mut Vec<u8>,
     lane: u8,
 ) -> WorkEnd
-    requires own { seat.old.bus ≡ shared.now }
+    requires own { seat.old.bus ≡ post.now.shared }
     requires lane { IsLane lane }
     requires right { has seat.old.rights (In lane) ≡ true }
     ensures { ReadsLane lane seat.old seat.new (I.told inlet.old) (I.told inlet.new) result }
 {
     for _ in rt.forever() {
-        match read_one(rt, alloc, shared, bells, seat, inlet, line, lane) {
+        match read_one(rt, post, seat, inlet, line, lane) {
             Some(end) => return end,
             None => {}
         }
@@ -43,15 +41,13 @@ pub fn read_lane<W: Walker, R: Wait, I: Inlet>(
 /// Hands in what the inlet gives next, and says why the worker ends, where it does.
 fn read_one<W: Walker, R: Wait, I: Inlet>(
     rt: &R,
-    alloc: Global,
-    shared: &Shared<W>,
-    bells: &Bells,
+    post: &Post<W>,
     seat: &mut Seat,
     inlet: &mut I,
     line: &mut Vec<u8>,
     lane: u8,
 ) -> Option<WorkEnd>
-    requires own { seat.old.bus ≡ shared.now }
+    requires own { seat.old.bus ≡ post.now.shared }
     requires lane { IsLane lane }
     requires right { has seat.old.rights (In lane) ≡ true }
     ensures { MatchOption result
@@ -59,19 +55,19 @@ fn read_one<W: Walker, R: Wait, I: Inlet>(
         (ReadsLane lane seat.old seat.new (I.told inlet.old) (I.told inlet.new)) }
 {
     match inlet.next(line) {
-        Got::Line => match read_tool_line(alloc, line.as_slice()) {
-            Ok(read) => hand(rt, shared, bells, seat, Input::Line(lane, read)),
+        Got::Line => match read_tool_line(post.alloc, line.as_slice()) {
+            Ok(read) => hand(rt, post, seat, Input::Line(lane, read)),
             Err(_) => {
-                stop(rt, shared, bells, seat);
+                stop(rt, post, seat);
                 Some(WorkEnd::NoMemory)
             }
         },
-        Got::Long => hand(rt, shared, bells, seat, Input::Line(lane, ToolLine::Bad)),
-        Got::End => hand(rt, shared, bells, seat, Input::Gone(lane)),
-        Got::Failed => hand(rt, shared, bells, seat, Input::Gone(lane)),
+        Got::Long => hand(rt, post, seat, Input::Line(lane, ToolLine::Bad)),
+        Got::End => hand(rt, post, seat, Input::Gone(lane)),
+        Got::Failed => hand(rt, post, seat, Input::Gone(lane)),
         Got::Over => Some(WorkEnd::Over),
         Got::NoMemory => {
-            stop(rt, shared, bells, seat);
+            stop(rt, post, seat);
             Some(WorkEnd::NoMemory)
         }
     }

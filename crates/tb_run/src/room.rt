@@ -1,51 +1,106 @@
 //! The memory of a run, which is taken before the first seat is handed on: a seat that is lost can't be closed.
-ghost use Rattle.std.specs.Prelude.{◌≡◌, ◌≤◌, [], IfOk, vec_len, vec_capacity};
+ghost use Rattle.std.specs.Prelude.{◌≡◌, ◌≤◌, ◌+◌, [], IfOk, vec_len, vec_capacity};
 
 use crate::buffer::Buffer;
 use crate::ends::WorkEnd;
+use crate::lanes::{AnyInlet, AnyOutlet, Lanes};
 use crate::worker::Work;
 use std::alloc::Global;
+use tb_edge::LanePair;
 use tb_lock::Seat;
 use tb_terms::NoMemory;
 
-/// What a run takes memory for.
+/// What workers that have ended leave, beside the ends of their lanes.
 #[derive(Drop)]
-pub(crate) struct Room<I, O> {
-    pub(crate) works: Vec<Work<I, O>>,
-    pub(crate) inlets: Vec<I>,
-    pub(crate) outlets: Vec<O>,
-    pub(crate) seats: Vec<Seat>,
-    pub(crate) ended: Vec<Seat>,
-    pub(crate) ends: Vec<WorkEnd>,
-    pub(crate) buffers: Vec<Buffer>,
-    ghost for_works: { (works.items ≡ []) × (33 ≤ vec_capacity works) },
-    ghost for_inlets: { (inlets.items ≡ []) × (16 ≤ vec_capacity inlets) },
-    ghost for_outlets: { (outlets.items ≡ []) × (16 ≤ vec_capacity outlets) },
-    ghost for_seats: { (seats.items ≡ []) × (33 ≤ vec_capacity seats) },
-    ghost for_ended: { (ended.items ≡ []) × (35 ≤ vec_capacity ended) },
-    ghost for_ends: { (ends.items ≡ []) × (33 ≤ vec_capacity ends) },
-    ghost for_buffers: { vec_len buffers ≡ 33 },
+pub struct Ended {
+    /// Their seats.
+    pub seats: Vec<Seat>,
+    /// Why they ended.
+    pub ends: Vec<WorkEnd>,
 }
 
-pub(crate) fn make_room<I: Drop, O: Drop>(alloc: Global) -> Result<Room<I, O>, NoMemory> {
+/// What the workers of some lanes, a reader and a writer for each, and the stepper of their bus take memory for.
+#[derive(Drop)]
+pub struct Room<I, O> {
+    /// How many lanes there is room for.
+    pub count: usize,
+    /// For all that the workers work on.
+    pub works: Vec<Work<I, O>>,
+    /// For the seats that they begin with.
+    pub seats: Vec<Seat>,
+    /// One for each worker.
+    pub buffers: Vec<Buffer>,
+    /// For the ends of the lanes once they come back.
+    pub lanes: Lanes<I, O>,
+    /// For what the workers leave. Two further seats have room there.
+    pub ended: Ended,
+    ghost for_works: { (works.items ≡ []) × (count + count + 1 ≤ vec_capacity works) },
+    ghost for_seats: { (seats.items ≡ []) × (count + count + 1 ≤ vec_capacity seats) },
+    ghost for_buffers: { vec_len buffers ≡ count + count + 1 },
+    ghost for_inlets: { (lanes.inlets.items ≡ []) × (count ≤ vec_capacity lanes.inlets) },
+    ghost for_outlets: { (lanes.outlets.items ≡ []) × (count ≤ vec_capacity lanes.outlets) },
+    ghost for_ended: { (ended.seats.items ≡ [])
+        × (count + count + 3 ≤ vec_capacity ended.seats) },
+    ghost for_ends: { (ended.ends.items ≡ []) × (count + count + 1 ≤ vec_capacity ended.ends) },
+}
+
+/// Takes the memory for so many lanes.
+pub fn make_room<I: Drop, O: Drop>(alloc: Global, count: usize) -> Result<Room<I, O>, NoMemory>
+    requires { count ≤ 16 }
+    ensures { IfOk result (λ room. room.count ≡ count) }
+{
+    let workers = count + count + 1;
     Ok(Room {
-        works: Vec::with_capacity(alloc, 33)?,
-        inlets: Vec::with_capacity(alloc, 16)?,
-        outlets: Vec::with_capacity(alloc, 16)?,
-        seats: Vec::with_capacity(alloc, 33)?,
-        ended: Vec::with_capacity(alloc, 35)?,
-        ends: Vec::with_capacity(alloc, 33)?,
-        buffers: make_buffers(alloc)?,
+        count,
+        works: Vec::with_capacity(alloc, workers)?,
+        seats: Vec::with_capacity(alloc, workers)?,
+        buffers: make_buffers(alloc, workers)?,
+        lanes: Lanes {
+            inlets: Vec::with_capacity(alloc, count)?,
+            outlets: Vec::with_capacity(alloc, count)?,
+        },
+        ended: Ended {
+            seats: Vec::with_capacity(alloc, workers + 2)?,
+            ends: Vec::with_capacity(alloc, workers)?,
+        },
     })
 }
 
-/// A buffer for each worker.
-fn make_buffers(alloc: Global) -> Result<Vec<Buffer>, NoMemory>
-    ensures { IfOk result (λ buffers. vec_len buffers ≡ 33) }
+/// Makes so many buffers.
+fn make_buffers(alloc: Global, count: usize) -> Result<Vec<Buffer>, NoMemory>
+    ensures { IfOk result (λ buffers. vec_len buffers ≡ count) }
 {
-    let mut buffers = Vec::with_capacity(alloc, 33)?;
-    for _made in 0..33usize {
+    let mut buffers = Vec::with_capacity(alloc, count)?;
+    for _made in 0..count {
         buffers.push(Buffer::new(alloc)?)?;
     }
     Ok(buffers)
+}
+
+/// What is taken memory for to take lanes apart, and to put them together again.
+#[derive(Drop)]
+pub struct Boxes {
+    /// How many lanes there is room for.
+    pub count: usize,
+    /// For the lanes once they are put together.
+    pub pairs: Vec<LanePair>,
+    /// For the ends of the lanes.
+    pub lanes: Lanes<AnyInlet, AnyOutlet>,
+    ghost for_pairs: { (pairs.items ≡ []) × (count ≤ vec_capacity pairs) },
+    ghost for_inlets: { (lanes.inlets.items ≡ []) × (count ≤ vec_capacity lanes.inlets) },
+    ghost for_outlets: { (lanes.outlets.items ≡ []) × (count ≤ vec_capacity lanes.outlets) },
+}
+
+/// Takes the memory for so many lanes.
+pub fn make_boxes(alloc: Global, count: usize) -> Result<Boxes, NoMemory>
+    ensures { IfOk result (λ boxes. boxes.count ≡ count) }
+{
+    Ok(Boxes {
+        count,
+        pairs: Vec::with_capacity(alloc, count)?,
+        lanes: Lanes {
+            inlets: Vec::with_capacity(alloc, count)?,
+            outlets: Vec::with_capacity(alloc, count)?,
+        },
+    })
 }

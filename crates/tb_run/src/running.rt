@@ -11,22 +11,20 @@ ghost use Rattle.tb_run.specs.Views.{ends_seen, outside_seen};
 ghost use Rattle.tb_run.specs.Running.{IsAfterRest, GoesToRest};
 
 use crate::ends::RunWhy;
-use crate::lanes::{AnyInlet, AnyOutlet};
+use crate::lanes::Lanes;
 use crate::moving::{pair_lanes, part_lanes};
-use crate::room::{Room, make_room};
+use crate::post::Post;
+use crate::room::{Boxes, Room, make_boxes, make_room};
 use crate::working::run_workers;
 use std::alloc::Global;
 use std::mem;
 use std::sync::Wait;
-use std::sync::atomic::AtomicU32;
 use std::thread::Threads;
 use tb_algebra::Walker;
-use tb_bells::Bells;
 use tb_core::{Core, a_full_log_is_at_its_limit};
 use tb_edge::{Clock, Crew, Inlet, LanePair, Outlet, Sink};
 use tb_lock::{Seat, Shared};
 use tb_log::{Log, show_proper_log};
-use tb_terms::NoMemory;
 use tb_write::{LogFault, LogWriter};
 
 /// Runs a bus over the two ends of sixteen lanes, which it hands back.
@@ -42,8 +40,7 @@ fn run_ends<
     rt: &R,
     alloc: Global,
     core: Core<W>,
-    inlets: &mut Vec<I>,
-    outlets: &mut Vec<O>,
+    lanes: &mut Lanes<I, O>,
     clock: &mut C,
     ticks: u64,
     crew: &mut P,
@@ -52,30 +49,32 @@ fn run_ends<
 where
     W::Plan: Send,
     W::Taken: Send,
-    requires inlets { vec_len inlets.old ≡ 16 }
-    requires outlets { vec_len outlets.old ≡ 16 }
+    requires inlets { vec_len lanes.old.inlets ≡ 16 }
+    requires outlets { vec_len lanes.old.outlets ≡ 16 }
     requires log { core.log ≡ [] }
     requires running { core.stopped ≡ false }
     ensures runs { let seen = ends_seen I.Inlet O.Outlet C.Clock P.Crew S.Sink in
-        Runs ticks (seen inlets.old.items outlets.old.items clock.old crew.old out.old)
-        (seen inlets.new.items outlets.new.items clock.new crew.new out.new)
+        Runs ticks (seen lanes.old.inlets.items lanes.old.outlets.items
+        clock.old crew.old out.old)
+        (seen lanes.new.inlets.items lanes.new.outlets.items clock.new crew.new out.new)
         core.origin result.1 result.0 }
-    ensures inlets { vec_len inlets.new ≡ 16 }
-    ensures outlets { vec_len outlets.new ≡ 16 }
+    ensures inlets { vec_len lanes.new.inlets ≡ 16 }
+    ensures outlets { vec_len lanes.new.outlets ≡ 16 }
 {
-    let Ok(room) = make_room(alloc) else {
+    let Ok(room) = make_room(alloc, 16) else {
         return (RunWhy::NoMemory, core);
     };
     match Shared::make(alloc, core) {
-        Ok((shared, seat)) => run_shared(
-            rt, alloc, shared, seat, inlets, outlets, room, clock, ticks, crew, out,
-        ),
+        Ok((shared, seat)) => {
+            let post = Post::new(alloc, shared, 34);
+            run_post(rt, post, seat, lanes, room, clock, ticks, crew, out)
+        }
         Err(refused) => (RunWhy::NoMemory, refused.core),
     }
 }
 
 /// Runs a bus that was made, closes it, and writes what is left of the log.
-fn run_shared<
+fn run_post<
     W: Walker + Send,
     R: Threads + Wait + Sync,
     C: Clock + Send,
@@ -85,11 +84,9 @@ fn run_shared<
     O: Outlet + Send,
 >(
     rt: &R,
-    alloc: Global,
-    shared: Shared<W>,
+    post: Post<W>,
     seat: Seat,
-    inlets: &mut Vec<I>,
-    outlets: &mut Vec<O>,
+    lanes: &mut Lanes<I, O>,
     room: Room<I, O>,
     clock: &mut C,
     ticks: u64,
@@ -99,24 +96,22 @@ fn run_shared<
 where
     W::Plan: Send,
     W::Taken: Send,
-    requires inlets { vec_len inlets.old ≡ 16 }
-    requires outlets { vec_len outlets.old ≡ 16 }
-    requires first { seat ≡ first_seat shared seat.origin }
+    requires inlets { vec_len lanes.old.inlets ≡ 16 }
+    requires outlets { vec_len lanes.old.outlets ≡ 16 }
+    requires room { room.count ≡ 16 }
+    requires first { seat ≡ first_seat post.shared seat.origin }
     ensures runs { let seen = ends_seen I.Inlet O.Outlet C.Clock P.Crew S.Sink in
-        Runs ticks (seen inlets.old.items outlets.old.items clock.old crew.old out.old)
-        (seen inlets.new.items outlets.new.items clock.new crew.new out.new)
+        Runs ticks (seen lanes.old.inlets.items lanes.old.outlets.items
+        clock.old crew.old out.old)
+        (seen lanes.new.inlets.items lanes.new.outlets.items clock.new crew.new out.new)
         seat.origin result.1 result.0 }
-    ensures inlets { vec_len inlets.new ≡ 16 }
-    ensures outlets { vec_len outlets.new ≡ 16 }
+    ensures inlets { vec_len lanes.new.inlets ≡ 16 }
+    ensures outlets { vec_len lanes.new.outlets ≡ 16 }
 {
     a_full_log_is_at_its_limit();
-    let bells = Bells::new();
-    let left = AtomicU32::new(34);
     let mut seat = seat;
-    let (why, writer) = run_workers(
-        rt, alloc, &shared, &bells, &left, &mut seat, inlets, outlets, room, clock, ticks, crew,
-        out,
-    );
+    let (why, writer) = run_workers(rt, &post, &mut seat, lanes, room, clock, ticks, crew, out);
+    let Post { shared, .. } = post;
     let core = shared.close(rt, seat);
     let why = put_rest(core.log(), why, writer, out);
     (why, core)
@@ -156,25 +151,6 @@ fn put_behind<S: Sink>(log: &Log, writer: LogWriter, out: &mut S) -> Result<(), 
     writer.put_behind_and_flush(log, written, out)
 }
 
-/// What a run over boxes takes memory for, beside the rest.
-#[derive(Drop)]
-struct Boxes {
-    lanes: Vec<LanePair>,
-    inlets: Vec<AnyInlet>,
-    outlets: Vec<AnyOutlet>,
-    ghost for_lanes: { (lanes.items ≡ []) × (16 ≤ vec_capacity lanes) },
-    ghost for_inlets: { (inlets.items ≡ []) × (16 ≤ vec_capacity inlets) },
-    ghost for_outlets: { (outlets.items ≡ []) × (16 ≤ vec_capacity outlets) },
-}
-
-fn make_boxes(alloc: Global) -> Result<Boxes, NoMemory> {
-    Ok(Boxes {
-        lanes: Vec::with_capacity(alloc, 16)?,
-        inlets: Vec::with_capacity(alloc, 16)?,
-        outlets: Vec::with_capacity(alloc, 16)?,
-    })
-}
-
 /// Runs a bus to its end: sixteen readers, sixteen writers, who makes steps and who hands in the ticks, `ticks` of them at
 /// most, each in a thread of its own, while this thread writes the log to `out`. A worker that finds the log full or no
 /// memory stops the bus, and so does this thread where the sink fails or it finds no memory. The core comes back with all
@@ -201,28 +177,17 @@ where
         (seen lanes.new.items clock.new crew.new out.new) core.origin result.1 result.0 }
     ensures lanes { vec_len lanes.new ≡ 16 }
 {
-    let Ok(boxes) = make_boxes(alloc) else {
+    let Ok(boxes) = make_boxes(alloc, 16) else {
         return (RunWhy::NoMemory, core);
     };
     let Boxes {
-        lanes: no_lanes,
-        inlets,
-        outlets,
+        count: _,
+        pairs,
+        lanes: ends,
     } = boxes;
-    let mut inlets = inlets;
-    let mut outlets = outlets;
-    part_lanes(mem::replace(lanes, no_lanes), &mut inlets, &mut outlets);
-    let answer = run_ends(
-        rt,
-        alloc,
-        core,
-        &mut inlets,
-        &mut outlets,
-        clock,
-        ticks,
-        crew,
-        out,
-    );
-    pair_lanes(inlets, outlets, lanes);
+    let mut ends = ends;
+    part_lanes(mem::replace(lanes, pairs), &mut ends);
+    let answer = run_ends(rt, alloc, core, &mut ends, clock, ticks, crew, out);
+    pair_lanes(ends, lanes);
     answer
 }

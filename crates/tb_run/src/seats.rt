@@ -6,8 +6,8 @@ ghost use Rattle.tb_run.specs.Parting.{CanPart, parted, left_after};
 use tb_algebra::Walker;
 use tb_lock::{Rights, Seat, Shared};
 
-/// Joins all seats to one, in order.
-pub(crate) fn join_all<W: Walker>(shared: &Shared<W>, seat: &mut Seat, others: Vec<Seat>)
+/// Joins all seats to one, in order. Each is of the same bus.
+pub fn join_all<W: Walker>(shared: &Shared<W>, seat: &mut Seat, others: Vec<Seat>)
     requires own { seat.old.bus ≡ shared.now }
     requires others { All (λ it. it.bus ≡ shared.now) others.items }
     ensures { JoinsAll seat.old others.items seat.new }
@@ -17,8 +17,8 @@ pub(crate) fn join_all<W: Walker>(shared: &Shared<W>, seat: &mut Seat, others: V
     }
 }
 
-/// Hands on these rights to a new seat each, in order.
-pub(crate) fn split_all<W: Walker>(
+/// Hands on these rights to a new seat each, in order. The new seats come behind those that are there.
+pub fn split_all<W: Walker>(
     shared: &Shared<W>,
     seat: &mut Seat,
     parts: &[Rights],

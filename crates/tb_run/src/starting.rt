@@ -6,33 +6,28 @@ ghost use Rattle.tb_run.specs.Running.{Fits};
 
 use crate::buffer::Buffer;
 use crate::ends::WorkEnd;
+use crate::post::Post;
 use crate::worker::{Work, Worker};
-use std::alloc::Global;
-use std::sync::atomic::AtomicU32;
 use tb_algebra::Walker;
-use tb_bells::Bells;
 use tb_edge::{Inlet, Outlet};
-use tb_lock::{Seat, Shared};
+use tb_lock::Seat;
 
-/// Makes a worker of each work, with its seat and a buffer.
-pub(crate) fn begin_all<'a, W: Walker, I: Inlet, O: Outlet>(
-    alloc: Global,
-    shared: &'a Shared<W>,
-    bells: &'a Bells,
-    left: &'a AtomicU32,
+/// Makes a worker of each work, with the seat at the same place and a buffer.
+pub fn begin_all<'a, W: Walker, I: Inlet, O: Outlet>(
+    post: &'a Post<W>,
     seats: Vec<Seat>,
     buffers: Vec<Buffer>,
     works: Vec<Work<I, O>>,
     workers: &mut Vec<Worker<'a, W, I, O>>,
 )
-    requires fits { Fits shared.now seats.items works.items }
+    requires fits { Fits post.now.shared seats.items works.items }
     requires seats { vec_len seats ≡ vec_len works }
     requires buffers { vec_len buffers ≡ vec_len works }
     requires none { workers.old.items ≡ [] }
     requires room { vec_len works ≤ vec_capacity workers.old }
     ensures seats { map (λ it. it.seat) workers.new.items ≡ seats.items }
     ensures works { map (λ it. it.work) workers.new.items ≡ works.items }
-    ensures ready { All (λ it. IsReady it.shared.now it.seat it.work) workers.new.items }
+    ensures ready { All (λ it. IsReady it.post.now.shared it.seat it.work) workers.new.items }
 {
     let mut seats = seats.into_iter();
     let mut buffers = buffers;
@@ -40,10 +35,7 @@ pub(crate) fn begin_all<'a, W: Walker, I: Inlet, O: Outlet>(
         match seats.next() {
             Some(seat) => match buffers.pop() {
                 Some(buffer) => workers.push_reserved(Worker {
-                    shared,
-                    bells,
-                    alloc,
-                    left,
+                    post,
                     seat,
                     buffer,
                     work,

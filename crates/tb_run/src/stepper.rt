@@ -3,33 +3,30 @@ ghost use Rattle.tb_core.specs.Cores.{MakeStep, IsStep};
 ghost use Rattle.tb_lock.specs.Rights.{Steps as ToStep, has};
 ghost use Rattle.tb_lock.specs.Seats.{SeatView};
 ghost use Rattle.tb_lock.specs.Calls.{Called};
-ghost use Rattle.tb_run.specs.Workers.{Steps, StepsBus};
+ghost use Rattle.tb_run.specs.Workers.{StepsBus};
+ghost use Rattle.tb_run.specs.Helpers.Working.{Steps};
 
 use crate::ends::WorkEnd;
 use crate::handing::refused;
+use crate::post::Post;
 use std::sync::Wait;
 use tb_algebra::Walker;
-use tb_bells::{Bells, Sleeper};
+use tb_bells::Sleeper;
 use tb_core::{CoreFault, Stepped};
-use tb_lock::{Seat, Shared, calls_add_their_own};
+use tb_lock::{Seat, calls_add_their_own};
 
 /// The largest number of turns that the stepper takes before it tells the others.
 const BURST: u32 = 8;
 
 /// Makes steps until the bus is down. Where there is none it waits until something comes.
-pub fn step_worker<W: Walker, R: Wait>(
-    rt: &R,
-    shared: &Shared<W>,
-    bells: &Bells,
-    seat: &mut Seat,
-) -> WorkEnd
-    requires own { seat.old.bus ≡ shared.now }
+pub fn step_worker<W: Walker, R: Wait>(rt: &R, post: &Post<W>, seat: &mut Seat) -> WorkEnd
+    requires own { seat.old.bus ≡ post.now.shared }
     requires right { has seat.old.rights ToStep ≡ true }
     ensures { StepsBus seat.old seat.new result }
 {
     let mut heard = 0;
     for _ in rt.forever() {
-        match step_some(rt, shared, bells, seat, &mut heard) {
+        match step_some(rt, post, seat, &mut heard) {
             Some(end) => return end,
             None => {}
         }
@@ -40,31 +37,30 @@ pub fn step_worker<W: Walker, R: Wait>(
 /// Makes some steps, and waits where there is no further one; says why the worker ends, where it does.
 fn step_some<W: Walker, R: Wait>(
     rt: &R,
-    shared: &Shared<W>,
-    bells: &Bells,
+    post: &Post<W>,
     seat: &mut Seat,
     heard: &mut u64,
 ) -> Option<WorkEnd>
-    requires own { seat.old.bus ≡ shared.now }
+    requires own { seat.old.bus ≡ post.now.shared }
     requires right { has seat.old.rights ToStep ≡ true }
     ensures { MatchOption result (Steps seat.old seat.new) (StepsBus seat.old seat.new) }
 {
     calls_add_their_own();
-    match make_steps(rt, shared, seat) {
+    match make_steps(rt, post, seat) {
         Ok(Stepped::Did) => {
-            tell(shared, bells);
+            post.tell_steps();
             None
         }
         Ok(Stepped::Quiet) => {
-            tell(shared, bells);
-            *heard = bells.wait_past(rt, Sleeper::Stepper, *heard);
+            post.tell_steps();
+            *heard = post.bells.wait_past(rt, Sleeper::Stepper, *heard);
             None
         }
         Ok(Stepped::Down) => {
-            bells.ring_all();
+            post.bells.ring_all();
             Some(WorkEnd::Down)
         }
-        Err(fault) => Some(refused(rt, shared, bells, seat, fault)),
+        Err(fault) => Some(refused(rt, post, seat, fault)),
     }
 }
 
@@ -72,15 +68,15 @@ fn step_some<W: Walker, R: Wait>(
 /// returns the last answer.
 fn make_steps<W: Walker, R: Wait>(
     rt: &R,
-    shared: &Shared<W>,
+    post: &Post<W>,
     seat: &mut Seat,
 ) -> Result<Stepped, CoreFault>
-    requires own { seat.old.bus ≡ shared.now }
+    requires own { seat.old.bus ≡ post.now.shared }
     requires right { has seat.old.rights ToStep ≡ true }
     ensures { (mid : SeatView) × Steps seat.old mid × Called IsStep MakeStep mid seat.new result }
 {
     calls_add_their_own();
-    let visit = shared.enter(rt);
+    let visit = post.shared.enter(rt);
     for _ in 1..BURST {
         match visit.step(rt, seat) {
             Ok(Stepped::Did) => {}
@@ -91,15 +87,4 @@ fn make_steps<W: Walker, R: Wait>(
     }
     let last = visit.step(rt, seat);
     last
-}
-
-/// Wakes who may have something to do after steps: who writes the log, and the writers of the lanes on which there is something
-/// for them.
-fn tell<W: Walker>(shared: &Shared<W>, bells: &Bells) {
-    bells.ring(Sleeper::Log);
-    for lane in 1..=16u8 {
-        if shared.calls_for(lane) {
-            bells.ring(Sleeper::Writer(lane));
-        }
-    }
 }

@@ -16,24 +16,22 @@ ghost use Rattle.tb_run.specs.Reasons.{reason_of};
 ghost use Rattle.tb_run.specs.Running.{HasCome, FailsFor, why_by};
 ghost use Rattle.tb_run.specs.Workers.{TicksBus};
 
-use crate::buffer::Buffer;
 use crate::ending::reason_of;
 use crate::ends::{LogEnd, RunWhy, WorkEnd};
+use crate::lanes::Lanes;
 use crate::logger::LogJob;
 use crate::moving::{end_all, works_of};
 use crate::parts::hand_out;
-use crate::room::Room;
+use crate::post::Post;
+use crate::room::{Ended, Room};
 use crate::seats::join_all;
 use crate::starting::begin_all;
 use crate::tick_job::TickJob;
-use crate::worker::{Work, Worker};
-use std::alloc::Global;
+use crate::worker::Worker;
 use std::mem;
 use std::sync::Wait;
-use std::sync::atomic::AtomicU32;
 use std::thread::Threads;
 use tb_algebra::Walker;
-use tb_bells::Bells;
 use tb_bus::a_bus_that_is_down_stays_down;
 use tb_edge::{Clock, Crew, CrewFault, Inlet, Outlet, Sink};
 use tb_lock::{Seat, Shared, joins_keep_their_own};
@@ -71,13 +69,9 @@ pub(crate) fn run_workers<
     O: Outlet + Send,
 >(
     rt: &R,
-    alloc: Global,
-    shared: &'a Shared<W>,
-    bells: &'a Bells,
-    left: &'a AtomicU32,
+    post: &'a Post<W>,
     seat: &mut Seat,
-    inlets: &mut Vec<I>,
-    outlets: &mut Vec<O>,
+    lanes: &mut Lanes<I, O>,
     room: Room<I, O>,
     clock: &mut C,
     ticks: u64,
@@ -87,38 +81,25 @@ pub(crate) fn run_workers<
 where
     W::Plan: Send,
     W::Taken: Send,
-    requires inlets { vec_len inlets.old ≡ 16 }
-    requires outlets { vec_len outlets.old ≡ 16 }
-    requires first { seat.old ≡ first_seat shared.now seat.old.origin }
+    requires inlets { vec_len lanes.old.inlets ≡ 16 }
+    requires outlets { vec_len lanes.old.outlets ≡ 16 }
+    requires room { room.count ≡ 16 }
+    requires first { seat.old ≡ first_seat post.now.shared seat.old.origin }
     ensures come { let seen = ends_seen I.Inlet O.Outlet C.Clock P.Crew S.Sink in
-        HasCome ticks (seen inlets.old.items outlets.old.items clock.old crew.old out.old)
-        (seen inlets.new.items outlets.new.items clock.new crew.new out.new)
+        HasCome ticks (seen lanes.old.inlets.items lanes.old.outlets.items
+        clock.old crew.old out.old)
+        (seen lanes.new.inlets.items lanes.new.outlets.items clock.new crew.new out.new)
         seat.old seat.new result.1 result.0 }
-    ensures inlets { vec_len inlets.new ≡ 16 }
-    ensures outlets { vec_len outlets.new ≡ 16 }
+    ensures inlets { vec_len lanes.new.inlets ≡ 16 }
+    ensures outlets { vec_len lanes.new.outlets ≡ 16 }
 {
     joins_keep_their_own();
     a_bus_that_is_down_stays_down();
-    let Ok(workers) = Vec::with_capacity(alloc, 33) else {
-        return (RunWhy::NoMemory, LogWriter::new(alloc));
+    let Ok(workers) = Vec::with_capacity(post.alloc, 33) else {
+        return (RunWhy::NoMemory, LogWriter::new(post.alloc));
     };
-    let Room {
-        works,
-        inlets: no_inlets,
-        outlets: no_outlets,
-        seats,
-        ended,
-        ends,
-        buffers,
-    } = room;
-    let mut ends = ends;
-    let team = begin(
-        alloc, shared, bells, left, seat, inlets, outlets, no_inlets, no_outlets, works, seats,
-        buffers, workers,
-    );
-    let back = work(
-        rt, alloc, shared, bells, left, team, clock, ticks, crew, out,
-    );
+    let (team, ended) = begin(post, seat, lanes, room, workers);
+    let back = work(rt, post, team, clock, ticks, crew, out);
     let Back {
         failed,
         workers,
@@ -128,9 +109,8 @@ where
         log_end,
         writer,
     } = back;
-    gather(
-        shared, seat, workers, tick_seat, log_seat, inlets, outlets, ended, &mut ends,
-    );
+    let ended = with_others(ended, log_seat, tick_seat);
+    let ends = gather(&post.shared, seat, workers, lanes, ended);
     (why_of(failed, tick_end, ends.as_slice(), log_end), writer)
 }
 
@@ -146,64 +126,48 @@ fn why_of(failed: Option<RunWhy>, tick_end: WorkEnd, ends: &[WorkEnd], log_end: 
 
 /// Hands the seats on, and makes the workers.
 fn begin<'a, W: Walker, I: Inlet, O: Outlet>(
-    alloc: Global,
-    shared: &'a Shared<W>,
-    bells: &'a Bells,
-    left: &'a AtomicU32,
+    post: &'a Post<W>,
     seat: &mut Seat,
-    inlets: &mut Vec<I>,
-    outlets: &mut Vec<O>,
-    no_inlets: Vec<I>,
-    no_outlets: Vec<O>,
-    works: Vec<Work<I, O>>,
-    seats: Vec<Seat>,
-    buffers: Vec<Buffer>,
+    lanes: &mut Lanes<I, O>,
+    room: Room<I, O>,
     workers: Vec<Worker<'a, W, I, O>>,
-) -> Team<'a, W, I, O>
-    requires inlets { vec_len inlets.old ≡ 16 }
-    requires outlets { vec_len outlets.old ≡ 16 }
-    requires first { seat.old ≡ first_seat shared.now seat.old.origin }
-    requires works { (works.items ≡ []) × (33 ≤ vec_capacity works) }
-    requires seats { (seats.items ≡ []) × (33 ≤ vec_capacity seats) }
-    requires buffers { vec_len buffers ≡ 33 }
+) -> (Team<'a, W, I, O>, Ended)
+    requires inlets { vec_len lanes.old.inlets ≡ 16 }
+    requires outlets { vec_len lanes.old.outlets ≡ 16 }
+    requires room { room.count ≡ 16 }
+    requires first { seat.old ≡ first_seat post.now.shared seat.old.origin }
     requires workers { (workers.items ≡ []) × (33 ≤ vec_capacity workers) }
-    ensures seats { map (λ it. it.seat) result.workers.items ≡ parted seat.old job_rights }
-    ensures works { map (λ it. it.work) result.workers.items
-        ≡ works_of inlets.old.items outlets.old.items }
-    ensures ready { All (λ it. IsReady it.shared.now it.seat it.work) result.workers.items }
-    ensures tick { result.tick_seat ≡ handed_on to_tick (left_after seat.old job_rights) }
-    ensures log { result.log_seat
+    ensures seats { map (λ it. it.seat) result.0.workers.items ≡ parted seat.old job_rights }
+    ensures works { map (λ it. it.work) result.0.workers.items
+        ≡ works_of 1 lanes.old.inlets.items lanes.old.outlets.items }
+    ensures ready { All (λ it. IsReady it.post.now.shared it.seat it.work) result.0.workers.items }
+    ensures tick { result.0.tick_seat ≡ handed_on to_tick (left_after seat.old job_rights) }
+    ensures log { result.0.log_seat
         ≡ handed_on no_rights (kept_of to_tick (left_after seat.old job_rights)) }
     ensures seat { seat.new ≡ kept_of no_rights (kept_of to_tick (left_after seat.old job_rights)) }
-    ensures inlets { (inlets.new.items ≡ no_inlets.items)
-        × (vec_capacity inlets.new ≡ vec_capacity no_inlets) }
-    ensures outlets { (outlets.new.items ≡ no_outlets.items)
-        × (vec_capacity outlets.new ≡ vec_capacity no_outlets) }
+    ensures lanes { lanes.new ≡ room.lanes }
+    ensures ended { result.1 ≡ room.ended }
 {
+    let Room {
+        count: _,
+        works,
+        seats,
+        buffers,
+        lanes: no_lanes,
+        ended,
+    } = room;
     let mut works = works;
     let mut seats = seats;
     let mut workers = workers;
-    let (tick_seat, log_seat) = hand_out(shared, seat, &mut seats);
-    works_of(
-        mem::replace(inlets, no_inlets),
-        mem::replace(outlets, no_outlets),
-        &mut works,
-    );
-    begin_all(
-        alloc,
-        shared,
-        bells,
-        left,
-        seats,
-        buffers,
-        works,
-        &mut workers,
-    );
-    Team {
+    let (tick_seat, log_seat) = hand_out(&post.shared, seat, &mut seats);
+    works_of(1, mem::replace(lanes, no_lanes), &mut works);
+    begin_all(post, seats, buffers, works, &mut workers);
+    let team = Team {
         workers,
         tick_seat,
         log_seat,
-    }
+    };
+    (team, ended)
 }
 
 /// Lets all work beside each other.
@@ -218,10 +182,7 @@ fn work<
     O: Outlet + Send,
 >(
     rt: &R,
-    alloc: Global,
-    shared: &'a Shared<W>,
-    bells: &'a Bells,
-    left: &'a AtomicU32,
+    post: &'a Post<W>,
     team: Team<'a, W, I, O>,
     clock: &mut C,
     ticks: u64,
@@ -231,9 +192,9 @@ fn work<
 where
     W::Plan: Send,
     W::Taken: Send,
-    requires ready { All (λ it. IsReady it.shared.now it.seat it.work) team.workers.items }
-    requires tick { (team.tick_seat.bus ≡ shared.now) × (has team.tick_seat.rights ToTick ≡ true) }
-    requires log { team.log_seat.bus ≡ shared.now }
+    requires ready { All (λ it. IsReady it.post.now.shared it.seat it.work) team.workers.items }
+    requires tick { (team.tick_seat.bus ≡ post.now.shared) × (has team.tick_seat.rights ToTick ≡ true) }
+    requires log { team.log_seat.bus ≡ post.now.shared }
     ensures worked { MatchOption result.failed
         (AllDone
         (λ old new. WorkDone I.told O.told O.faults old.seat new.seat new.end old.work new.work)
@@ -259,22 +220,17 @@ where
         log_seat,
     } = team;
     let mut ticker = TickJob {
-        shared,
-        bells,
-        left,
+        post,
         seat: tick_seat,
         clock,
         ticks,
         end: WorkEnd::Over,
     };
     let mut logger = LogJob {
-        shared,
-        bells,
-        left,
-        alloc,
+        post,
         seat: log_seat,
         out,
-        writer: LogWriter::new(alloc),
+        writer: LogWriter::new(post.alloc),
         end: LogEnd::Over,
     };
     let (failed, workers) = taken_back(beside(rt, crew, workers, &mut ticker, &mut logger));
@@ -314,10 +270,10 @@ fn beside<
 where
     W::Plan: Send,
     W::Taken: Send,
-    requires ready { All (λ it. IsReady it.shared.now it.seat it.work) workers.items }
-    requires tick { (ticker.old.seat.bus ≡ ticker.old.shared.now)
+    requires ready { All (λ it. IsReady it.post.now.shared it.seat it.work) workers.items }
+    requires tick { (ticker.old.seat.bus ≡ ticker.old.post.now.shared)
         × (has ticker.old.seat.rights ToTick ≡ true) }
-    requires log { (logger.old.seat.bus ≡ logger.old.shared.now)
+    requires log { (logger.old.seat.bus ≡ logger.old.post.now.shared)
         × (logger.old.writer ≡ record { written = 0; held = [] }) }
     ensures clock { ticker.new.clock.ghost_name ≡ ticker.old.clock.ghost_name }
     ensures out { logger.new.out.ghost_name ≡ logger.old.out.ghost_name }
@@ -344,7 +300,7 @@ where
 fn end_ticks<'b, W: Walker, C: Clock>(job: TickJob<'b, W, C>) -> (Seat, WorkEnd)
     ensures seat { result.0 ≡ job.entry.seat }
     ensures end { result.1 ≡ job.entry.end }
-    ensures clock { job.exit.1.1.1.1.0.now ≡ job.entry.clock.now }
+    ensures clock { job.exit.1.1.0.now ≡ job.entry.clock.now }
 {
     let TickJob { seat, end, .. } = job;
     (seat, end)
@@ -355,7 +311,7 @@ fn end_log<'b, W: Walker, S: Sink, L: Drop>(job: LogJob<'b, W, S, L>) -> (Seat, 
     ensures seat { result.0 ≡ job.entry.seat }
     ensures writer { result.1 ≡ job.entry.writer }
     ensures end { result.2 ≡ job.entry.end }
-    ensures out { job.exit.1.1.1.1.1.0.now ≡ job.entry.out.now }
+    ensures out { job.exit.1.1.0.now ≡ job.entry.out.now }
 {
     let LogJob {
         seat,
@@ -366,8 +322,8 @@ fn end_log<'b, W: Walker, S: Sink, L: Drop>(job: LogJob<'b, W, S, L>) -> (Seat, 
     (seat, writer, end)
 }
 
-/// Takes the workers back, and why there was no crew, where there was none.
-fn taken_back<J: Drop>(answer: Result<Vec<J>, CrewFault<J>>) -> (Option<RunWhy>, Vec<J>)
+/// Takes the jobs back, and why there was no crew, where there was none.
+pub fn taken_back<J: Drop>(answer: Result<Vec<J>, CrewFault<J>>) -> (Option<RunWhy>, Vec<J>)
     ensures ok { IfOk answer (λ jobs. (result.0 ≡ None) × (result.1.items ≡ jobs.items)) }
     ensures err { IfErr answer
         (λ fault. (result.0 ≡ Some (why_by fault)) × (result.1.items ≡ jobs_of fault)) }
@@ -379,37 +335,50 @@ fn taken_back<J: Drop>(answer: Result<Vec<J>, CrewFault<J>>) -> (Option<RunWhy>,
     }
 }
 
-/// Takes the ends of the lanes out of the workers, and makes all seats one again.
-fn gather<'a, W: Walker, I: Inlet, O: Outlet>(
+/// Puts the seats of two further jobs to those of the workers that come.
+pub fn with_others(ended: Ended, one: Seat, other: Seat) -> Ended
+    requires none { ended.seats.items ≡ [] }
+    requires room { 2 ≤ vec_capacity ended.seats }
+    ensures seats { result.seats.items ≡ one ∷ other ∷ [] }
+    ensures room { vec_capacity result.seats ≡ vec_capacity ended.seats }
+    ensures ends { result.ends ≡ ended.ends }
+{
+    let mut ended = ended;
+    ended.seats.push_reserved(one);
+    ended.seats.push_reserved(other);
+    ended
+}
+
+/// Takes the ends of the lanes out of the workers, and makes all seats one again: first those that are there, then those of the
+/// workers. Gives why the workers ended, in their order.
+pub fn gather<'a, W: Walker, I: Inlet, O: Outlet>(
     shared: &Shared<W>,
     seat: &mut Seat,
     workers: Vec<Worker<'a, W, I, O>>,
-    tick_seat: Seat,
-    log_seat: Seat,
-    inlets: &mut Vec<I>,
-    outlets: &mut Vec<O>,
-    ended: Vec<Seat>,
-    ends: &mut Vec<WorkEnd>,
-)
+    lanes: &mut Lanes<I, O>,
+    ended: Ended,
+) -> Vec<WorkEnd>
     requires own { seat.old.bus ≡ shared.now }
     requires workers { All (λ it. it.seat.bus ≡ shared.now) workers.items }
-    requires tick { tick_seat.bus ≡ shared.now }
-    requires log { log_seat.bus ≡ shared.now }
-    requires ended { (ended.items ≡ []) × (vec_len workers + 2 ≤ vec_capacity ended) }
-    requires inlets { (inlets.old.items ≡ [])
-        × (length (inlets_of (map (λ it. it.work) workers.items)) ≤ vec_capacity inlets.old) }
-    requires outlets { (outlets.old.items ≡ [])
-        × (length (outlets_of (map (λ it. it.work) workers.items)) ≤ vec_capacity outlets.old) }
-    requires ends { (ends.old.items ≡ []) × (vec_len workers ≤ vec_capacity ends.old) }
+    requires others { All (λ it. it.bus ≡ shared.now) ended.seats.items }
+    requires seats { vec_len ended.seats + vec_len workers ≤ vec_capacity ended.seats }
+    requires ends { (ended.ends.items ≡ []) × (vec_len workers ≤ vec_capacity ended.ends) }
+    requires inlets { (lanes.old.inlets.items ≡ [])
+        × (length (inlets_of (map (λ it. it.work) workers.items))
+        ≤ vec_capacity lanes.old.inlets) }
+    requires outlets { (lanes.old.outlets.items ≡ [])
+        × (length (outlets_of (map (λ it. it.work) workers.items))
+        ≤ vec_capacity lanes.old.outlets) }
     ensures joins { JoinsAll seat.old
-        (log_seat ∷ tick_seat ∷ map (λ it. it.seat) workers.entry.items) seat.new }
-    ensures inlets { inlets.new.items ≡ inlets_of (map (λ it. it.work) workers.entry.items) }
-    ensures outlets { outlets.new.items ≡ outlets_of (map (λ it. it.work) workers.entry.items) }
-    ensures ends { ends.new.items ≡ map (λ it. it.end) workers.entry.items }
+        (ended.seats.items ++ map (λ it. it.seat) workers.entry.items) seat.new }
+    ensures inlets { lanes.new.inlets.items ≡ inlets_of (map (λ it. it.work) workers.entry.items) }
+    ensures outlets { lanes.new.outlets.items
+        ≡ outlets_of (map (λ it. it.work) workers.entry.items) }
+    ensures ends { result.items ≡ map (λ it. it.end) workers.entry.items }
 {
     let mut ended = ended;
-    ended.push(log_seat).unwrap();
-    ended.push(tick_seat).unwrap();
-    end_all(workers, &mut ended, inlets, outlets, ends);
-    join_all(shared, seat, ended);
+    end_all(workers, lanes, &mut ended);
+    let Ended { seats, ends } = ended;
+    join_all(shared, seat, seats);
+    ends
 }

@@ -1,33 +1,34 @@
-ghost use Rattle.std.specs.Prelude.{◌≡◌, ◌≤◌, true, MatchOption, vec_capacity};
-ghost use Rattle.tb_log.specs.Shapes.{IsLane, IsOutInShape};
+ghost use Rattle.std.specs.Prelude.{◌≡◌, ◌≤◌, true, None, MatchOption, OnOk, OnErr, vec_capacity};
+ghost use Rattle.tb_log.specs.Shapes.{IsLane};
 ghost use Rattle.tb_lane.specs.Sending.{most_line_text};
 ghost use Rattle.tb_lock.specs.Rights.{Out as Outs, has};
-ghost use Rattle.tb_run.specs.Workers.{Writes, WritesLane, Puts, going_on};
+ghost use Rattle.tb_run.specs.Workers.{WritesLane};
+ghost use Rattle.tb_run.specs.Helpers.Working.{Writes, CutsOff, going_on};
 
 use crate::ends::WorkEnd;
 use crate::handing::{hand, refused};
+use crate::post::Post;
 use std::sync::Wait;
 use tb_algebra::Walker;
-use tb_bells::{Bells, Sleeper};
+use tb_bells::Sleeper;
 use tb_bus::entries_are_in_shape;
 use tb_core::TakeOut;
 use tb_edge::Outlet;
 use tb_lane::{SendFault, send_out};
-use tb_lock::{Seat, Shared, calls_add_their_own};
-use tb_log::{Input, Out};
+use tb_lock::{Seat, calls_add_their_own};
+use tb_log::Input;
 
 /// Puts all that is handed out on a lane to its outlet, until the bus is down and nothing is left; then it closes the
 /// outlet. What the outlet fails to take is handed in as cut off before the next is taken.
 pub fn write_lane<W: Walker, R: Wait, O: Outlet>(
     rt: &R,
-    shared: &Shared<W>,
-    bells: &Bells,
+    post: &Post<W>,
     seat: &mut Seat,
     outlet: &mut O,
     buffer: &mut Vec<u8>,
     lane: u8,
 ) -> WorkEnd
-    requires own { seat.old.bus ≡ shared.now }
+    requires own { seat.old.bus ≡ post.now.shared }
     requires lane { IsLane lane }
     requires right { has seat.old.rights (Outs lane) ≡ true }
     requires room { most_line_text ≤ vec_capacity buffer.old }
@@ -35,21 +36,20 @@ pub fn write_lane<W: Walker, R: Wait, O: Outlet>(
         (O.faults outlet.old) (O.faults outlet.new) result }
     ensures room { most_line_text ≤ vec_capacity buffer.new }
 {
-    let end = write_all(rt, shared, bells, seat, outlet, buffer, lane);
+    let end = write_all(rt, post, seat, outlet, buffer, lane);
     outlet.close();
     end
 }
 
 fn write_all<W: Walker, R: Wait, O: Outlet>(
     rt: &R,
-    shared: &Shared<W>,
-    bells: &Bells,
+    post: &Post<W>,
     seat: &mut Seat,
     outlet: &mut O,
     buffer: &mut Vec<u8>,
     lane: u8,
 ) -> WorkEnd
-    requires own { seat.old.bus ≡ shared.now }
+    requires own { seat.old.bus ≡ post.now.shared }
     requires lane { IsLane lane }
     requires right { has seat.old.rights (Outs lane) ≡ true }
     requires room { most_line_text ≤ vec_capacity buffer.old }
@@ -59,8 +59,8 @@ fn write_all<W: Walker, R: Wait, O: Outlet>(
 {
     let mut heard = 0;
     for _ in rt.forever() {
-        wait_for_call(rt, shared, bells, lane, &mut heard);
-        match write_one(rt, shared, bells, seat, outlet, buffer, lane) {
+        wait_for_call(rt, post, lane, &mut heard);
+        match write_one(rt, post, seat, outlet, buffer, lane) {
             Some(end) => return end,
             None => {}
         }
@@ -70,32 +70,25 @@ fn write_all<W: Walker, R: Wait, O: Outlet>(
 
 /// Sleeps while there is nothing for the one that takes what is handed out on a lane, from 1 to 16. `heard` is the count of rings that it
 /// was told last, 0 at first: a ring that comes after that isn't slept past. That there is something is a hint.
-pub fn wait_for_call<W: Walker, R: Wait>(
-    rt: &R,
-    shared: &Shared<W>,
-    bells: &Bells,
-    lane: u8,
-    heard: &mut u64,
-) {
+pub fn wait_for_call<W: Walker, R: Wait>(rt: &R, post: &Post<W>, lane: u8, heard: &mut u64) {
     for _ in rt.forever() {
-        if shared.calls_for(lane) {
+        if post.shared.calls_for(lane) {
             return;
         }
-        *heard = bells.wait_past(rt, Sleeper::Writer(lane), *heard);
+        *heard = post.bells.wait_past(rt, Sleeper::Writer(lane), *heard);
     }
 }
 
 /// Puts what is to be handed out next, where anything is; says why the worker ends, where it does.
 fn write_one<W: Walker, R: Wait, O: Outlet>(
     rt: &R,
-    shared: &Shared<W>,
-    bells: &Bells,
+    post: &Post<W>,
     seat: &mut Seat,
     outlet: &mut O,
     buffer: &mut Vec<u8>,
     lane: u8,
 ) -> Option<WorkEnd>
-    requires own { seat.old.bus ≡ shared.now }
+    requires own { seat.old.bus ≡ post.now.shared }
     requires lane { IsLane lane }
     requires right { has seat.old.rights (Outs lane) ≡ true }
     requires room { most_line_text ≤ vec_capacity buffer.old }
@@ -107,51 +100,36 @@ fn write_one<W: Walker, R: Wait, O: Outlet>(
 {
     calls_add_their_own();
     entries_are_in_shape();
-    match shared.take_out(rt, seat, lane) {
+    match post.shared.take_out(rt, seat, lane) {
         Ok(TakeOut::Out(out)) => {
-            tell_taken(bells, &out);
-            put(rt, shared, bells, seat, outlet, &out, buffer, lane)
+            post.tell_taken(&out);
+            buffer.clear();
+            let sent = send_out(outlet, &out, buffer);
+            cut_off(rt, post, seat, lane, sent)
         }
         Ok(TakeOut::Nothing) => None,
         Ok(TakeOut::Closed) => Some(WorkEnd::Down),
-        Err(fault) => Some(refused(rt, shared, bells, seat, fault)),
+        Err(fault) => Some(refused(rt, post, seat, fault)),
     }
 }
 
-/// Puts what was handed out. Where the outlet fails, that is handed in.
-fn put<W: Walker, R: Wait, O: Outlet>(
+/// Hands in that what was taken out failed to be put, if it did.
+fn cut_off<W: Walker, R: Wait>(
     rt: &R,
-    shared: &Shared<W>,
-    bells: &Bells,
+    post: &Post<W>,
     seat: &mut Seat,
-    outlet: &mut O,
-    out: &Out,
-    buffer: &mut Vec<u8>,
     lane: u8,
+    sent: Result<(), SendFault>,
 ) -> Option<WorkEnd>
-    requires own { seat.old.bus ≡ shared.now }
+    requires own { seat.old.bus ≡ post.now.shared }
     requires lane { IsLane lane }
     requires right { has seat.old.rights (Outs lane) ≡ true }
-    requires form { IsOutInShape out.now }
-    requires room { most_line_text ≤ vec_capacity buffer.old }
-    ensures work { Puts lane out.now seat.old seat.new (O.told outlet.old) (O.told outlet.new)
-        (O.faults outlet.old) (O.faults outlet.new) result }
-    ensures room { most_line_text ≤ vec_capacity buffer.new }
+    ensures ok { OnOk sent ((result ≡ None) × (seat.new ≡ seat.old)) }
+    ensures err { OnErr sent (CutsOff lane seat.old seat.new result) }
 {
-    buffer.clear();
-    match send_out(outlet, out, buffer) {
+    match sent {
         Ok(()) => None,
-        Err(SendFault::Cut) => going_on(hand(rt, shared, bells, seat, Input::Cut(lane))),
-    }
-}
-
-/// Wakes those for whom there may be something to do after this was taken out: the one that writes the log, and after an end the one that
-/// makes steps. After an end the lane may be free, and a step may wait for just that.
-pub fn tell_taken(bells: &Bells, out: &Out) {
-    bells.ring(Sleeper::Log);
-    match out {
-        Out::End => bells.ring(Sleeper::Stepper),
-        Out::Start(_) | Out::Line(_) => {}
+        Err(SendFault::Cut) => going_on(hand(rt, post, seat, Input::Cut(lane))),
     }
 }
 

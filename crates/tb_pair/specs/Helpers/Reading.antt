@@ -5,12 +5,13 @@ use Rattle.tb_log.specs.declared.entry.Input.{Input}
 use Rattle.tb_log.specs.declared.entry.Out.{Out}
 use Rattle.tb_log.specs.declared.entry.Entry.{Entry}
 use Rattle.tb_log.specs.declared.entry.Entry.TheVariants.{Gave}
+use Rattle.tb_core.specs.Cores.{HandIn, HandOut}
 use Rattle.tb_lock.specs.Seats.{SeatView}
 use Rattle.tb_run.specs.declared.ends.WorkEnd.{WorkEnd}
 use Rattle.tb_run.specs.declared.ends.WorkEnd.TheVariants as end
 use Rattle.tb_run.specs.Dropping.{HasDropped}
 use Rattle.tb_run.specs.Outcomes.{is_of}
-use Rattle.tb_run.specs.Seats.{Adds, SameMarks}
+use Rattle.tb_run.specs.Seats.{Adds, FoundFull, SameMarks}
 use Rattle.tb_pair.specs.declared.piece.Piece.{Piece}
 use Rattle.tb_pair.specs.declared.piece.Piece.TheVariants.{Told, Last}
 use Rattle.tb_pair.specs.declared.reader.Taken.{Taken}
@@ -40,14 +41,15 @@ pub record ReadsOn (old new : SeatView) (got_old got_new : List Piece) (reads re
   pub stays : reads' ≡ true → reads ≡ true
   pub over : reads ≡ false → (told ≡ []) × (leaves ≡ false)
   pub why : reads' ≡ false → (reads ≡ false) ⊎ ((leaves ≡ true) ⊎ HasDropped (is_of 1) more)
+  pub let_in : reads' ≡ true → HasDropped (is_of 1) more → ⊥
   pub marks : SameMarks old new
 
 -- what becomes of what is to be handed out, where it is forgotten
 abbrev pub TakesOut : SeatView → SeatView → Taken → Type 0
 TakesOut old new taken.Some = (out : Out) × Adds old new (Gave 1 out ∷ []) × SameMarks old new
 TakesOut old new taken.Nothing = Adds old new [] × SameMarks old new
-TakesOut old new taken.Closed = EndsAs old new end.Down
-TakesOut old new (taken.Ends it) = EndsAs old new it × IsEarly it
+TakesOut old new taken.Closed = EndsAs (FoundFull (HandOut 1) old new) old new end.Down
+TakesOut old new (taken.Ends it) = EndsAs (FoundFull (HandOut 1) old new) old new it × IsEarly it
 
 -- what was received last and not handed in: nothing where the worker came to its end
 abbrev pub MayLose : WorkEnd → Bool → List Piece → Type 0
@@ -58,11 +60,16 @@ MayLose end.Full reads lost = (lost ≡ []) ⊎ ((piece : Piece) × (lost ≡ pi
 MayLose end.Failed reads lost = ⊥
 MayLose end.NoMemory reads lost = (lost ≡ []) ⊎ ((piece : Piece) × (lost ≡ piece ∷ []) × (reads ≡ true))
 
+-- which call found no room: that by which the piece that was received last is handed in, or that by which something is taken out
+abbrev pub PieceFull : SeatView → SeatView → List Piece → Type 0
+PieceFull old new [] = FoundFull (HandOut 1) old new
+PieceFull old new (piece ∷ pieces) = FoundFull (HandIn (line_of piece)) old new
+
 pub record EndsReading (old new : SeatView) (got_old got_new : List Piece) (reads : Bool) (it : WorkEnd) : Type 0 where
-  pub ends : EndsAs old new it
   pub lost : List Piece
   pub got : got_new ≡ got_old ++ lost
   pub may : MayLose it reads lost
+  pub ends : EndsAs (PieceFull old new lost) old new it
 
 -- a reader that went on, and then ended
 pub record ReadTo (old new : SeatView) (got_old got_new : List Piece) (reads : Bool) (it : WorkEnd) : Type 0 where

@@ -5,17 +5,19 @@ use Rattle.tb_log.specs.declared.entry.Reply.{Reply}
 use Rattle.tb_log.specs.declared.entry.Reply.TheVariants.{Dropped}
 use Rattle.tb_log.specs.declared.entry.Why.TheVariants as why
 use Rattle.tb_log.specs.declared.entry.Entry.TheVariants.{Fed}
+use Rattle.tb_core.specs.Cores.{HandIn}
 use Rattle.tb_lock.specs.Seats.{SeatView}
 use Rattle.tb_run.specs.declared.ends.WorkEnd.{WorkEnd}
 use Rattle.tb_run.specs.declared.ends.WorkEnd.TheVariants as end
-use Rattle.tb_run.specs.Seats.{Adds, Marks, SameMarks}
+use Rattle.tb_run.specs.Dropping.{is_down}
+use Rattle.tb_run.specs.Seats.{Adds, FoundFull, Marks, SameMarks}
 use Rattle.tb_pair.specs.Workers.{IsEarly, PipeEnds}
 
--- a worker that ends with nothing of its own
-pub record EndsAs (old new : SeatView) (it : WorkEnd) : Type 0 where
+-- a worker that ends with nothing of its own; `Refused` says which call found no room
+pub record EndsAs (Refused : Type 0) (old new : SeatView) (it : WorkEnd) : Type 0 where
   pub adds : Adds old new []
   pub marks : Marks old new it
-  pub ends : PipeEnds old new it
+  pub ends : PipeEnds Refused new it
 
 -- whether the bus isn't down, or why a worker that hands in ends
 abbrev pub settled : Option WorkEnd → Result Bool WorkEnd
@@ -29,5 +31,5 @@ settled (Some end.NoMemory) = Err end.NoMemory
 
 -- where it isn't refused the worker goes on, also where the bus is down
 abbrev pub Settles : Input → SeatView → SeatView → Result Bool WorkEnd → Type 0
-Settles it old new (Ok up) = (reply : Reply) × Adds old new (Fed it reply ∷ []) × SameMarks old new × (up ≡ false → reply ≡ Dropped why.Down)
-Settles it old new (Err refused) = EndsAs old new refused × IsEarly refused
+Settles it old new (Ok up) = (reply : Reply) × Adds old new (Fed it reply ∷ []) × SameMarks old new × (up ≡ false → reply ≡ Dropped why.Down) × (up ≡ true → is_down reply ≡ false)
+Settles it old new (Err refused) = EndsAs (FoundFull (HandIn it) old new) old new refused × IsEarly refused

@@ -1,5 +1,5 @@
 -- What one tick worker has handed to two buses so far.
-use Rattle.std.specs.Prelude.{◌≡◌, ◌≤◌, ◌+◌, ◌⊎◌, ℕ, Bool, true, false, is_some, List, length, Option, Some, None}
+use Rattle.std.specs.Prelude.{◌≡◌, ◌≤◌, ◌<◌, ◌+◌, ◌⊎◌, ◌&&◌, ℕ, Bool, true, false, is_some, List, length, Option, Some, None}
 use Rattle.tb_edge.specs.Faults.{Rose}
 use Rattle.tb_edge.specs.Ends.{ClockView, and_ticked}
 use Rattle.tb_log.specs.declared.entry.Input.TheVariants as input
@@ -13,21 +13,23 @@ use Rattle.tb_run.specs.declared.ends.WorkEnd.{WorkEnd}
 use Rattle.tb_run.specs.declared.ends.WorkEnd.TheVariants as end
 use Rattle.tb_run.specs.Dropping.{AreLetIn}
 use Rattle.tb_run.specs.Seats.{Adds, Marks, SameMarks, EndsWith, FoundFull}
+use Rattle.tb_run.specs.Helpers.Ticking.{EndsAll}
 use Rattle.tb_run.specs.Workers.{AreTicks, LetIn}
+use Rattle.tb_pair.specs.Ticking.{GotAll}
 
 -- why a bus gets no more ticks
-abbrev pub CutBy : SeatView → SeatView → WorkEnd → Type 0
-CutBy old new end.Over = ⊥
-CutBy old new end.Down = EndsWith new (Fed input.Tick (Dropped why.Down))
-CutBy old new end.Stopped = Unit {0}
-CutBy old new end.Full = FoundFull (HandIn input.Tick) old new
-CutBy old new end.Failed = ⊥
-CutBy old new end.NoMemory = Unit {0}
+abbrev pub CutBy : SeatView → SeatView → ℕ → ℕ → WorkEnd → Type 0
+CutBy old new count given end.Over = ⊥
+CutBy old new count given end.Down = EndsWith new (Fed input.Tick (Dropped why.Down))
+CutBy old new count given end.Stopped = Unit {0}
+CutBy old new count given end.Full = (count < given) × FoundFull (HandIn input.Tick) old new
+CutBy old new count given end.Failed = ⊥
+CutBy old new count given end.NoMemory = Unit {0}
 
 -- a bus that gets each tick has got all that the clock gave, another one no more than these
 abbrev pub TickedBy : Option WorkEnd → SeatView → SeatView → List Entry → ℕ → Type 0
 TickedBy None old new first given = (length first ≡ given) × SameMarks old new × AreLetIn first
-TickedBy (Some it) old new first given = (length first ≤ given) × Marks old new it × LetIn it first × CutBy old new it
+TickedBy (Some it) old new first given = (length first ≤ given) × Marks old new it × LetIn it first × CutBy old new (length first) given it
 
 -- a bus while the clock goes on, which gave so many ticks
 pub record Ticked (old new : SeatView) (given : ℕ) (state : Option WorkEnd) : Type 0 where
@@ -36,27 +38,42 @@ pub record Ticked (old new : SeatView) (given : ℕ) (state : Option WorkEnd) : 
   pub ticks : AreTicks first
   pub by : TickedBy state old new first given
 
+-- of a bus: it got all, or all but the last, which it was refused
+abbrev pub GotBy : Option WorkEnd → ℕ → ℕ → Type 0
+GotBy None count given = count ≡ given
+GotBy (Some it) count given = GotAll count given it
+
+-- A bus when one tick more was given, which has this state then: if it got ticks still, it got this one or was refused it.
+pub record TickedMore (begun new : SeatView) (given : ℕ) (state state' : Option WorkEnd) : Type 0 where
+  pub is : Ticked begun new given state'
+  pub got : state ≡ None → GotBy state' (length is.first) given
+
+-- one of two buses gets ticks still
+abbrev pub SomeGets : Option WorkEnd → Option WorkEnd → Type 0
+SomeGets state others = (is_some state && is_some others) ≡ false
+
 -- one tick more was given, and handed to each bus that gets them
 pub record TicksOne (one one_new : SeatView) (state state' : Option WorkEnd) (other other_new : SeatView) (others others' : Option WorkEnd) (told_old told_new : Option ClockView) (faults_old faults_new : ℕ) : Type 0 where
-  pub first : (begun : SeatView) (given : ℕ) → Ticked begun one given state → Ticked begun one_new (given + 1) state'
-  pub second : (begun : SeatView) (given : ℕ) → Ticked begun other given others → Ticked begun other_new (given + 1) others'
+  pub first : (begun : SeatView) (given : ℕ) → Ticked begun one given state → TickedMore begun one_new (given + 1) state state'
+  pub second : (begun : SeatView) (given : ℕ) → Ticked begun other given others → TickedMore begun other_new (given + 1) others others'
+  pub gets : SomeGets state others
   pub told : told_new ≡ and_ticked told_old 1 false
   pub calm : faults_new ≡ faults_old
 
 -- no tick was given: the clock has ended or failed, or neither bus gets any
 abbrev pub NoTick : Option WorkEnd → Option WorkEnd → Option ClockView → Option ClockView → ℕ → ℕ → WorkEnd → Type 0
-NoTick state others told_old told_new faults_old faults_new end.Over = (told_new ≡ and_ticked told_old 0 true) × (faults_new ≡ faults_old)
-NoTick state others told_old told_new faults_old faults_new end.Failed = (told_new ≡ told_old) × Rose faults_old faults_new
-NoTick state others told_old told_new faults_old faults_new end.Down = (told_new ≡ told_old) × (faults_new ≡ faults_old) × (is_some state ≡ true) × (is_some others ≡ true)
+NoTick state others told_old told_new faults_old faults_new end.Over = (told_new ≡ and_ticked told_old 0 true) × (faults_new ≡ faults_old) × SomeGets state others
+NoTick state others told_old told_new faults_old faults_new end.Failed = (told_new ≡ told_old) × Rose faults_old faults_new × SomeGets state others
+NoTick state others told_old told_new faults_old faults_new end.Down = (told_new ≡ told_old) × (faults_new ≡ faults_old) × ((is_some state && is_some others) ≡ true)
 NoTick state others told_old told_new faults_old faults_new end.Stopped = ⊥
 NoTick state others told_old told_new faults_old faults_new end.Full = ⊥
 NoTick state others told_old told_new faults_old faults_new end.NoMemory = ⊥
 
 -- why no more ticks come, while each bus that gets them still was not told so
 abbrev pub WhyOver : WorkEnd → ℕ → ℕ → Bool → ℕ → ℕ → Option WorkEnd → Option WorkEnd → Type 0
-WhyOver end.Over most given ended old new state others = (new ≡ old) × ((ended ≡ true) ⊎ (given ≡ most))
-WhyOver end.Failed most given ended old new state others = Rose old new
-WhyOver end.Down most given ended old new state others = (new ≡ old) × (is_some state ≡ true) × (is_some others ≡ true)
+WhyOver end.Over most given ended old new state others = (new ≡ old) × (((ended ≡ true) × SomeGets state others) ⊎ (given ≡ most))
+WhyOver end.Failed most given ended old new state others = Rose old new × SomeGets state others
+WhyOver end.Down most given ended old new state others = (new ≡ old) × ((is_some state && is_some others) ≡ true)
 WhyOver end.Stopped most given ended old new state others = ⊥
 WhyOver end.Full most given ended old new state others = ⊥
 WhyOver end.NoMemory most given ended old new state others = ⊥
@@ -66,10 +83,16 @@ pub record TickedAll (most : ℕ) (one one_new : SeatView) (state : Option WorkE
   pub given : ℕ
   pub first : Ticked one one_new given state
   pub second : Ticked other other_new given others
+  pub fully : GotBy state (length first.first) given ⊎ GotBy others (length second.first) given
   pub ended : Bool
   pub told : told_new ≡ and_ticked told_old given ended
   pub within : given ≤ most
   pub why : WhyOver wanted most given ended faults_old faults_new state others
+
+-- a bus that gets ticks still was told so, or was refused that; another one stays as it is
+abbrev pub SaysSo : Option WorkEnd → SeatView → SeatView → WorkEnd → WorkEnd → Type 0
+SaysSo None old new wanted it = EndsAll old new wanted it
+SaysSo (Some was) old new wanted it = (new ≡ old) × (it ≡ was)
 
 -- a bus that gets ticks still may be told that no more come
 abbrev pub MayEnd : Option WorkEnd → WorkEnd → Type 0

@@ -4,14 +4,15 @@ use Rattle.tb_terms.specs.declared.term.Term.{Term}
 use Rattle.tb_log.specs.declared.entry.Input.{Input}
 use Rattle.tb_log.specs.declared.entry.Out.{Out}
 use Rattle.tb_log.specs.declared.entry.Entry.{Entry}
+use Rattle.tb_core.specs.Cores.{HandOut}
 use Rattle.tb_lock.specs.Seats.{SeatView}
 use Rattle.tb_run.specs.declared.ends.WorkEnd.{WorkEnd}
-use Rattle.tb_run.specs.Seats.{Marks, SameMarks}
+use Rattle.tb_run.specs.Seats.{FoundFull, Marks, SameMarks}
 use Rattle.tb_pair.specs.declared.piece.Piece.{Piece}
 use Rattle.tb_pair.specs.declared.piece.Piece.TheVariants.{Told}
 use Rattle.tb_pair.specs.Pieces.{pieces}
 use Rattle.tb_pair.specs.Piping.{told_by, does, connect}
-use Rattle.tb_pair.specs.Workers.{IsEarly, PipeEnds, Goes}
+use Rattle.tb_pair.specs.Workers.{IsEarly, PipeEnds, WriterFull, Goes}
 use Rattle.tb_pair.specs.Helpers.Pipes.{GoesIn}
 use Rattle.tb_pair.specs.Helpers.Settling.{EndsAs}
 
@@ -34,7 +35,7 @@ PassesOn out flows flows' sent_old sent_new = MatchOption (told_by out) ((flows'
 
 -- a writer that ends so has sent nothing more
 pub record EndsWriting (old new : SeatView) (sent_old sent_new : List Piece) (flows flows' : Bool) (it : WorkEnd) : Type 0 where
-  pub ends : EndsAs old new it
+  pub ends : EndsAs (FoundFull (HandOut 1) old new) old new it
   pub sent : sent_new ≡ sent_old
   pub same : flows' ≡ flows
 
@@ -42,7 +43,7 @@ pub record EndsWriting (old new : SeatView) (sent_old sent_new : List Piece) (fl
 pub record Wrote (old new : SeatView) (sent_old sent_new : List Piece) (flows flows' : Bool) (it : WorkEnd) : Type 0 where
   pub mid : SeatView
   pub on : WritesOn old mid sent_old sent_new flows flows'
-  pub ends : EndsAs mid new it
+  pub ends : EndsAs (FoundFull (HandOut 1) mid new) mid new it
 
 -- a writer before it says that nothing more comes
 pub record Written (old new : SeatView) (sent_old sent_new : List Piece) (flows : Bool) (it : WorkEnd) : Type 0 where
@@ -56,4 +57,4 @@ pub record Written (old new : SeatView) (sent_old sent_new : List Piece) (flows 
   pub sent : sent_new ≡ sent_old ++ pieces front false
   pub whole : flows ≡ true → rest ≡ []
   pub marks : Marks old new it
-  pub ends : PipeEnds old new it
+  pub ends : PipeEnds (WriterFull old new given) new it

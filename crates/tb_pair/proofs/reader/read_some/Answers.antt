@@ -1,14 +1,15 @@
 use Rattle.std.proofs.Common.{◌∷◌, []}
 use Rattle.rtrb.specs.Ring.{received}
 use Rattle.tb_log.specs.declared.entry.Entry.TheVariants.{Gave}
-use Rattle.tb_pair.proofs.PipeLemmas.{goes_out}
+use Rattle.tb_run.specs.Outcomes.{is_of}
+use Rattle.tb_pair.proofs.PipeLemmas.{dropped_out, goes_out}
 use Rattle.tb_pair.proofs.ReaderLemmas.{idle_on, feeds_after, stops_reading, refused_reading}
 use Rattle.tb_pair.proofs.reader.read_some.Goals as goal
 
 pub returns-in-Some-clause-work : goal.returns-in-Some-clause-work
 returns-in-Some-clause-work g c =
     let t = c.in-Some.ensures in
-    idle_on c.args.seat.now c.take_out.new.seat (received c.args.pipe.now.end) c.args.reads.now (Gave 1 t.0 ∷ []) (goes_out c.args.seat.now c.take_out.new.seat t.0 t.1) t.2
+    idle_on c.args.seat.now c.take_out.new.seat (received c.args.pipe.now.end) c.args.reads.now (Gave 1 t.0 ∷ []) (goes_out c.args.seat.now c.take_out.new.seat t.0 t.1) t.2 (dropped_out (is_of 1) t.0)
 
 pub returns-in-Nothing-clause-work : goal.returns-in-Nothing-clause-work
 returns-in-Nothing-clause-work g c =

@@ -1,4 +1,4 @@
-use Rattle.std.proofs.Common.{◌≡◌, ℕ, sym, subst}
+use Rattle.std.proofs.Common.{sym, subst}
 use Rattle.tb_write.specs.Writers.{WriterView}
 use Rattle.tb_run.specs.Logging.{Logged}
 use Rattle.tb_run.proofs.LogLemmas.{logged_none, logged_on, log_end}

@@ -1,4 +1,4 @@
-use Rattle.std.proofs.Common.{◌≡◌, Some, sym, subst}
+use Rattle.std.proofs.Common.{sym, subst}
 use Rattle.tb_run.specs.declared.ends.LogEnd.{LogEnd}
 use Rattle.tb_run.specs.Logging.{PutsLast}
 use Rattle.tb_run.proofs.LogLemmas.{puts_fault}

@@ -1,4 +1,4 @@
-use Rattle.std.proofs.Common.{◌≡◌, List, ◌∷◌, ap, sym, subst, ◌∙◌}
+use Rattle.std.proofs.Common.{◌≡◌, List, ap, sym, subst, ◌∙◌}
 use Rattle.std.specs.List.{FoldsTo, All}
 use Rattle.tb_lock.specs.Seats.{SeatView}
 use Rattle.tb_lock.specs.Calls.{Joins}

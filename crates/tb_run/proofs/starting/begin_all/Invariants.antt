@@ -6,10 +6,10 @@ use Rattle.tb_run.proofs.starting.begin_all.Given as goal
 
 abbrev pub invariant-loop-work : goal.invariant-loop-work
 invariant-loop-work g l =
-    Fits l.fn.shared l.seats.rest.items l.work-iterator.rest.items
+    Fits l.fn.post.shared l.seats.rest.items l.work-iterator.rest.items
     × (vec_len l.workers + length l.work-iterator.rest.items ≤ vec_capacity l.workers)
     × (map (λ it. it.seat) l.workers.items ++ l.seats.rest.items ≡ l.fn.seats.items)
     × (map (λ it. it.work) l.workers.items ++ l.work-iterator.rest.items ≡ l.fn.works.items)
-    × All (λ it. IsReady it.shared.now it.seat it.work) l.workers.items
+    × All (λ it. IsReady it.post.now.shared it.seat it.work) l.workers.items
     × (length l.seats.rest.items ≡ length l.work-iterator.rest.items)
     × (vec_len l.buffers ≡ length l.work-iterator.rest.items)

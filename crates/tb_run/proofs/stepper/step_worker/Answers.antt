@@ -1,6 +1,3 @@
-use Rattle.std.proofs.Common.{sym, subst, ◌∙◌, ◌≡◌, true}
-use Rattle.tb_lock.specs.declared.rights.Rights.{Rights}
-use Rattle.tb_lock.specs.Rights.{Steps as ToStep, has}
 use Rattle.tb_run.proofs.StepLemmas.{steps_none, steps_on, steps_end}
 use Rattle.tb_run.proofs.stepper.step_worker.Goals as goal
 

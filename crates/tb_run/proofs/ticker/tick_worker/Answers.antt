@@ -1,4 +1,4 @@
-use Rattle.std.proofs.Common.{◌≡◌, ◌+◌, ℕ, sym, ◌∙◌, arith, inr, refl, false}
+use Rattle.std.proofs.Common.{◌≡◌, sym, arith, inr, refl, false}
 use Rattle.tb_run.proofs.TickLemmas.{ticks_none, ticks_on, ticks_end, ticks_over, ticked_none}
 use Rattle.tb_run.proofs.ticker.tick_worker.Goals as goal
 

@@ -1,9 +1,7 @@
-use Rattle.std.proofs.Common.{rules, ◌≡◌, ℕ, List, ap, sym, ◌∙◌}
-use Rattle.tb_edge.specs.Faults.{Rose}
-use Rattle.tb_edge.specs.Jobs.{AllDone, FailsOnly, jobs_of}
+use Rattle.std.proofs.Common.{◌≡◌, ap, sym, ◌∙◌}
+use Rattle.tb_edge.specs.Jobs.{AllDone}
 use Rattle.tb_run.specs.declared.worker.Worker.{Worker}
 use Rattle.tb_run.specs.declared.tick_job.TickJob.{TickJob}
-use Rattle.tb_run.specs.declared.logger.LogJob.{LogJob}
 use Rattle.tb_run.specs.Jobs.{WorkDone}
 use Rattle.tb_run.specs.Logging.{LogDone}
 use Rattle.tb_run.specs.Workers.{TicksBus}

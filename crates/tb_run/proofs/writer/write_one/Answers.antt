@@ -1,10 +1,10 @@
-use Rattle.std.proofs.Common.{Ok, subst}
+use Rattle.std.proofs.Common.{Ok, subst, arith}
 use Rattle.tb_core.specs.declared.answers.TakeOut.TheVariants as taken
 use Rattle.tb_core.specs.Cores.{HandOut}
 use Rattle.tb_core.specs.declared.answers.TakeOut.{TakeOut}
 use Rattle.tb_lock.specs.Calls.{IsTaken, Called}
 use Rattle.tb_run.proofs.SeatLemmas.{refused_by}
-use Rattle.tb_run.proofs.WriteLemmas.{writes_none, writes_item, takes_out, called_same, closes, writes_refused}
+use Rattle.tb_run.proofs.WriteLemmas.{writes_none, writes_item, takes_out, called_same, closes, puts_by, writes_refused}
 use Rattle.tb_run.proofs.writer.write_one.Goals as goal
 
 pub returns-in-Ok-Out-clause-work : goal.returns-in-Ok-Out-clause-work
@@ -15,8 +15,12 @@ returns-in-Ok-Out-clause-work g c =
     let answer = taken.Out c.in-Ok-Out.out in
     let old = c.args.seat.now in
     let mid = c.take_out.new.seat in
-    writes_item lane c.in-Ok-Out.out old mid c.put.new.seat (g.O.Outlet.told c.args.outlet.now) (g.O.Outlet.told c.put.new.outlet) (g.O.Outlet.faults c.args.outlet.now) (g.O.Outlet.faults c.put.new.outlet)
-    (takes_out laws.seen laws.added lane old mid answer c.requires.right called) (called_same lane old mid answer called) c.put.result c.put.ensures.work
+    let put = c.send_out-sent in
+    let new = c.cut_off.new.seat in
+    writes_item lane c.in-Ok-Out.out old mid new (g.O.Outlet.told c.args.outlet.now) (g.O.Outlet.told put.new.outlet) (g.O.Outlet.faults c.args.outlet.now) (g.O.Outlet.faults put.new.outlet)
+    (takes_out laws.seen laws.added lane old mid answer c.requires.right called) (called_same lane old mid answer called) c.cut_off.result
+    (puts_by lane c.in-Ok-Out.out mid new (g.O.Outlet.told c.args.outlet.now) (g.O.Outlet.told put.new.outlet) (g.O.Outlet.faults c.args.outlet.now) (g.O.Outlet.faults put.new.outlet) put.result c.cut_off.result
+    put.ensures.ok put.ensures.err put.ensures.rose put.ensures.never_falls put.ensures.fits c.cut_off.ensures.ok c.cut_off.ensures.err)
 
 pub returns-in-Ok-Nothing-clause-work : goal.returns-in-Ok-Nothing-clause-work
 returns-in-Ok-Nothing-clause-work g c =
@@ -41,7 +45,7 @@ returns-in-Err-clause-work g c =
     (refused_by laws.seen laws.added (IsTaken lane) (HandOut lane) c.args.seat.now c.take_out.new.seat c.refused.new.seat c.in-Err.fault c.refused.result c.requires.lane c.requires.right c.in-Err.ensures c.refused.ensures)
 
 pub returns-in-Ok-Out-clause-room : goal.returns-in-Ok-Out-clause-room
-returns-in-Ok-Out-clause-room g c = c.put.ensures.room
+returns-in-Ok-Out-clause-room g c = let r = c.requires.room in let a = c.clear.ensures.capacity in let b = c.send_out-sent.ensures.room in omega arith
 
 pub returns-in-Ok-Nothing-clause-room : goal.returns-in-Ok-Nothing-clause-room
 returns-in-Ok-Nothing-clause-room g c = c.requires.room

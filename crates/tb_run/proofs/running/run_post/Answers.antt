@@ -1,13 +1,12 @@
-use Rattle.std.proofs.Common.{◌≡◌, ℕ, List, subst, sym, ap, ◌∙◌}
+use Rattle.std.proofs.Common.{List, subst, sym, ap, ◌∙◌}
 use Rattle.std.specs.Prelude.{IsTrue}
 use Rattle.std.specs.List.{list_all}
 use Rattle.tb_log.specs.Proper.{is_proper_entry}
 use Rattle.tb_log.specs.declared.entry.Entry.{Entry}
 use Rattle.tb_lock.specs.Seats.{SeatView}
-use Rattle.tb_run.specs.Views.{OutsideView, views}
 use Rattle.tb_run.specs.Running.{GoesToRest, IsAfterRest}
 use Rattle.tb_run.proofs.CloseLemmas.{may_rest, closed}
-use Rattle.tb_run.proofs.running.run_shared.Goals as goal
+use Rattle.tb_run.proofs.running.run_post.Goals as goal
 
 pub close-core-requires-clause-own : goal.close-core-requires-clause-own
 close-core-requires-clause-own g c = c.run_workers-why.ensures.come.bus ∙ ap (λ (s : SeatView). s.bus) c.requires.first

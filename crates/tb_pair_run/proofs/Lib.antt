@@ -1,0 +1,9 @@
+pub mod PartLemmas
+pub mod TeamLemmas
+pub mod SideLemmas
+pub mod CameLemmas
+pub mod IdleLemmas
+pub mod BackLemmas
+pub mod RunLemmas
+pub mod SettleLemmas
+pub mod OutsideLemmas

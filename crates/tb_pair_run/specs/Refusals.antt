@@ -1,0 +1,62 @@
+-- What a pair shows of whose buses one found its log full: which call was refused, and that what the call was made for is there.
+use Rattle.std.specs.Prelude.{◌≡◌, ◌<◌, ◌≤◌, ◌⊎◌, ℕ, Bool, false, List, [], ◌∷◌, ◌++◌, filter, Option}
+use Rattle.tb_terms.specs.declared.term.Term.{Term}
+use Rattle.tb_edge.specs.Ends.{ClockView, and_ticked}
+use Rattle.tb_log.specs.declared.entry.Input.TheVariants.{Tick}
+use Rattle.tb_log.specs.declared.entry.Entry.{Entry}
+use Rattle.tb_log.specs.Lanes.{inputs, ticks}
+use Rattle.tb_bus.specs.declared.origin.Origin.{Origin}
+use Rattle.tb_core.specs.Cores.{HandIn, HandOut, MakeStep}
+use Rattle.tb_run.specs.Clocks.{is_time}
+use Rattle.tb_run.specs.Dropping.{AreLetIn, HasDropped}
+use Rattle.tb_run.specs.Outcomes.{is_of}
+use Rattle.tb_run.specs.Refusals.{HadNoRoom, LaneRefused, NoTicksRefused}
+use Rattle.tb_run.specs.Views.{LaneView}
+use Rattle.tb_run.specs.Workers.{AreTicks}
+use Rattle.tb_pair.specs.Piping.{does, events, connect, disconnect, event_of, lines_of}
+use Rattle.tb_pair_run.specs.Views.{SomeFromTwo}
+
+-- the line by which the tool of lane 1 names itself: the log has no input of lane 1
+abbrev pub NameRefused : Origin → List Entry → Type 0
+NameRefused origin log = (inputs log 1 ≡ []) × HadNoRoom (HandIn connect) origin log
+
+-- An event of lane 1 of the second bus: the next term that the first bus has told its tool to do. No input of lane 1 was dropped since the bus was down.
+pub record EventRefused (one : List Entry) (origin : Origin) (log : List Entry) : Type 0 where
+  pub next : Term
+  pub rest : List Term
+  pub is : does one ≡ events log ++ next ∷ rest
+  pub lines : inputs log 1 ≡ connect ∷ lines_of (events log) false
+  pub let_in : HasDropped (is_of 1) log → ⊥
+  pub no_room : HadNoRoom (HandIn (event_of next)) origin log
+
+-- The line by which the tool of the second bus leaves, which has given all events. No input of lane 1 was dropped since the bus was down.
+pub record LeaveRefused (one : List Entry) (origin : Origin) (log : List Entry) : Type 0 where
+  pub all : events log ≡ does one
+  pub lines : inputs log 1 ≡ connect ∷ lines_of (events log) false
+  pub let_in : HasDropped (is_of 1) log → ⊥
+  pub no_room : HadNoRoom (HandIn disconnect) origin log
+
+-- of the worker that writes the pipe: what was to be handed out on lane 1 of the first bus, or its one input
+abbrev pub WriterRefused : Origin → List Entry → Type 0
+WriterRefused origin log = HadNoRoom (HandOut 1) origin log ⊎ NameRefused origin log
+
+-- of the worker that reads the pipe: what was to be handed out on lane 1 of the second bus, or one of its inputs
+abbrev pub ReaderRefused : List Entry → Origin → List Entry → Type 0
+ReaderRefused one origin log = HadNoRoom (HandOut 1) origin log ⊎ (NameRefused origin log ⊎ (EventRefused one origin log ⊎ LeaveRefused one origin log))
+
+-- A tick: the clock gave more than the log has. The log doesn't say that no more come, and no tick was dropped since the bus was down.
+pub record TickRefused (origin : Origin) (log : List Entry) (most : ℕ) (old new : Option ClockView) : Type 0 where
+  pub given : ℕ
+  pub ended : Bool
+  pub told : new ≡ and_ticked old given ended
+  pub within : given ≤ most
+  pub more : ticks log < given
+  pub time : AreTicks (filter is_time log)
+  pub let_in : AreLetIn (filter is_time log)
+  pub no_room : HadNoRoom (HandIn Tick) origin log
+
+-- A call on a bus of a pair was refused since its log was full: one of lanes 2 to 16, one of lane 1, one of the clock, or a step. `Pipe` says it of lane 1.
+abbrev pub BusRefused : Type 0 → ℕ → List LaneView → List LaneView → Option ClockView → Option ClockView → Type 0 → Origin → List Entry → Type 0
+BusRefused Pipe most lanes_old lanes_new clock_old clock_new Failed origin log =
+    SomeFromTwo (LaneRefused origin log) lanes_old lanes_new
+    ⊎ (Pipe ⊎ (TickRefused origin log most clock_old clock_new ⊎ (NoTicksRefused origin log most clock_old clock_new Failed ⊎ HadNoRoom MakeStep origin log)))

@@ -1,0 +1,245 @@
+//! A crew does all jobs of a pair beside each other.
+ghost use Rattle.std.specs.Prelude.{◌≡◌, ◌≤◌, ◌++◌, [], None, MatchOption, IfOk, IfErr, OnOk, length, vec_capacity};
+ghost use Rattle.std.specs.List.{All};
+ghost use Rattle.tb_edge.specs.Faults.{Rose};
+ghost use Rattle.tb_edge.specs.Jobs.{AllDone, FailsOnly, jobs_of};
+ghost use Rattle.tb_run.specs.Jobs.{IsReady as IsReadyWorker, WorkDone};
+ghost use Rattle.tb_run.specs.Running.{FailsFor};
+ghost use Rattle.tb_pair.specs.Jobs.{CanServe, IsReady, JobDone};
+ghost use Rattle.tb_pair.specs.Ticking.{CanTick, TicksPair};
+ghost use Rattle.tb_pair_run.specs.Helpers.Teams.{IsTeam, TeamDone, TeamSame, jobs_of as team_of};
+
+use crate::apart::{put_together, take_apart};
+use crate::idle::Idle;
+use std::sync::Wait;
+use std::thread::Threads;
+use tb_algebra::Walker;
+use tb_edge::{Clock, Crew, CrewFault, Inlet, Outlet};
+use tb_lock::Seat;
+use tb_pair::{PairJob, PairTicking, PipeReading, PipeWriting, beside};
+use tb_run::{RunWhy, WorkEnd, Worker, taken_back};
+
+/// The jobs of a pair, but for the ticker.
+#[derive(Drop)]
+pub(crate) struct Crowd<'a, W: Walker, I, O> {
+    pub(crate) writing: PipeWriting<'a, W>,
+    pub(crate) reading: PipeReading<'a, W>,
+    /// The workers of the first bus.
+    pub(crate) workers: Vec<Worker<'a, W, I, O>>,
+    /// The workers of the second.
+    pub(crate) others: Vec<Worker<'a, W, I, O>>,
+}
+
+/// What the ticker leaves.
+#[derive(Drop)]
+pub(crate) struct Ticked {
+    pub(crate) seat: Seat,
+    pub(crate) end: WorkEnd,
+    pub(crate) others_seat: Seat,
+    pub(crate) others_end: WorkEnd,
+}
+
+/// What comes back. Where there was no crew, `failed` says why.
+#[derive(Drop)]
+pub(crate) struct Back<'a, W: Walker, I, O> {
+    pub(crate) failed: Option<RunWhy>,
+    pub(crate) crowd: Crowd<'a, W, I, O>,
+    pub(crate) ticked: Ticked,
+}
+
+/// What takes the jobs together, and the workers once they come back.
+#[derive(Drop)]
+pub(crate) struct Lists<'a, W: Walker, I, O> {
+    pub(crate) jobs: Vec<PairJob<'a, W, Worker<'a, W, I, O>>>,
+    pub(crate) workers: Vec<Worker<'a, W, I, O>>,
+    pub(crate) others: Vec<Worker<'a, W, I, O>>,
+    ghost for_jobs: { (jobs.items ≡ []) × (64 ≤ vec_capacity jobs) },
+    ghost for_workers: { (workers.items ≡ []) × (31 ≤ vec_capacity workers) },
+    ghost for_others: { (others.items ≡ []) × (31 ≤ vec_capacity others) },
+}
+
+/// Puts the jobs together, has them done, and takes them apart again.
+pub(crate) fn do_jobs<
+    'a,
+    'b,
+    W: Walker + Send,
+    R: Threads + Wait + Sync,
+    C: Clock + Send,
+    P: Crew,
+    I: Inlet + Send,
+    O: Outlet + Send,
+>(
+    rt: &R,
+    crowd: Crowd<'a, W, I, O>,
+    lists: Lists<'a, W, I, O>,
+    ticking: &mut PairTicking<'b, W, C>,
+    crew: &mut P,
+) -> (Option<RunWhy>, Crowd<'a, W, I, O>)
+where
+    W::Plan: Send,
+    W::Taken: Send,
+    requires writing { CanServe crowd.writing.post.now.shared crowd.writing.seat }
+    requires reading { CanServe crowd.reading.post.now.shared crowd.reading.seat }
+    requires workers { All (λ it. IsReadyWorker it.post.now.shared it.seat it.work)
+        crowd.workers.items }
+    requires others { All (λ it. IsReadyWorker it.post.now.shared it.seat it.work)
+        crowd.others.items }
+    requires counts { (length crowd.workers.items ≡ 31) × (length crowd.others.items ≡ 31) }
+    requires one { CanTick ticking.old.one.post.now.shared ticking.old.one.seat
+        × (ticking.old.one.end ≡ None) }
+    requires other { CanTick ticking.old.other.post.now.shared ticking.old.other.seat
+        × (ticking.old.other.end ≡ None) }
+    ensures clock { ticking.new.clock.ghost_name ≡ ticking.old.clock.ghost_name }
+    ensures worked { MatchOption result.0
+        (TeamDone
+        (λ old new. WorkDone I.told O.told O.faults old.seat new.seat new.end old.work new.work)
+        crowd.entry.writing result.1.writing crowd.entry.reading result.1.reading
+        crowd.entry.workers.items result.1.workers.items
+        crowd.entry.others.items result.1.others.items
+        × TicksPair ticking.old.ticks ticking.old.one.seat ticking.new.one.seat
+        ticking.old.other.seat ticking.new.other.seat
+        (C.told ticking.old.clock.now) (C.told ticking.new.clock.now)
+        (C.faults ticking.old.clock.now) (C.faults ticking.new.clock.now)
+        ticking.new.one_end ticking.new.other_end)
+        (λ why. FailsFor why (P.faults crew.old) (P.faults crew.new)
+        × TeamSame crowd.entry.writing result.1.writing
+        crowd.entry.reading result.1.reading
+        crowd.entry.workers.items result.1.workers.items
+        crowd.entry.others.items result.1.others.items
+        × (ticking.new ≡ ticking.old)) }
+    ensures calm { MatchOption result.0
+        (P.faults crew.new ≡ P.faults crew.old) (λ why. ticking.new ≡ ticking.old) }
+{
+    let Crowd {
+        writing,
+        reading,
+        workers,
+        others,
+    } = crowd;
+    let Lists {
+        jobs,
+        workers: back,
+        others: others_back,
+    } = lists;
+    let mut jobs = jobs;
+    put_together(writing, reading, workers, others, &mut jobs);
+    let (failed, jobs) = crew_jobs(rt, crew, jobs, ticking);
+    let crowd = part(jobs, back, others_back);
+    (failed, crowd)
+}
+
+/// The crew does all jobs, which come back in each case.
+fn crew_jobs<
+    'a,
+    'b,
+    W: Walker + Send,
+    R: Threads + Wait + Sync,
+    C: Clock + Send,
+    P: Crew,
+    I: Inlet + Send,
+    O: Outlet + Send,
+>(
+    rt: &R,
+    crew: &mut P,
+    jobs: Vec<PairJob<'a, W, Worker<'a, W, I, O>>>,
+    ticking: &mut PairTicking<'b, W, C>,
+) -> (Option<RunWhy>, Vec<PairJob<'a, W, Worker<'a, W, I, O>>>)
+where
+    W::Plan: Send,
+    W::Taken: Send,
+    requires jobs { All
+        (IsReady (λ it. IsReadyWorker it.post.now.shared it.seat it.work)) jobs.items }
+    requires one { CanTick ticking.old.one.post.now.shared ticking.old.one.seat
+        × (ticking.old.one.end ≡ None) }
+    requires other { CanTick ticking.old.other.post.now.shared ticking.old.other.seat
+        × (ticking.old.other.end ≡ None) }
+    ensures clock { ticking.new.clock.ghost_name ≡ ticking.old.clock.ghost_name }
+    ensures done { MatchOption result.0
+        (AllDone (JobDone (λ old new.
+        WorkDone I.told O.told O.faults old.seat new.seat new.end old.work new.work))
+        jobs.entry.items result.1.items
+        × TicksPair ticking.old.ticks ticking.old.one.seat ticking.new.one.seat
+        ticking.old.other.seat ticking.new.other.seat
+        (C.told ticking.old.clock.now) (C.told ticking.new.clock.now)
+        (C.faults ticking.old.clock.now) (C.faults ticking.new.clock.now)
+        ticking.new.one_end ticking.new.other_end)
+        (λ why. FailsFor why (P.faults crew.old) (P.faults crew.new)
+        × (result.1.items ≡ jobs.entry.items) × (ticking.new ≡ ticking.old)) }
+    ensures calm { MatchOption result.0
+        (P.faults crew.new ≡ P.faults crew.old) (λ why. ticking.new ≡ ticking.old) }
+{
+    taken_back(crew_all(rt, crew, jobs, ticking))
+}
+
+/// The crew does all jobs. One's own does nothing.
+fn crew_all<
+    'a,
+    'b,
+    W: Walker + Send,
+    R: Threads + Wait + Sync,
+    C: Clock + Send,
+    P: Crew,
+    I: Inlet + Send,
+    O: Outlet + Send,
+>(
+    rt: &R,
+    crew: &mut P,
+    jobs: Vec<PairJob<'a, W, Worker<'a, W, I, O>>>,
+    ticking: &mut PairTicking<'b, W, C>,
+) -> Result<
+    Vec<PairJob<'a, W, Worker<'a, W, I, O>>>,
+    CrewFault<PairJob<'a, W, Worker<'a, W, I, O>>>,
+>
+where
+    W::Plan: Send,
+    W::Taken: Send,
+    requires jobs { All
+        (IsReady (λ it. IsReadyWorker it.post.now.shared it.seat it.work)) jobs.items }
+    requires one { CanTick ticking.old.one.post.now.shared ticking.old.one.seat
+        × (ticking.old.one.end ≡ None) }
+    requires other { CanTick ticking.old.other.post.now.shared ticking.old.other.seat
+        × (ticking.old.other.end ≡ None) }
+    ensures clock { ticking.new.clock.ghost_name ≡ ticking.old.clock.ghost_name }
+    ensures ok { IfOk result (λ back. AllDone
+        (JobDone (λ old new.
+        WorkDone I.told O.told O.faults old.seat new.seat new.end old.work new.work))
+        jobs.entry.items back.items
+        × TicksPair ticking.old.ticks ticking.old.one.seat ticking.new.one.seat
+        ticking.old.other.seat ticking.new.other.seat
+        (C.told ticking.old.clock.now) (C.told ticking.new.clock.now)
+        (C.faults ticking.old.clock.now) (C.faults ticking.new.clock.now)
+        ticking.new.one_end ticking.new.other_end) }
+    ensures err { IfErr result (λ fault. (jobs_of fault ≡ jobs.entry.items)
+        × (ticking.new ≡ ticking.old)) }
+    ensures rose { IfErr result
+        (λ fault. FailsOnly fault (Rose (P.faults crew.old) (P.faults crew.new))) }
+    ensures calm { OnOk result (P.faults crew.new ≡ P.faults crew.old) }
+{
+    let mut idle = Idle;
+    beside(rt, crew, jobs, ticking, &mut idle)
+}
+
+/// Takes the jobs apart.
+fn part<'a, W: Walker, I: Inlet, O: Outlet>(
+    jobs: Vec<PairJob<'a, W, Worker<'a, W, I, O>>>,
+    workers: Vec<Worker<'a, W, I, O>>,
+    others: Vec<Worker<'a, W, I, O>>,
+) -> Crowd<'a, W, I, O>
+    requires team { IsTeam jobs.items }
+    requires count { length jobs.items ≡ 64 }
+    requires workers { (workers.items ≡ []) × (31 ≤ vec_capacity workers) }
+    requires others { (others.items ≡ []) × (31 ≤ vec_capacity others) }
+    ensures jobs { jobs.entry.items ≡ team_of result.writing result.reading
+        (result.workers.items ++ result.others.items) }
+    ensures count { length result.workers.items ≡ 31 }
+{
+    let mut workers = workers;
+    let mut others = others;
+    let (writing, reading) = take_apart(jobs, &mut workers, &mut others);
+    Crowd {
+        writing,
+        reading,
+        workers,
+        others,
+    }
+}

@@ -1,0 +1,25 @@
+/// Why one bus of a pair ended.
+#[derive(Clone, Copy, Debug, PartialEq, Eq)]
+pub enum BusWhy {
+    /// The bus is down, and all was handed out.
+    Ended,
+    /// Its log was full.
+    Events,
+    /// Memory ran out.
+    NoMemory,
+}
+
+/// Why a pair ended.
+#[derive(Clone, Copy, Debug, PartialEq, Eq)]
+pub enum PairWhy {
+    /// Both buses are down, and all was handed out.
+    Ended,
+    /// The crew failed.
+    Crew,
+    /// The clock failed.
+    Clock,
+    /// The log of a bus was full.
+    Events,
+    /// Memory ran out.
+    NoMemory,
+}

@@ -1,0 +1,295 @@
+//! The workers of both buses: how they begin, and how their seats become one again.
+ghost use Rattle.std.specs.Prelude.{◌≡◌, ◌≤◌, ◌++◌, ◌∷◌, [], List, None, length, map, vec_capacity, MatchOption};
+ghost use Rattle.std.specs.List.{All};
+ghost use Rattle.rtrb.specs.Ring.{IsPair, received, sent};
+ghost use Rattle.tb_lock.specs.Seats.{first_seat};
+ghost use Rattle.tb_run.specs.Jobs.{IsReady};
+ghost use Rattle.tb_run.specs.Joining.{JoinsAll};
+ghost use Rattle.tb_run.specs.Moving.{works_of, inlets_of, outlets_of};
+ghost use Rattle.tb_run.specs.Parting.{parted};
+ghost use Rattle.tb_pair.specs.declared.piece.Piece.{Piece};
+ghost use Rattle.tb_pair_run.specs.Helpers.Parts.{lane_rights, pipe_seat_of, tick_seat_of, rest_of};
+ghost use Rattle.tb_pair_run.specs.Helpers.Reasons.{bus_why, no_crew, pair_why};
+ghost use Rattle.tb_pair_run.specs.Helpers.Running.{CanFinish, CanGather};
+
+use crate::crewing::{Back, Crowd, Ticked};
+use crate::ending::{bus_why, no_crew, pair_why};
+use crate::ends::PairWhy;
+use crate::stock::{Ring, Side};
+use crate::team::{Done, Home, Team, begin, finish};
+use std::sync::atomic::AtomicU32;
+use tb_algebra::Walker;
+use tb_edge::{Inlet, Outlet};
+use tb_lock::Seat;
+use tb_pair::{PipeIn, PipeOut, PipeReading, PipeWriting, TickedBus, ends_meet};
+use tb_run::{Lanes, Post, RunWhy, WorkEnd, Worker};
+
+/// One of the two buses, before its workers begin.
+#[derive(Drop)]
+pub(crate) struct Bus<'a, W: Walker, I, O> {
+    pub(crate) post: &'a Post<W>,
+    pub(crate) seat: Seat,
+    /// The ends of lanes 2 to 16.
+    pub(crate) lanes: Lanes<I, O>,
+}
+
+/// One of the two buses, once its seats have become one again.
+#[derive(Drop)]
+pub(crate) struct Left<I, O> {
+    pub(crate) seat: Seat,
+    pub(crate) lanes: Lanes<I, O>,
+}
+
+/// What comes of both buses.
+#[derive(Drop)]
+pub(crate) struct Came<I, O> {
+    pub(crate) why: PairWhy,
+    pub(crate) one: Left<I, O>,
+    pub(crate) other: Left<I, O>,
+}
+
+/// A bus whose workers are there.
+#[derive(Drop)]
+pub(crate) struct Started<'a, W: Walker, I, O> {
+    team: Team<'a, W, I, O>,
+    home: Home<I, O>,
+    /// For the workers once they come back.
+    back: Vec<Worker<'a, W, I, O>>,
+}
+
+/// Makes the workers of a bus.
+pub(crate) fn start<'a, W: Walker, I: Inlet, O: Outlet>(
+    bus: Bus<'a, W, I, O>,
+    side: Side<'a, W, I, O>,
+) -> Started<'a, W, I, O>
+    requires inlets { length bus.lanes.inlets.items ≡ 15 }
+    requires outlets { length bus.lanes.outlets.items ≡ 15 }
+    requires first { bus.seat ≡ first_seat bus.post.now.shared bus.seat.origin }
+    ensures seats { map (λ it. it.seat) result.team.workers.items
+        ≡ parted bus.entry.seat lane_rights }
+    ensures works { map (λ it. it.work) result.team.workers.items
+        ≡ works_of 2 bus.entry.lanes.inlets.items bus.entry.lanes.outlets.items }
+    ensures ready { All (λ it. IsReady it.post.now.shared it.seat it.work)
+        result.team.workers.items }
+    ensures count { length result.team.workers.items ≡ 31 }
+    ensures pipe { result.team.pipe_seat ≡ pipe_seat_of bus.entry.seat }
+    ensures tick { result.team.tick_seat ≡ tick_seat_of bus.entry.seat }
+    ensures seat { result.home.seat ≡ rest_of bus.entry.seat }
+    ensures room { CanGather result.home.lanes.inlets.items
+        (vec_capacity result.home.lanes.inlets)
+        result.home.lanes.outlets.items (vec_capacity result.home.lanes.outlets)
+        result.home.ended.seats.items (vec_capacity result.home.ended.seats)
+        result.home.ended.ends.items (vec_capacity result.home.ended.ends) }
+    ensures back { (result.back.items ≡ []) × (31 ≤ vec_capacity result.back) }
+{
+    let Side {
+        room,
+        workers,
+        back,
+    } = side;
+    let Bus { post, seat, lanes } = bus;
+    let (team, home) = begin(post, seat, lanes, room, workers);
+    Started { team, home, back }
+}
+
+/// All jobs of a pair.
+#[derive(Drop)]
+pub(crate) struct Manned<'a, W: Walker, I, O> {
+    crowd: Crowd<'a, W, I, O>,
+    one: TickedBus<'a, W>,
+    other: TickedBus<'a, W>,
+}
+
+/// Makes the jobs of the pipe and the ticker's buses.
+pub(crate) fn man<'a, W: Walker, I: Inlet, O: Outlet>(
+    post: &'a Post<W>,
+    others_post: &'a Post<W>,
+    team: Team<'a, W, I, O>,
+    others_team: Team<'a, W, I, O>,
+    pipe: Ring,
+    over: &'a AtomicU32,
+) -> Manned<'a, W, I, O>
+    ensures writing { (result.crowd.writing.seat ≡ team.entry.pipe_seat)
+        × (result.crowd.writing.post.now.shared ≡ post.now.shared)
+        × (result.crowd.writing.pipe.end ≡ pipe.writes) }
+    ensures reading { (result.crowd.reading.seat ≡ others_team.entry.pipe_seat)
+        × (result.crowd.reading.post.now.shared ≡ others_post.now.shared)
+        × (result.crowd.reading.pipe.end ≡ pipe.reads) }
+    ensures workers { result.crowd.workers.items ≡ team.entry.workers.items }
+    ensures others { result.crowd.others.items ≡ others_team.entry.workers.items }
+    ensures one { (result.one.seat ≡ team.entry.tick_seat)
+        × (result.one.post.now.shared ≡ post.now.shared) × (result.one.end ≡ None) }
+    ensures other { (result.other.seat ≡ others_team.entry.tick_seat)
+        × (result.other.post.now.shared ≡ others_post.now.shared) × (result.other.end ≡ None) }
+{
+    let Team {
+        workers,
+        pipe_seat,
+        tick_seat,
+    } = team;
+    let Team {
+        workers: others,
+        pipe_seat: others_pipe_seat,
+        tick_seat: others_tick_seat,
+    } = others_team;
+    let Ring { writes, reads } = pipe;
+    let writing = PipeWriting {
+        post,
+        seat: pipe_seat,
+        pipe: PipeIn {
+            end: writes,
+            flows: true,
+            others: &others_post.bells,
+            over,
+        },
+        end: WorkEnd::Over,
+    };
+    let reading = PipeReading {
+        post: others_post,
+        seat: others_pipe_seat,
+        pipe: PipeOut {
+            end: reads,
+            others: &post.bells,
+            over,
+        },
+        end: WorkEnd::Over,
+    };
+    Manned {
+        crowd: Crowd {
+            writing,
+            reading,
+            workers,
+            others,
+        },
+        one: TickedBus {
+            post,
+            seat: tick_seat,
+            end: None,
+        },
+        other: TickedBus {
+            post: others_post,
+            seat: others_tick_seat,
+            end: None,
+        },
+    }
+}
+
+/// Makes all seats of each bus one again, lets the two ends of the pipe meet, and gives why the pair ended.
+pub(crate) fn settle<'a, W: Walker, I: Inlet, O: Outlet>(
+    post: &'a Post<W>,
+    others_post: &'a Post<W>,
+    home: Home<I, O>,
+    others_home: Home<I, O>,
+    back: Back<'a, W, I, O>,
+) -> Came<I, O>
+    requires one { CanFinish post.now.shared home.seat back.crowd.writing.seat back.ticked.seat
+        (length back.crowd.workers.items)
+        (length (inlets_of (map (λ it. it.work) back.crowd.workers.items)))
+        (length (outlets_of (map (λ it. it.work) back.crowd.workers.items))) }
+    requires workers { All (λ it. it.seat.bus ≡ post.now.shared) back.crowd.workers.items }
+    requires other { CanFinish others_post.now.shared others_home.seat
+        back.crowd.reading.seat back.ticked.others_seat (length back.crowd.others.items)
+        (length (inlets_of (map (λ it. it.work) back.crowd.others.items)))
+        (length (outlets_of (map (λ it. it.work) back.crowd.others.items))) }
+    requires others { All (λ it. it.seat.bus ≡ others_post.now.shared) back.crowd.others.items }
+    requires room { CanGather home.lanes.inlets.items (vec_capacity home.lanes.inlets)
+        home.lanes.outlets.items (vec_capacity home.lanes.outlets)
+        home.ended.seats.items (vec_capacity home.ended.seats)
+        home.ended.ends.items (vec_capacity home.ended.ends) }
+    requires others_room { CanGather others_home.lanes.inlets.items
+        (vec_capacity others_home.lanes.inlets)
+        others_home.lanes.outlets.items (vec_capacity others_home.lanes.outlets)
+        others_home.ended.seats.items (vec_capacity others_home.ended.seats)
+        others_home.ended.ends.items (vec_capacity others_home.ended.ends) }
+    requires ends { IsPair back.crowd.writing.pipe.end back.crowd.reading.pipe.end }
+    ensures joins { JoinsAll home.seat (back.entry.crowd.writing.seat ∷ back.entry.ticked.seat
+        ∷ map (λ it. it.seat) back.entry.crowd.workers.items) result.one.seat }
+    ensures others_joins { JoinsAll others_home.seat
+        (back.entry.crowd.reading.seat ∷ back.entry.ticked.others_seat
+        ∷ map (λ it. it.seat) back.entry.crowd.others.items) result.other.seat }
+    ensures lanes { (result.one.lanes.inlets.items
+        ≡ inlets_of (map (λ it. it.work) back.entry.crowd.workers.items))
+        × (result.one.lanes.outlets.items
+        ≡ outlets_of (map (λ it. it.work) back.entry.crowd.workers.items)) }
+    ensures others_lanes { (result.other.lanes.inlets.items
+        ≡ inlets_of (map (λ it. it.work) back.entry.crowd.others.items))
+        × (result.other.lanes.outlets.items
+        ≡ outlets_of (map (λ it. it.work) back.entry.crowd.others.items)) }
+    ensures met { (known : List Piece) × (received back.entry.crowd.reading.pipe.end ++ known
+        ≡ sent back.entry.crowd.writing.pipe.end) }
+    ensures why { MatchOption back.entry.failed
+        (result.why ≡ pair_why
+        (bus_why back.entry.crowd.writing.end back.entry.ticked.end
+        (map (λ it. it.end) back.entry.crowd.workers.items))
+        (bus_why back.entry.crowd.reading.end back.entry.ticked.others_end
+        (map (λ it. it.end) back.entry.crowd.others.items))
+        back.entry.ticked.end back.entry.ticked.others_end)
+        (λ it. result.why ≡ no_crew it) }
+{
+    let Back {
+        failed,
+        crowd,
+        ticked,
+    } = back;
+    let Crowd {
+        writing,
+        reading,
+        workers,
+        others,
+    } = crowd;
+    let Ticked {
+        seat: tick_seat,
+        end,
+        others_seat: others_tick_seat,
+        others_end,
+    } = ticked;
+    let PipeWriting {
+        seat: pipe_seat,
+        pipe: writes,
+        end: writer,
+        ..
+    } = writing;
+    let PipeReading {
+        seat: others_pipe_seat,
+        pipe: reads,
+        end: reader,
+        ..
+    } = reading;
+    let team = Team {
+        workers,
+        pipe_seat,
+        tick_seat,
+    };
+    let others_team = Team {
+        workers: others,
+        pipe_seat: others_pipe_seat,
+        tick_seat: others_tick_seat,
+    };
+    let done = finish(&post.shared, home, team);
+    let others_done = finish(&others_post.shared, others_home, others_team);
+    ends_meet(writes, reads);
+    let why = bus_why(writer, end, done.ends.as_slice());
+    let others_why = bus_why(reader, others_end, others_done.ends.as_slice());
+    Came {
+        why: why_of(failed, pair_why(why, others_why, end, others_end)),
+        one: of_done(done),
+        other: of_done(others_done),
+    }
+}
+
+fn why_of(failed: Option<RunWhy>, why: PairWhy) -> PairWhy
+    ensures { MatchOption failed (result ≡ why) (λ it. result ≡ no_crew it) }
+{
+    match failed {
+        Some(it) => no_crew(it),
+        None => why,
+    }
+}
+
+fn of_done<I: Inlet, O: Outlet>(done: Done<I, O>) -> Left<I, O>
+    ensures seat { result.seat ≡ done.seat }
+    ensures lanes { result.lanes ≡ done.lanes }
+{
+    let Done { seat, lanes, .. } = done;
+    Left { seat, lanes }
+}

@@ -1,0 +1,93 @@
+ghost use Rattle.std.specs.Prelude.{◌≡◌};
+
+use std::alloc::Global;
+use std::sync::atomic::{AtomicU32, Ordering};
+use tb_algebra::Walker;
+use tb_bells::{Bells, Sleeper};
+use tb_lock::Shared;
+use tb_log::{Input, Out};
+
+/// Holds what all workers of one bus share.
+#[derive(Drop)]
+pub struct Post<W: Walker> {
+    /// The bus.
+    pub shared: Shared<W>,
+    /// A bell for each thread that sleeps while the bus has nothing for it.
+    pub bells: Bells,
+    /// How many workers are still at work. The job that writes the log ends only if none is.
+    pub left: AtomicU32,
+    /// Where workers take memory for lines, names, and entries of the log.
+    pub alloc: Global,
+}
+
+impl<W: Walker> Post<W> {
+    ghost use Rattle.std.specs.Prelude.{◌≡◌};
+
+    /// Makes the post of a bus for so many workers. Its bells weren't rung yet.
+    pub fn new(alloc: Global, shared: Shared<W>, workers: u32) -> Post<W>
+        ensures { result.shared ≡ shared }
+    {
+        Post {
+            shared,
+            bells: Bells::new(),
+            left: AtomicU32::new(workers),
+            alloc,
+        }
+    }
+
+    /// Counts one worker less, and wakes the job that writes the log.
+    pub fn count_down(&self) {
+        self.left.fetch_sub(1, Ordering::SeqCst);
+        self.bells.ring(Sleeper::Log);
+    }
+
+    /// Returns whether no worker is at work any more.
+    pub(crate) fn is_over(&self) -> bool {
+        self.left.load(Ordering::SeqCst) == 0
+    }
+
+    /// Wakes those for whom the turn of an input may have left something: the job that writes the log, the stepper, and the writer of
+    /// the input's lane if something is to be handed out there. An input leaves nothing on another lane.
+    pub(crate) fn tell_input(&self, lane: Option<u8>) {
+        self.bells.ring(Sleeper::Log);
+        match lane {
+            Some(lane) => self.tell_writer(lane),
+            None => {}
+        }
+        self.bells.ring(Sleeper::Stepper);
+    }
+
+    /// Wakes those for whom steps may have left something: the job that writes the log, and the writer of each lane on which something
+    /// is to be handed out.
+    pub(crate) fn tell_steps(&self) {
+        self.bells.ring(Sleeper::Log);
+        for lane in 1..=16u8 {
+            self.tell_writer(lane);
+        }
+    }
+
+    /// Wakes those for whom there may be something after this was taken out: the job that writes the log, and after an end the stepper.
+    /// After an end the lane may be free, and a step may wait for just that.
+    pub fn tell_taken(&self, out: &Out) {
+        self.bells.ring(Sleeper::Log);
+        match out {
+            Out::End => self.bells.ring(Sleeper::Stepper),
+            Out::Start(_) | Out::Line(_) => {}
+        }
+    }
+
+    /// Wakes the writer of a lane if the last turn left something for it.
+    fn tell_writer(&self, lane: u8) {
+        if self.shared.calls_for(lane) {
+            self.bells.ring(Sleeper::Writer(lane));
+        }
+    }
+}
+
+/// Returns the lane that an input is of. An input of the time is of none.
+pub(crate) fn lane_of(input: &Input) -> Option<u8> {
+    match input {
+        Input::Line(lane, _) | Input::Gone(lane) | Input::Cut(lane) => Some(*lane),
+        Input::Tick | Input::NoTicks => None,
+    }
+}
