@@ -4,14 +4,15 @@ use Rattle.std.specs.Bool.{⊤}
 use Rattle.tb_terms.specs.Names.{is_text}
 use Rattle.tb_read.specs.Spelling.{is_digits, digits_value}
 use Rattle.tb_cli.specs.declared.command.Command.{Command}
+use Rattle.tb_cli.specs.declared.pair_command.PairCommand.{PairCommand}
 use Rattle.tb_cli.specs.declared.fault.WordFault.{WordFault}
 use Rattle.tb_cli.specs.declared.fault.WordFault.TheVariants as fault
 use Rattle.tb_cli.specs.declared.table.Kind.{Kind}
 use Rattle.tb_cli.specs.declared.table.Kind.TheVariants.{File, Number, Factor}
 use Rattle.tb_cli.specs.declared.table.Kind.TheVariants as kind
 use Rattle.tb_cli.specs.Parts.{Part, AnOption, AWord, parts_of, name_of, len_of, given, operands_of}
-use Rattle.tb_cli.specs.Table.{Setting, Row, option_named, row_named}
-use Rattle.tb_cli.specs.Words.{Answer, value_answer, most_times, once_more, setting_kind, operand_kind, checked_value, part_answer, and_then, parts_answer, whole_answer, row_answer, made, asked_by, asked}
+use Rattle.tb_cli.specs.Table.{Setting, Form, Row, option_named, row_named, pair}
+use Rattle.tb_cli.specs.Words.{Answer, value_answer, most_times, once_more, setting_kind, operand_kind, checked_value, part_answer, and_then, parts_answer, whole_answer, form_answer, made, made_pair, asked_by, asked}
 
 -- what comes isn't that fault, at any place
 abbrev IsBuilt : (A : Type 0) → Result A WordFault → Type 0
@@ -62,35 +63,35 @@ checked-built (Err f) first position value built place e = let same : f ≡ faul
 checked-built (Ok kind) first position None built place e = absurd cc
 checked-built (Ok kind) first position (Some value) built place e = value-built kind first position value place e
 
-part-built : (row : Row) (before : List (List ℕ)) (position : ℕ) (part : Part) → IsBuilt ⊤ (part_answer row before position part)
-part-built row before position (AWord word) =
-    let found = slice_get row.operands (length before) in
+part-built : (form : Form) (before : List (List ℕ)) (position : ℕ) (part : Part) → IsBuilt ⊤ (part_answer form before position part)
+part-built form before position (AWord word) =
+    let found = slice_get form.operands (length before) in
     checked-built (operand_kind found position) (get_or before 0 []) position (Some word) (operand-built found position)
-part-built row before position (AnOption name value) =
-    let found = option_named row.options name in
+part-built form before position (AnOption name value) =
+    let found = option_named form.options name in
     checked-built (setting_kind found (length before) position) (get_or before 0 []) (position + 1) value (setting-built found (length before) position)
 
 both-built : (first next : Answer) → IsBuilt ⊤ first → IsBuilt ⊤ next → IsBuilt ⊤ (and_then first next)
 both-built (Ok tt) next first_built next_built = next_built
 both-built (Err f) next first_built next_built = first_built
 
-parts-built : (row : Row) (before : List Part) (position : ℕ) (parts : List Part) → IsBuilt ⊤ (parts_answer row before position parts)
-parts-built row before position [] place e = absurd cc
-parts-built row before position (part ∷ parts) place e =
-    let first = part-built row (given (name_of part) before) position part in
-    let rest = parts-built row (before ++ part ∷ []) (position + len_of part) parts in
-    both-built (part_answer row (given (name_of part) before) position part) (parts_answer row (before ++ part ∷ []) (position + len_of part) parts) first rest place e
+parts-built : (form : Form) (before : List Part) (position : ℕ) (parts : List Part) → IsBuilt ⊤ (parts_answer form before position parts)
+parts-built form before position [] place e = absurd cc
+parts-built form before position (part ∷ parts) place e =
+    let first = part-built form (given (name_of part) before) position part in
+    let rest = parts-built form (before ++ part ∷ []) (position + len_of part) parts in
+    both-built (part_answer form (given (name_of part) before) position part) (parts_answer form (before ++ part ∷ []) (position + len_of part) parts) first rest place e
 
 -- commands
 
-whole-built : (row : Row) (parts : List Part) → IsBuilt ⊤ (whole_answer row parts)
-whole-built row parts = by (nat_le (length row.operands) (length (operands_of parts))) where
+whole-built : (form : Form) (parts : List Part) → IsBuilt ⊤ (whole_answer form parts)
+whole-built form parts = by (nat_le (length form.operands) (length (operands_of parts))) where
   by : (b : Bool) → IsBuilt ⊤ (if b then Ok tt else Err fault.Missing)
   by true place e = absurd cc
   by false place e = absurd cc
 
-row-built : (row : Row) (parts : List Part) → IsBuilt ⊤ (row_answer row parts)
-row-built row parts = both-built (parts_answer row [] 2 parts) (whole_answer row parts) (parts-built row [] 2 parts) (whole-built row parts)
+form-built : (form : Form) (first : ℕ) (parts : List Part) → IsBuilt ⊤ (form_answer form first parts)
+form-built form first parts = both-built (parts_answer form [] first parts) (whole_answer form parts) (parts-built form [] first parts) (whole-built form parts)
 
 made-built : (row : Row) (parts : List Part) (answer : Answer) → IsBuilt ⊤ answer → IsBuilt Command (made row parts answer)
 made-built row parts (Ok fine) built place e = absurd cc
@@ -98,7 +99,7 @@ made-built row parts (Err f) built place e = let same : f ≡ fault.NotBuilt pla
 
 asked_by-built : (row : Option Row) (words : List (List ℕ)) → IsBuilt Command (asked_by row words)
 asked_by-built None words place e = absurd cc
-asked_by-built (Some row) words place e = made-built row (parts_of words) (row_answer row (parts_of words)) (row-built row (parts_of words)) place e
+asked_by-built (Some row) words place e = made-built row (parts_of words) (form_answer row.form 2 (parts_of words)) (form-built row.form 2 (parts_of words)) place e
 
 -- what all words ask for
 pub never_unbuilt : (words : List (List ℕ)) (place : ℕ) → asked words ≡ Err (fault.NotBuilt place) → ⊥
@@ -112,3 +113,16 @@ read-built words (Err f) told place e =
     let same : f ≡ fault.NotBuilt place = cc in
     let other : f ≢ fault.NoMemory = λ none. absurd cc in
     never_unbuilt words place (told other ∙ ap Err same)
+
+-- the same of the words of a pair
+
+made_pair-built : (parts : List Part) (answer : Answer) → IsBuilt ⊤ answer → IsBuilt PairCommand (made_pair parts answer)
+made_pair-built parts (Ok fine) built place e = absurd cc
+made_pair-built parts (Err f) built place e = let same : f ≡ fault.NotBuilt place = cc in built place (ap Err same)
+
+pub pair-read-built : (parts : List Part) (result : Result PairCommand WordFault) → IfErr result (λ f. f ≢ fault.NoMemory → made_pair parts (form_answer pair 1 parts) ≡ Err f) → IsBuilt PairCommand result
+pair-read-built parts (Ok command) told place e = absurd cc
+pair-read-built parts (Err f) told place e =
+    let same : f ≡ fault.NotBuilt place = cc in
+    let other : f ≢ fault.NoMemory = λ none. absurd cc in
+    made_pair-built parts (form_answer pair 1 parts) (form-built pair 1 parts) place (told other ∙ ap Err same)

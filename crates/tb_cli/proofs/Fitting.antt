@@ -13,9 +13,9 @@ use Rattle.tb_cli.specs.declared.table.Kind.{Kind}
 use Rattle.tb_cli.specs.declared.table.Kind.TheVariants.{File, Number, Factor}
 use Rattle.tb_cli.specs.declared.table.Kind.TheVariants as kind
 use Rattle.tb_cli.specs.Parts.{Part, AnOption, AWord, name_of, len_of, given_by, given, operands_of}
-use Rattle.tb_cli.specs.Table.{Setting, Row, option_named, operand, ring}
-use Rattle.tb_cli.specs.Words.{Answer, and_then, value_answer, most_times, once_more, setting_kind, operand_kind, checked_value, part_answer, parts_answer, whole_answer, row_answer}
-use Rattle.tb_cli.specs.Helpers.Fitting.{Fits, AllFit, OperandsFit, OptionFits, OperandFits, RowFits, IsIn, IsNumber}
+use Rattle.tb_cli.specs.Table.{Setting, Form, option_named, operand, ring}
+use Rattle.tb_cli.specs.Words.{Answer, and_then, value_answer, most_times, once_more, setting_kind, operand_kind, checked_value, part_answer, parts_answer, whole_answer, form_answer}
+use Rattle.tb_cli.specs.Helpers.Fitting.{Fits, AllFit, OperandsFit, OptionFits, OperandFits, FormFits, IsIn, IsNumber}
 
 -- a value
 
@@ -83,9 +83,9 @@ setting-known (Some option) times position kind e = by (nat_le (most_times optio
 
 -- parts without a fault
 
-pub record Fine (row : Row) (parts : List Part) : Type 0 where
-  pub option : (option : Setting) → option_named row.options option.name ≡ Some option → OptionFits option parts
-  pub operands : OperandsFit row.operands [] (operands_of parts)
+pub record Fine (form : Form) (parts : List Part) : Type 0 where
+  pub option : (option : Setting) → option_named form.options option.name ≡ Some option → OptionFits option parts
+  pub operands : OperandsFit form.operands [] (operands_of parts)
 
 more : (name : Option (List ℕ)) (parts : List Part) (part : Part) → given name (parts ++ part ∷ []) ≡ given name parts ++ given_by name part
 more name parts part = flat_map-append (given_by name) parts (part ∷ []) ∙ ap (λ (values : List (List ℕ)). given name parts ++ values) (append-nil (given_by name part))
@@ -111,69 +111,69 @@ grown option parts part value one room fit before =
       fits = subst (AllFit option.kind []) same (all-snoc option.kind [] (given (Some option.name) parts) value before.fits fit);
     }
 
-word-fine : (row : Row) (before : List Part) (position : ℕ) (word : List ℕ) → Fine row before → part_answer row (operands_of before) position (AWord word) ≡ Ok tt → Fine row (before ++ AWord word ∷ [])
-word-fine row before position word fine e =
+word-fine : (form : Form) (before : List Part) (position : ℕ) (word : List ℕ) → Fine form before → part_answer form (operands_of before) position (AWord word) ≡ Ok tt → Fine form (before ++ AWord word ∷ [])
+word-fine form before position word fine e =
     let values = operands_of before in
-    let known = checked-kind (operand_kind (slice_get row.operands (length values)) position) values position word e in
-    let at = operand-known (slice_get row.operands (length values)) position known.0 known.1 in
+    let known = checked-kind (operand_kind (slice_get form.operands (length values)) position) values position word e in
+    let at = operand-known (slice_get form.operands (length values)) position known.0 known.1 in
     record {
       option = λ option named. kept option before (AWord word) refl (fine.option option named);
-      operands = subst (OperandsFit row.operands []) (sym (more None before (AWord word))) (operands-snoc row.operands [] values word known.0 fine.operands at known.2);
+      operands = subst (OperandsFit form.operands []) (sym (more None before (AWord word))) (operands-snoc form.operands [] values word known.0 fine.operands at known.2);
     }
 
-option-fine : (row : Row) (before : List Part) (position : ℕ) (name value : List ℕ) → Fine row before → part_answer row (given (Some name) before) position (AnOption name (Some value)) ≡ Ok tt → Fine row (before ++ AnOption name (Some value) ∷ [])
-option-fine row before position name value fine e =
+option-fine : (form : Form) (before : List Part) (position : ℕ) (name value : List ℕ) → Fine form before → part_answer form (given (Some name) before) position (AnOption name (Some value)) ≡ Ok tt → Fine form (before ++ AnOption name (Some value) ∷ [])
+option-fine form before position name value fine e =
     let values = given (Some name) before in
-    let found = option_named row.options name in
+    let found = option_named form.options name in
     let known = checked-kind (setting_kind found (length values) position) values (position + 1) value e in
     let setting = setting-known found (length values) position known.0 known.1 in
     record {
       option = λ option named. by option named (bytes_eq name option.name) refl setting known.2;
-      operands = subst (OperandsFit row.operands []) (sym (more None before (AnOption name (Some value)) ∙ append-nil (operands_of before))) fine.operands;
+      operands = subst (OperandsFit form.operands []) (sym (more None before (AnOption name (Some value)) ∙ append-nil (operands_of before))) fine.operands;
     }
   where
     part : Part
     part = AnOption name (Some value)
 
-    under : (option : Setting) → name ≡ option.name → (k : Kind) → option_named row.options option.name ≡ Some option → Known (option_named row.options name) (length (given (Some name) before)) k → Fits k (given (Some name) before) value → (length (given (Some option.name) before) < most_times option.kind) × Fits option.kind (given (Some option.name) before) value
+    under : (option : Setting) → name ≡ option.name → (k : Kind) → option_named form.options option.name ≡ Some option → Known (option_named form.options name) (length (given (Some name) before)) k → Fits k (given (Some name) before) value → (length (given (Some option.name) before) < most_times option.kind) × Fits option.kind (given (Some option.name) before) value
     under option same k named setting fit =
-        let alike : Some setting.option ≡ Some option = sym setting.is ∙ ap (option_named row.options) same ∙ named in
+        let alike : Some setting.option ≡ Some option = sym setting.is ∙ ap (option_named form.options) same ∙ named in
         let one : setting.option ≡ option = cc in
         let kinds : k ≡ option.kind = sym setting.same ∙ ap (λ (o : Setting). o.kind) one in
         let few : length (given (Some name) before) < most_times option.kind = subst (λ (j : Kind). length (given (Some name) before) < most_times j) kinds setting.few in
         let fits : Fits option.kind (given (Some name) before) value = subst (λ (j : Kind). Fits j (given (Some name) before) value) kinds fit in
         (subst (λ (n : List ℕ). length (given (Some n) before) < most_times option.kind) same few, subst (λ (n : List ℕ). Fits option.kind (given (Some n) before) value) same fits)
 
-    by : (option : Setting) → option_named row.options option.name ≡ Some option → (b : Bool) → bytes_eq name option.name ≡ b → {k : Kind} → Known (option_named row.options name) (length (given (Some name) before)) k → Fits k (given (Some name) before) value → OptionFits option (before ++ part ∷ [])
+    by : (option : Setting) → option_named form.options option.name ≡ Some option → (b : Bool) → bytes_eq name option.name ≡ b → {k : Kind} → Known (option_named form.options name) (length (given (Some name) before)) k → Fits k (given (Some name) before) value → OptionFits option (before ++ part ∷ [])
     by option named true is {k = k} setting fit =
         let here = under option ((bytes_eq-Decides name option.name).0 is) k named setting fit in
         grown option before part value (ap (λ (b : Bool). if b then value ∷ [] else []) is) here.0 here.1 (fine.option option named)
     by option named false is {k = k} setting fit = kept option before part (ap (λ (b : Bool). if b then value ∷ [] else []) is) (fine.option option named)
 
-bare : (row : Row) (before : List Part) (position : ℕ) (name : List ℕ) → part_answer row (given (Some name) before) position (AnOption name None) ≡ Ok tt → ⊥
-bare row before position name e = none (setting_kind (option_named row.options name) (length (given (Some name) before)) position) e where
+bare : (form : Form) (before : List Part) (position : ℕ) (name : List ℕ) → part_answer form (given (Some name) before) position (AnOption name None) ≡ Ok tt → ⊥
+bare form before position name e = none (setting_kind (option_named form.options name) (length (given (Some name) before)) position) e where
   none : (r : Result Kind WordFault) → checked_value r (get_or (given (Some name) before) 0 []) (position + 1) None ≡ Ok tt → ⊥
   none (Ok kind) h = absurd cc
   none (Err f) h = absurd cc
 
-part-fine : (row : Row) (before : List Part) (position : ℕ) (part : Part) → Fine row before → part_answer row (given (name_of part) before) position part ≡ Ok tt → Fine row (before ++ part ∷ [])
-part-fine row before position (AWord word) fine e = word-fine row before position word fine e
-part-fine row before position (AnOption name (Some value)) fine e = option-fine row before position name value fine e
-part-fine row before position (AnOption name None) fine e = absurd (bare row before position name e)
+part-fine : (form : Form) (before : List Part) (position : ℕ) (part : Part) → Fine form before → part_answer form (given (name_of part) before) position part ≡ Ok tt → Fine form (before ++ part ∷ [])
+part-fine form before position (AWord word) fine e = word-fine form before position word fine e
+part-fine form before position (AnOption name (Some value)) fine e = option-fine form before position name value fine e
+part-fine form before position (AnOption name None) fine e = absurd (bare form before position name e)
 
 -- an answer and the next one
 both-fine : (first next : Answer) → and_then first next ≡ Ok tt → (first ≡ Ok tt) × (next ≡ Ok tt)
 both-fine (Ok tt) next e = (refl, e)
 both-fine (Err f) next e = absurd cc
 
-parts-fine : (row : Row) (before : List Part) (position : ℕ) (parts : List Part) → Fine row before → parts_answer row before position parts ≡ Ok tt → Fine row (before ++ parts)
-parts-fine row before position [] fine e = subst (Fine row) (sym (append-nil before)) fine
-parts-fine row before position (part ∷ parts) fine e =
-    let fines = both-fine (part_answer row (given (name_of part) before) position part) (parts_answer row (before ++ part ∷ []) (position + len_of part) parts) e in
-    subst (Fine row) (append_assoc before (part ∷ []) parts) (parts-fine row (before ++ part ∷ []) (position + len_of part) parts (part-fine row before position part fine fines.0) fines.1)
+parts-fine : (form : Form) (before : List Part) (position : ℕ) (parts : List Part) → Fine form before → parts_answer form before position parts ≡ Ok tt → Fine form (before ++ parts)
+parts-fine form before position [] fine e = subst (Fine form) (sym (append-nil before)) fine
+parts-fine form before position (part ∷ parts) fine e =
+    let fines = both-fine (part_answer form (given (name_of part) before) position part) (parts_answer form (before ++ part ∷ []) (position + len_of part) parts) e in
+    subst (Fine form) (append_assoc before (part ∷ []) parts) (parts-fine form (before ++ part ∷ []) (position + len_of part) parts (part-fine form before position part fine fines.0) fines.1)
 
-nothing-fine : (row : Row) → Fine row []
-nothing-fine row = record { option = λ option named. record { few = omega arith; fits = tt }; operands = tt }
+nothing-fine : (form : Form) → Fine form []
+nothing-fine form = record { option = λ option named. record { few = omega arith; fits = tt }; operands = tt }
 
 -- all operands
 
@@ -187,29 +187,29 @@ operand-at (other ∷ kinds) before (value ∷ values) (suc place) kind all at e
     let rest = operand-at kinds (before ++ value ∷ []) values place kind all.1 at (omega (arith, enough)) in
     (omega (arith, rest.0), subst (λ (b : List (List ℕ)). Fits kind b (get_or values place [])) (append_assoc before (value ∷ []) (take place values)) rest.1)
 
-enough-operands : (row : Row) (parts : List Part) → whole_answer row parts ≡ Ok tt → length row.operands ≤ length (operands_of parts)
-enough-operands row parts e = by (nat_le (length row.operands) (length (operands_of parts))) refl e where
-  by : (b : Bool) → nat_le (length row.operands) (length (operands_of parts)) ≡ b → ◌≡◌ {A = Answer} (if b then Ok tt else Err fault.Missing) (Ok tt) → length row.operands ≤ length (operands_of parts)
-  by true is h = leb-true (length row.operands) (length (operands_of parts)) is
+enough-operands : (form : Form) (parts : List Part) → whole_answer form parts ≡ Ok tt → length form.operands ≤ length (operands_of parts)
+enough-operands form parts e = by (nat_le (length form.operands) (length (operands_of parts))) refl e where
+  by : (b : Bool) → nat_le (length form.operands) (length (operands_of parts)) ≡ b → ◌≡◌ {A = Answer} (if b then Ok tt else Err fault.Missing) (Ok tt) → length form.operands ≤ length (operands_of parts)
+  by true is h = leb-true (length form.operands) (length (operands_of parts)) is
   by false is h = absurd cc
 
--- Words without a fault give what their command needs.
-pub row-fits : (row : Row) (parts : List Part) → row_answer row parts ≡ Ok tt → RowFits row parts
-row-fits row parts e =
-    let fines = both-fine (parts_answer row [] 2 parts) (whole_answer row parts) e in
-    let fine = parts-fine row [] 2 parts (nothing-fine row) fines.0 in
+-- Words without a fault give what their form needs.
+pub form-fits : (form : Form) (first : ℕ) (parts : List Part) → form_answer form first parts ≡ Ok tt → FormFits form parts
+form-fits form first parts e =
+    let fines = both-fine (parts_answer form [] first parts) (whole_answer form parts) e in
+    let fine = parts-fine form [] first parts (nothing-fine form) fines.0 in
     record {
       option = fine.option;
       operand = λ place kind at.
-          let here = operand-at row.operands [] (operands_of parts) place kind fine.operands at (enough-operands row parts fines.1) in
+          let here = operand-at form.operands [] (operands_of parts) place kind fine.operands at (enough-operands form parts fines.1) in
           record { there = here.0; fits = here.1 };
     }
 
-pub option_fits : (row : Row) (parts : List Part) (option : Setting) → RowFits row parts → option_named row.options option.name ≡ Some option → OptionFits option parts
-option_fits row parts option fits named = fits.option option named
+pub option_fits : (form : Form) (parts : List Part) (option : Setting) → FormFits form parts → option_named form.options option.name ≡ Some option → OptionFits option parts
+option_fits form parts option fits named = fits.option option named
 
-pub operand_fits : (row : Row) (parts : List Part) (place : ℕ) (kind : Kind) → RowFits row parts → slice_get row.operands place ≡ Some kind → OperandFits place kind parts
-operand_fits row parts place kind fits at = fits.operand place kind at
+pub operand_fits : (form : Form) (parts : List Part) (place : ℕ) (kind : Kind) → FormFits form parts → slice_get form.operands place ≡ Some kind → OperandFits place kind parts
+operand_fits form parts place kind fits at = fits.operand place kind at
 
 -- of all values of an option, each
 
@@ -244,7 +244,7 @@ pub record RingNumbers (n k : ℕ) : Type 0 where
   pub rounds : (1 ≤ k) × (n * k ≤ 1000000)
   pub small : k ≤ 1000000
 
-pub ring-numbers : (parts : List Part) → RowFits ring parts → RingNumbers (digits_value (operand 0 parts)) (digits_value (operand 1 parts))
+pub ring-numbers : (parts : List Part) → FormFits ring.form parts → RingNumbers (digits_value (operand 0 parts)) (digits_value (operand 1 parts))
 ring-numbers parts fits =
     let values = operands_of parts in
     let n = digits_value (operand 0 parts) in

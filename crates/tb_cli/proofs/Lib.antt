@@ -3,4 +3,5 @@ pub mod Fitting
 pub mod Rows
 pub mod Built
 pub mod Examples
+pub mod PairExamples
 pub mod Ranges

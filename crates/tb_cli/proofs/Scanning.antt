@@ -8,7 +8,7 @@ use Rattle.std.proofs.lemmas.Option.{slice_get_past, slice_get_read, slice_get-m
 use Rattle.tb_cli.specs.Parts.{Part, AnOption, AWord, is_option, parts_of, name_of, len_of, given_by, given}
 use Rattle.tb_cli.specs.declared.table.Kind.{Kind}
 use Rattle.tb_cli.specs.declared.fault.WordFault.{WordFault}
-use Rattle.tb_cli.specs.Table.{Row, option_named}
+use Rattle.tb_cli.specs.Table.{Form, option_named}
 use Rattle.tb_cli.specs.Words.{Answer, part_answer, parts_answer, checked_value, setting_kind, and_then}
 use Rattle.tb_cli.specs.Helpers.Scanning.{part_of, part_len, is_found}
 
@@ -99,18 +99,18 @@ option-chunk : (word value : List ℕ) → is_option word ≡ true → IsChunk (
 option-chunk word value option rest = ap (λ (b : Bool). if b then AnOption word (Some value) ∷ parts_of rest else AWord word ∷ parts_of (value ∷ rest)) option
 
 -- an option without a value has a fault
-bare-faulty : (row : Row) (before : List (List ℕ)) (position : ℕ) (name : List ℕ) → part_answer row before position (AnOption name None) ≡ Ok tt → ⊥
-bare-faulty row before position name fine = by fine where
-  by : checked_value (setting_kind (option_named row.options name) (length before) position) (get_or before 0 []) (position + 1) None ≡ Ok tt → ⊥
-  by e = none (setting_kind (option_named row.options name) (length before) position) e where
+bare-faulty : (form : Form) (before : List (List ℕ)) (position : ℕ) (name : List ℕ) → part_answer form before position (AnOption name None) ≡ Ok tt → ⊥
+bare-faulty form before position name fine = by fine where
+  by : checked_value (setting_kind (option_named form.options name) (length before) position) (get_or before 0 []) (position + 1) None ≡ Ok tt → ⊥
+  by e = none (setting_kind (option_named form.options name) (length before) position) e where
     none : (r : Result Kind WordFault) → checked_value r (get_or before 0 []) (position + 1) None ≡ Ok tt → ⊥
     none (Ok kind) h = absurd cc
     none (Err f) h = absurd cc
 
 -- the words up to a part without a fault, and those up to its end
-pub part-behind : (row : Row) (values : List (List ℕ)) (words : List (List ℕ)) (i position : ℕ) (word : List ℕ) (next : Option (List ℕ)) → i < length words → word ≡ get_or words i [] → next ≡ slice_get words (i + 1) → IsWhole (take i words) →
-    part_answer row values position (part_of word next) ≡ Ok tt → Advanced (take i words) (take (i + part_len word) words) (part_of word next)
-part-behind row values words i position word next within is comes whole fine = by (is_option word) refl next comes fine where
+pub part-behind : (form : Form) (values : List (List ℕ)) (words : List (List ℕ)) (i position : ℕ) (word : List ℕ) (next : Option (List ℕ)) → i < length words → word ≡ get_or words i [] → next ≡ slice_get words (i + 1) → IsWhole (take i words) →
+    part_answer form values position (part_of word next) ≡ Ok tt → Advanced (take i words) (take (i + part_len word) words) (part_of word next)
+part-behind form values words i position word next within is comes whole fine = by (is_option word) refl next comes fine where
   first : take (i + 1) words ≡ take i words ++ word ∷ []
   first = take_more words i [] within ∙ ap (λ (w : List ℕ). take i words ++ w ∷ []) (sym is)
 
@@ -124,9 +124,9 @@ part-behind row values words i position word next within is comes whole fine = b
       ∙ ap (λ (ws : List (List ℕ)). ws ++ value ∷ []) first
       ∙ append_assoc (take i words) (word ∷ []) (value ∷ [])
 
-  by : (b : Bool) → is_option word ≡ b → (n : Option (List ℕ)) → n ≡ slice_get words (i + 1) → part_answer row values position (if b then AnOption word n else AWord word) ≡ Ok tt →
+  by : (b : Bool) → is_option word ≡ b → (n : Option (List ℕ)) → n ≡ slice_get words (i + 1) → part_answer form values position (if b then AnOption word n else AWord word) ≡ Ok tt →
       Advanced (take i words) (take (i + (if b then 2 else 1)) words) (if b then AnOption word n else AWord word)
-  by true option None there ok = absurd (bare-faulty row values position word ok)
+  by true option None there ok = absurd (bare-faulty form values position word ok)
   by true option (Some value) there ok = subst (λ (ws : List (List ℕ)). Advanced (take i words) ws (AnOption word (Some value))) (sym (both value there)) (advanced (take i words) (word ∷ value ∷ []) (AnOption word (Some value)) whole (option-chunk word value option))
   by false plain n there ok = subst (λ (ws : List (List ℕ)). Advanced (take i words) ws (AWord word)) (sym first) (advanced (take i words) (word ∷ []) (AWord word) whole (word-chunk word plain))
 
@@ -137,16 +137,16 @@ size-of word next = by (is_option word) where
   by false = refl
 
 -- The part that begins at a word has an answer, and so have all parts from it on.
-pub parts-answered : (row : Row) (words : List (List ℕ)) (i : ℕ) (word : List ℕ) (next : Option (List ℕ)) (whole : Answer) → i < length words → word ≡ get_or words i [] → next ≡ slice_get words (i + 1) →
-    parts_answer row (parts_of (take i words)) (i + 2) (parts_of (drop i words)) ≡ whole →
-    and_then (part_answer row (given (name_of (part_of word next)) (parts_of (take i words))) (i + 2) (part_of word next)) (parts_answer row (parts_of (take i words) ++ part_of word next ∷ []) (i + 2 + part_len word) (parts_of (drop (i + part_len word) words))) ≡ whole
-parts-answered row words i word next whole within is comes all =
+pub parts-answered : (form : Form) (words : List (List ℕ)) (first i : ℕ) (word : List ℕ) (next : Option (List ℕ)) (whole : Answer) → i < length words → word ≡ get_or words i [] → next ≡ slice_get words (i + 1) →
+    parts_answer form (parts_of (take i words)) (i + first) (parts_of (drop i words)) ≡ whole →
+    and_then (part_answer form (given (name_of (part_of word next)) (parts_of (take i words))) (i + first) (part_of word next)) (parts_answer form (parts_of (take i words) ++ part_of word next ∷ []) (i + first + part_len word) (parts_of (drop (i + part_len word) words))) ≡ whole
+parts-answered form words first i word next whole within is comes all =
     let before = parts_of (take i words) in
     let part = part_of word next in
     let rest = parts_of (drop (i + part_len word) words) in
-    ap (λ (n : ℕ). and_then (part_answer row (given (name_of part) before) (i + 2) part) (parts_answer row (before ++ part ∷ []) (i + 2 + n) rest)) (sym (size-of word next))
-    ∙ ap (λ (n : Option (List ℕ)). parts_answer row before (i + 2) (part_of word n ∷ rest)) comes
-    ∙ ap (parts_answer row before (i + 2)) (sym (parts-at words i word within is))
+    ap (λ (n : ℕ). and_then (part_answer form (given (name_of part) before) (i + first) part) (parts_answer form (before ++ part ∷ []) (i + first + n) rest)) (sym (size-of word next))
+    ∙ ap (λ (n : Option (List ℕ)). parts_answer form before (i + first) (part_of word n ∷ rest)) comes
+    ∙ ap (parts_answer form before (i + first)) (sym (parts-at words i word within is))
     ∙ all
 
 -- what is found of the values that one part gives and those behind it

@@ -1,8 +1,9 @@
--- The commands: each has a row, which says how its words are read, and one way in which it is made of the values that they give.
+-- The commands: each has a row, which says how its words are read, and one way in which it is made of the values that they give. The words of a pair have no command, and are read in a form of their own.
 use Rattle.std.specs.Prelude.{ℕ, List, [], ◌∷◌, Option, Some, None, find, get_or, slice_get, codes, bytes_eq, length, ◌≤◌, ◌*◌, ⊤}
 use Rattle.tb_read.specs.Spelling.{digits_value}
 use Rattle.tb_cli.specs.declared.command.Command.{Command}
 use Rattle.tb_cli.specs.declared.command.Command.TheVariants as command
+use Rattle.tb_cli.specs.declared.pair_command.PairCommand.{PairCommand}
 use Rattle.tb_cli.specs.declared.table.Verb.{Verb}
 use Rattle.tb_cli.specs.declared.table.Verb.TheVariants as verb
 use Rattle.tb_cli.specs.declared.table.Kind.{Kind}
@@ -16,12 +17,16 @@ pub record Setting : Type 0 where
   pub kind : Kind
   pub usual : ℕ
 
--- a command: its first word, what its operands are, and its options
+-- how words are read: what their operands are, and their options
+pub record Form : Type 0 where
+  pub operands : List Kind
+  pub options : List Setting
+
+-- a command: its first word, and how the words behind it are read
 pub record Row : Type 0 where
   pub verb : Verb
   pub word : List ℕ
-  pub operands : List Kind
-  pub options : List Setting
+  pub form : Form
 
 -- the options
 
@@ -43,23 +48,27 @@ events = record { name = codes "--events"; kind = Number 1 4000000; usual = 1000
 -- the commands
 
 abbrev pub check : Row
-check = record { verb = verb.Check; word = codes "check"; operands = File ∷ []; options = [] }
+check = record { verb = verb.Check; word = codes "check"; form = record { operands = File ∷ []; options = [] } }
 
 abbrev pub sim : Row
-sim = record { verb = verb.Sim; word = codes "sim"; operands = File ∷ []; options = feed ∷ connect ∷ steps ∷ events ∷ [] }
+sim = record { verb = verb.Sim; word = codes "sim"; form = record { operands = File ∷ []; options = feed ∷ connect ∷ steps ∷ events ∷ [] } }
 
 abbrev pub run : Row
-run = record { verb = verb.Run; word = codes "run"; operands = File ∷ []; options = connect ∷ ticks ∷ events ∷ [] }
+run = record { verb = verb.Run; word = codes "run"; form = record { operands = File ∷ []; options = connect ∷ ticks ∷ events ∷ [] } }
 
 abbrev pub verify : Row
-verify = record { verb = verb.Verify; word = codes "verify"; operands = File ∷ File ∷ []; options = connect ∷ [] }
+verify = record { verb = verb.Verify; word = codes "verify"; form = record { operands = File ∷ File ∷ []; options = connect ∷ [] } }
 
 -- a tool's name is read as that of a file is
 abbrev pub iface : Row
-iface = record { verb = verb.Iface; word = codes "iface"; operands = File ∷ File ∷ []; options = [] }
+iface = record { verb = verb.Iface; word = codes "iface"; form = record { operands = File ∷ File ∷ []; options = [] } }
 
 abbrev pub ring : Row
-ring = record { verb = verb.Ring; word = codes "ring"; operands = Number 2 10000 ∷ Factor 1000000 ∷ []; options = [] }
+ring = record { verb = verb.Ring; word = codes "ring"; form = record { operands = Number 2 10000 ∷ Factor 1000000 ∷ []; options = [] } }
+
+-- the words of a pair: two scripts, and the limits of `run`
+abbrev pub pair : Form
+pair = record { operands = File ∷ File ∷ []; options = ticks ∷ events ∷ [] }
 
 abbrev pub table : List Row
 table = check ∷ sim ∷ run ∷ verify ∷ iface ∷ ring ∷ []
@@ -100,6 +109,10 @@ make verb.Verify parts = command.Verify (operand 0 parts) (operand 1 parts) (com
 make verb.Iface parts = command.Iface (operand 0 parts) (operand 1 parts)
 make verb.Ring parts = command.Ring (digits_value (operand 0 parts)) (digits_value (operand 1 parts))
 
+-- a pair of what was given
+abbrev pub make_pair : List Part → PairCommand
+make_pair parts = record { first = operand 0 parts; second = operand 1 parts; ticks = number_of ticks parts; events = number_of events parts }
+
 -- so many commands may be connected: one on each lane
 abbrev pub most_connects : ℕ
 most_connects = 16
@@ -112,3 +125,7 @@ IsWithin (command.Run script commands tick_limit event_limit) = (length commands
 IsWithin (command.Verify script log commands) = length commands ≤ most_connects
 IsWithin (command.Iface script tool) = ⊤
 IsWithin (command.Ring n k) = ((2 ≤ n) × (n ≤ 10000)) × (1 ≤ k) × (n * k ≤ 1000000)
+
+-- the same of a pair
+abbrev pub IsPairWithin : PairCommand → Type 0
+IsPairWithin asked = (asked.ticks ≤ 10000000) × ((1 ≤ asked.events) × (asked.events ≤ 4000000))

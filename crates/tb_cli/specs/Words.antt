@@ -1,15 +1,16 @@
--- What the words of the command line ask for, or which fault they have. Words are read from the left, and the first fault ends the reading; their positions count from 1.
+-- What the words of the command line ask for, or which fault they have; and what the words of a pair ask for, which have no command. Words are read from the left, and the first fault ends the reading; their positions count from 1.
 use Rattle.std.specs.Prelude.{ℕ, ◌+◌, ◌*◌, Bool, ◌&&◌, if◌then◌else◌, List, [], ◌∷◌, ◌++◌, length, get_or, slice_get, Option, Some, None, Result, Ok, Err, ⊤, nat_le}
 use Rattle.tb_terms.specs.Names.{is_text}
 use Rattle.tb_read.specs.Spelling.{is_digits, digits_value}
 use Rattle.tb_cli.specs.declared.command.Command.{Command}
+use Rattle.tb_cli.specs.declared.pair_command.PairCommand.{PairCommand}
 use Rattle.tb_cli.specs.declared.fault.WordFault.{WordFault}
 use Rattle.tb_cli.specs.declared.fault.WordFault.TheVariants as fault
 use Rattle.tb_cli.specs.declared.table.Kind.{Kind}
 use Rattle.tb_cli.specs.declared.table.Kind.TheVariants.{File, Number, Factor}
 use Rattle.tb_cli.specs.declared.table.Kind.TheVariants as kind
 use Rattle.tb_cli.specs.Parts.{Part, AnOption, AWord, parts_of, name_of, len_of, given, operands_of}
-use Rattle.tb_cli.specs.Table.{Setting, Row, most_connects, option_named, row_named, make}
+use Rattle.tb_cli.specs.Table.{Setting, Form, Row, most_connects, option_named, row_named, make, make_pair, pair}
 
 -- Nothing is wrong with a part, or it has a fault.
 abbrev pub Answer : Type 0
@@ -72,33 +73,33 @@ checked_value (Ok kind) first position None = Err fault.Missing
 checked_value (Ok kind) first position (Some value) = value_answer kind first position value
 
 -- the part at this position, behind the values that were given before under its name
-abbrev pub part_answer : Row → List (List ℕ) → ℕ → Part → Answer
-part_answer row before position (AWord word) =
-    checked_value (operand_kind (slice_get row.operands (length before)) position) (get_or before 0 []) position (Some word)
-part_answer row before position (AnOption name value) =
-    checked_value (setting_kind (option_named row.options name) (length before) position) (get_or before 0 []) (position + 1) value
+abbrev pub part_answer : Form → List (List ℕ) → ℕ → Part → Answer
+part_answer form before position (AWord word) =
+    checked_value (operand_kind (slice_get form.operands (length before)) position) (get_or before 0 []) position (Some word)
+part_answer form before position (AnOption name value) =
+    checked_value (setting_kind (option_named form.options name) (length before) position) (get_or before 0 []) (position + 1) value
 
 abbrev pub and_then : Answer → Answer → Answer
 and_then (Ok fine) next = next
 and_then (Err f) next = Err f
 
 -- parts behind others, of which the first stands at this position
-abbrev pub parts_answer : Row → List Part → ℕ → List Part → Answer
-parts_answer row before position [] = Ok tt
-parts_answer row before position (part ∷ parts) =
-    and_then (part_answer row (given (name_of part) before) position part) (parts_answer row (before ++ part ∷ []) (position + len_of part) parts)
-
--- commands
+abbrev pub parts_answer : Form → List Part → ℕ → List Part → Answer
+parts_answer form before position [] = Ok tt
+parts_answer form before position (part ∷ parts) =
+    and_then (part_answer form (given (name_of part) before) position part) (parts_answer form (before ++ part ∷ []) (position + len_of part) parts)
 
 -- At the end of the words all operands must be there.
-abbrev pub whole_answer : Row → List Part → Answer
-whole_answer row parts =
-    if nat_le (length row.operands) (length (operands_of parts)) then Ok tt
+abbrev pub whole_answer : Form → List Part → Answer
+whole_answer form parts =
+    if nat_le (length form.operands) (length (operands_of parts)) then Ok tt
     else Err fault.Missing
 
--- all parts behind the first word, and then their end
-abbrev pub row_answer : Row → List Part → Answer
-row_answer row parts = and_then (parts_answer row [] 2 parts) (whole_answer row parts)
+-- all parts, of which the first stands at this position, and then their end
+abbrev pub form_answer : Form → ℕ → List Part → Answer
+form_answer form first parts = and_then (parts_answer form [] first parts) (whole_answer form parts)
+
+-- commands: their words stand behind the first
 
 abbrev pub made : Row → List Part → Answer → Result Command WordFault
 made row parts (Ok fine) = Ok (make row.verb parts)
@@ -106,9 +107,20 @@ made row parts (Err f) = Err f
 
 abbrev pub asked_by : Option Row → List (List ℕ) → Result Command WordFault
 asked_by None words = Err (fault.Unknown 1)
-asked_by (Some row) words = made row (parts_of words) (row_answer row (parts_of words))
+asked_by (Some row) words = made row (parts_of words) (form_answer row.form 2 (parts_of words))
 
 -- what all words ask for, or their fault
 abbrev pub asked : List (List ℕ) → Result Command WordFault
 asked [] = Err fault.NoCommand
 asked (word ∷ words) = asked_by (row_named word) words
+
+-- a pair: its words are all
+
+abbrev pub made_pair : List Part → Answer → Result PairCommand WordFault
+made_pair parts (Ok fine) = Ok (make_pair parts)
+made_pair parts (Err f) = Err f
+
+-- what all words of a pair ask for, or their fault
+abbrev pub asked_pair : List (List ℕ) → Result PairCommand WordFault
+asked_pair [] = Err fault.NoCommand
+asked_pair (word ∷ words) = made_pair (parts_of (word ∷ words)) (form_answer pair 1 (parts_of (word ∷ words)))

@@ -5,9 +5,9 @@ ghost use Rattle.std.specs.Prelude.{◌≡◌, map, option_map, option_copied, s
 ghost use Rattle.tb_cli.specs.Parts.{parts_of};
 ghost use Rattle.tb_cli.specs.Table.{make, IsWithin, check, sim, run, verify, iface, ring, row_named};
 ghost use Rattle.tb_cli.specs.Helpers.Tables.{row_of};
-ghost use Rattle.tb_cli.specs.Helpers.Fitting.{row_by, RowFits};
+ghost use Rattle.tb_cli.specs.Helpers.Fitting.{row_by, FormFits};
 
-use crate::table::{Kind, Row, Setting, Verb, find_row};
+use crate::table::{Form, Kind, Row, Setting, Verb, find_row};
 use crate::values::{operand_number, operand_text, option_commands, option_file, option_number};
 use std::alloc::Global;
 use tb_terms::{NoMemory, Text, Texts};
@@ -76,7 +76,7 @@ const STEPS: Setting = Setting {
     usual: 1_000_000,
 };
 
-const TICKS: Setting = Setting {
+pub(crate) const TICKS: Setting = Setting {
     name: "--ticks",
     kind: Kind::Number {
         least: 0,
@@ -85,7 +85,7 @@ const TICKS: Setting = Setting {
     usual: 36_000,
 };
 
-const EVENTS: Setting = Setting {
+pub(crate) const EVENTS: Setting = Setting {
     name: "--events",
     kind: Kind::Number {
         least: 1,
@@ -97,49 +97,61 @@ const EVENTS: Setting = Setting {
 const CHECK: Row = Row {
     verb: Verb::Check,
     word: "check",
-    operands: &[Kind::File],
-    options: &[],
+    form: Form {
+        operands: &[Kind::File],
+        options: &[],
+    },
 };
 
 const SIM: Row = Row {
     verb: Verb::Sim,
     word: "sim",
-    operands: &[Kind::File],
-    options: &[FEED, CONNECT, STEPS, EVENTS],
+    form: Form {
+        operands: &[Kind::File],
+        options: &[FEED, CONNECT, STEPS, EVENTS],
+    },
 };
 
 const RUN: Row = Row {
     verb: Verb::Run,
     word: "run",
-    operands: &[Kind::File],
-    options: &[CONNECT, TICKS, EVENTS],
+    form: Form {
+        operands: &[Kind::File],
+        options: &[CONNECT, TICKS, EVENTS],
+    },
 };
 
 const VERIFY: Row = Row {
     verb: Verb::Verify,
     word: "verify",
-    operands: &[Kind::File, Kind::File],
-    options: &[CONNECT],
+    form: Form {
+        operands: &[Kind::File, Kind::File],
+        options: &[CONNECT],
+    },
 };
 
 const IFACE: Row = Row {
     verb: Verb::Iface,
     word: "iface",
-    operands: &[Kind::File, Kind::File],
-    options: &[],
+    form: Form {
+        operands: &[Kind::File, Kind::File],
+        options: &[],
+    },
 };
 
 const RING: Row = Row {
     verb: Verb::Ring,
     word: "ring",
-    operands: &[
-        Kind::Number {
-            least: 2,
-            most: 10_000,
-        },
-        Kind::Factor { most: 1_000_000 },
-    ],
-    options: &[],
+    form: Form {
+        operands: &[
+            Kind::Number {
+                least: 2,
+                most: 10_000,
+            },
+            Kind::Factor { most: 1_000_000 },
+        ],
+        options: &[],
+    },
 };
 
 static TABLE: [Row; 6] = [CHECK, SIM, RUN, VERIFY, IFACE, RING];
@@ -153,7 +165,7 @@ pub(crate) fn row_named(word: &str) -> Option<&'static Row>
 
 /// The command of this row, of the words behind the first.
 pub(crate) fn make_command(alloc: Global, verb: Verb, words: &[String]) -> Result<Command, NoMemory>
-    requires { RowFits (row_by verb) (parts_of (map string_bytes words.now)) }
+    requires { FormFits (row_by verb).form (parts_of (map string_bytes words.now)) }
     ensures is { IfOk result
         (λ command. command ≡ make verb (parts_of (map string_bytes words.now))) }
     ensures within { IfOk result IsWithin }
@@ -169,7 +181,7 @@ pub(crate) fn make_command(alloc: Global, verb: Verb, words: &[String]) -> Resul
 }
 
 fn make_check(alloc: Global, words: &[String]) -> Result<Command, NoMemory>
-    requires { RowFits check (parts_of (map string_bytes words.now)) }
+    requires { FormFits check.form (parts_of (map string_bytes words.now)) }
     ensures is { IfOk result
         (λ command. command ≡ make Verb.Check (parts_of (map string_bytes words.now))) }
     ensures within { IfOk result IsWithin }
@@ -179,7 +191,7 @@ fn make_check(alloc: Global, words: &[String]) -> Result<Command, NoMemory>
 }
 
 fn make_sim(alloc: Global, words: &[String]) -> Result<Command, NoMemory>
-    requires { RowFits sim (parts_of (map string_bytes words.now)) }
+    requires { FormFits sim.form (parts_of (map string_bytes words.now)) }
     ensures is { IfOk result
         (λ command. command ≡ make Verb.Sim (parts_of (map string_bytes words.now))) }
     ensures within { IfOk result IsWithin }
@@ -199,7 +211,7 @@ fn make_sim(alloc: Global, words: &[String]) -> Result<Command, NoMemory>
 }
 
 fn make_run(alloc: Global, words: &[String]) -> Result<Command, NoMemory>
-    requires { RowFits run (parts_of (map string_bytes words.now)) }
+    requires { FormFits run.form (parts_of (map string_bytes words.now)) }
     ensures is { IfOk result
         (λ command. command ≡ make Verb.Run (parts_of (map string_bytes words.now))) }
     ensures within { IfOk result IsWithin }
@@ -217,7 +229,7 @@ fn make_run(alloc: Global, words: &[String]) -> Result<Command, NoMemory>
 }
 
 fn make_verify(alloc: Global, words: &[String]) -> Result<Command, NoMemory>
-    requires { RowFits verify (parts_of (map string_bytes words.now)) }
+    requires { FormFits verify.form (parts_of (map string_bytes words.now)) }
     ensures is { IfOk result
         (λ command. command ≡ make Verb.Verify (parts_of (map string_bytes words.now))) }
     ensures within { IfOk result IsWithin }
@@ -233,7 +245,7 @@ fn make_verify(alloc: Global, words: &[String]) -> Result<Command, NoMemory>
 }
 
 fn make_iface(alloc: Global, words: &[String]) -> Result<Command, NoMemory>
-    requires { RowFits iface (parts_of (map string_bytes words.now)) }
+    requires { FormFits iface.form (parts_of (map string_bytes words.now)) }
     ensures is { IfOk result
         (λ command. command ≡ make Verb.Iface (parts_of (map string_bytes words.now))) }
     ensures within { IfOk result IsWithin }
@@ -244,7 +256,7 @@ fn make_iface(alloc: Global, words: &[String]) -> Result<Command, NoMemory>
 }
 
 fn make_ring(words: &[String]) -> Command
-    requires { RowFits ring (parts_of (map string_bytes words.now)) }
+    requires { FormFits ring.form (parts_of (map string_bytes words.now)) }
     ensures is { result ≡ make Verb.Ring (parts_of (map string_bytes words.now)) }
     ensures within { IsWithin result }
 {

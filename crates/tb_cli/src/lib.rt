@@ -1,9 +1,10 @@
-//! The words of the command line.
+//! The words of the command line, and those of a pair.
 #![tactic(auto)]
 
 mod command;
 mod fault;
 mod laws;
+mod pair_command;
 mod parts;
 mod reading;
 mod table;
@@ -11,5 +12,6 @@ mod values;
 
 pub use command::Command;
 pub use fault::WordFault;
-pub use laws::asked_numbers_are_within_their_ranges;
-pub use reading::read_words;
+pub use laws::{asked_numbers_are_within_their_ranges, asked_pair_numbers_are_within_their_ranges};
+pub use pair_command::PairCommand;
+pub use reading::{read_pair_words, read_words};

@@ -1,18 +1,19 @@
-//! How the words of the command line are read.
+//! How the words of the command line are read, and those of a pair.
 
-ghost use Rattle.std.specs.Prelude.{◌≡◌, ◌≢◌, ℕ, ◌+◌, ◌<◌, ◌^◌, ◌&&◌, ◌*◌, [], length, map, slice_get, nat_le, string_bytes, option_map, option_copied, Ok, IsOk, IfOk, IfErr, OnOk, Err, Some};
+ghost use Rattle.std.specs.Prelude.{◌≡◌, ◌≢◌, ℕ, ◌+◌, ◌≤◌, ◌<◌, ◌^◌, ◌&&◌, ◌*◌, [], length, map, slice_get, nat_le, string_bytes, option_map, option_copied, Ok, IsOk, IfOk, IfErr, OnOk, Err, Some};
 ghost use Rattle.tb_read.specs.Spelling.{is_digits, digits_value};
 ghost use Rattle.tb_terms.specs.Names.{is_text, is_text_byte};
 ghost use Rattle.tb_cli.specs.Parts.{AnOption, AWord, parts_of, name_of, given, operands_of};
-ghost use Rattle.tb_cli.specs.Table.{option_named, IsWithin};
-ghost use Rattle.tb_cli.specs.Words.{Answer, asked, made, row_answer, parts_answer, part_answer, whole_answer, setting_kind, operand_kind, checked_value, value_answer, text_answer, number_answer, most_times, once_more};
-ghost use Rattle.tb_cli.specs.Helpers.Tables.{row_of, setting_of};
+ghost use Rattle.tb_cli.specs.Table.{option_named, pair, IsWithin, IsPairWithin};
+ghost use Rattle.tb_cli.specs.Words.{Answer, asked, asked_pair, made, made_pair, form_answer, parts_answer, part_answer, whole_answer, setting_kind, operand_kind, checked_value, value_answer, text_answer, number_answer, most_times, once_more};
+ghost use Rattle.tb_cli.specs.Helpers.Tables.{form_of, row_of, setting_of};
 ghost use Rattle.tb_cli.specs.Helpers.Scanning.{part_of};
-ghost use Rattle.tb_cli.specs.Helpers.Fitting.{row_by, RowFits};
+ghost use Rattle.tb_cli.specs.Helpers.Fitting.{row_by, FormFits};
 
 use crate::command::{make_command, row_named};
+use crate::pair_command::{PAIR, PairCommand, make_pair};
 use crate::parts::{OPERANDS, count_values, find_or_empty, is_option, part_len};
-use crate::table::{Kind, Row, option_named};
+use crate::table::{Form, Kind, Row, option_named};
 use crate::{Command, WordFault};
 use std::alloc::Global;
 use tb_read::digits_value;
@@ -52,52 +53,98 @@ fn read_row(alloc: Global, row: &Row, words: &[String]) -> Result<Command, WordF
     requires { row_of row.now ≡ row_by row.now.verb }
     ensures ok { IfOk result
         (λ command. made (row_of row.now) (parts_of (map string_bytes words.now))
-        (row_answer (row_of row.now) (parts_of (map string_bytes words.now))) ≡ Ok command) }
+        (form_answer (row_of row.now).form 2 (parts_of (map string_bytes words.now))) ≡ Ok command) }
     ensures within { IfOk result IsWithin }
     ensures fault { IfErr result (λ fault. fault ≢ WordFault.NoMemory
         → made (row_of row.now) (parts_of (map string_bytes words.now))
-        (row_answer (row_of row.now) (parts_of (map string_bytes words.now))) ≡ Err fault) }
+        (form_answer (row_of row.now).form 2 (parts_of (map string_bytes words.now))) ≡ Err fault) }
     ensures memory { result ≡ Err WordFault.NoMemory
         → IsOk (made (row_of row.now) (parts_of (map string_bytes words.now))
-        (row_answer (row_of row.now) (parts_of (map string_bytes words.now)))) }
+        (form_answer (row_of row.now).form 2 (parts_of (map string_bytes words.now)))) }
 {
-    check_row(row, words)?;
+    check_form(&row.form, 2, words)?;
     match make_command(alloc, row.verb, words) {
         Ok(command) => Ok(command),
         Err(NoMemory) => Err(WordFault::NoMemory),
     }
 }
 
-/// Whether the words behind the first have a fault, of the command with this row.
-fn check_row(row: &Row, words: &[String]) -> Result<(), WordFault>
-    ensures is { result ≡ row_answer (row_of row.now) (parts_of (map string_bytes words.now)) }
-    ensures told { result ≢ Err WordFault.NoMemory }
+/// What the words of a pair ask for: two scripts, and limits. They have no command.
+pub fn read_pair_words(alloc: Global, words: &Vec<String>) -> Result<PairCommand, WordFault>
+    ensures ok { IfOk result
+        (λ command. asked_pair (map string_bytes words.now.items) ≡ Ok command) }
+    ensures fault { IfErr result (λ fault. fault ≢ WordFault.NoMemory
+        → asked_pair (map string_bytes words.now.items) ≡ Err fault) }
+
+    // The command's numbers are in their ranges.
+    ensures within { IfOk result IsPairWithin }
+
+    // A fault of the words is told whether or not there is memory.
+    ensures memory { result ≡ Err WordFault.NoMemory
+        → IsOk (asked_pair (map string_bytes words.now.items)) }
+
+    // Each option is built.
+    ensures built { (place : ℕ) → result ≢ Err (WordFault.NotBuilt place) }
 {
-    check_parts(row, words)?;
-    check_whole(row, words)
+    let words = words.as_slice();
+    if words.is_empty() {
+        return Err(WordFault::NoCommand);
+    }
+    read_pair(alloc, words)
 }
 
-fn check_whole(row: &Row, words: &[String]) -> Result<(), WordFault>
-    ensures is { result ≡ whole_answer (row_of row.now) (parts_of (map string_bytes words.now)) }
+/// What the words of a pair ask for, wherever they stand.
+fn read_pair(alloc: Global, words: &[String]) -> Result<PairCommand, WordFault>
+    ensures ok { IfOk result (λ command. made_pair (parts_of (map string_bytes words.now))
+        (form_answer pair 1 (parts_of (map string_bytes words.now))) ≡ Ok command) }
+    ensures within { IfOk result IsPairWithin }
+    ensures fault { IfErr result (λ fault. fault ≢ WordFault.NoMemory
+        → made_pair (parts_of (map string_bytes words.now))
+        (form_answer pair 1 (parts_of (map string_bytes words.now))) ≡ Err fault) }
+    ensures memory { result ≡ Err WordFault.NoMemory
+        → IsOk (made_pair (parts_of (map string_bytes words.now))
+        (form_answer pair 1 (parts_of (map string_bytes words.now)))) }
+{
+    check_form(&PAIR, 1, words)?;
+    match make_pair(alloc, words) {
+        Ok(command) => Ok(command),
+        Err(NoMemory) => Err(WordFault::NoMemory),
+    }
+}
+
+/// Whether words of this form have a fault, of which the first has this position.
+fn check_form(form: &Form, first: usize, words: &[String]) -> Result<(), WordFault>
+    requires { first ≤ 2 }
+    ensures is { result
+        ≡ form_answer (form_of form.now) first (parts_of (map string_bytes words.now)) }
     ensures told { result ≢ Err WordFault.NoMemory }
 {
-    if count_values(words, OPERANDS) < row.operands.len() {
+    check_parts(form, first, words)?;
+    check_whole(form, words)
+}
+
+fn check_whole(form: &Form, words: &[String]) -> Result<(), WordFault>
+    ensures is { result ≡ whole_answer (form_of form.now) (parts_of (map string_bytes words.now)) }
+    ensures told { result ≢ Err WordFault.NoMemory }
+{
+    if count_values(words, OPERANDS) < form.operands.len() {
         Err(WordFault::Missing)
     } else {
         Ok(())
     }
 }
 
-/// Whether one of the parts into which the words behind the first fall has a fault.
-fn check_parts(row: &Row, words: &[String]) -> Result<(), WordFault>
+/// Whether one of the parts into which the words fall has a fault.
+fn check_parts(form: &Form, first: usize, words: &[String]) -> Result<(), WordFault>
+    requires { first ≤ 2 }
     ensures is { result
-        ≡ parts_answer (row_of row.now) [] 2 (parts_of (map string_bytes words.now)) }
+        ≡ parts_answer (form_of form.now) [] first (parts_of (map string_bytes words.now)) }
     ensures told { result ≢ Err WordFault.NoMemory }
 {
     let mut index = 0;
     while index < words.len() {
         let word = words[index].as_str();
-        check_part(row, &words[..index], word, words.get(index + 1))?;
+        check_part(form, first, &words[..index], word, words.get(index + 1))?;
         index += part_len(word);
     }
     Ok(())
@@ -105,77 +152,82 @@ fn check_parts(row: &Row, words: &[String]) -> Result<(), WordFault>
 
 /// The part that begins with this word, behind others.
 fn check_part(
-    row: &Row,
+    form: &Form,
+    first: usize,
     before: &[String],
     word: &str,
     next: Option<&String>,
 ) -> Result<(), WordFault>
-    requires { length before.now < 2 ^ 62 }
-    ensures is { result ≡ part_answer (row_of row.now)
+    requires few { length before.now < 2 ^ 62 }
+    requires first { first ≤ 2 }
+    ensures is { result ≡ part_answer (form_of form.now)
         (given (name_of (part_of word.now (option_map string_bytes (option_copied next.entry))))
-        (parts_of (map string_bytes before.now))) (length before.now + 2)
+        (parts_of (map string_bytes before.now))) (length before.now + first)
         (part_of word.now (option_map string_bytes (option_copied next.entry))) }
     ensures told { result ≢ Err WordFault.NoMemory }
 {
     if is_option(word) {
-        check_option(row, before, word, next)
+        check_option(form, first, before, word, next)
     } else {
-        check_operand(row, before, word)
+        check_operand(form, first, before, word)
     }
 }
 
-fn check_operand(row: &Row, before: &[String], word: &str) -> Result<(), WordFault>
-    requires { length before.now < 2 ^ 62 }
+fn check_operand(form: &Form, first: usize, before: &[String], word: &str) -> Result<(), WordFault>
+    requires few { length before.now < 2 ^ 62 }
+    requires first { first ≤ 2 }
     ensures is { result
-        ≡ part_answer (row_of row.now) (operands_of (parts_of (map string_bytes before.now)))
-        (length before.now + 2) (AWord word.now) }
+        ≡ part_answer (form_of form.now) (operands_of (parts_of (map string_bytes before.now)))
+        (length before.now + first) (AWord word.now) }
     ensures told { result ≢ Err WordFault.NoMemory }
 {
-    let position = before.len() + 2;
-    let kind = operand_kind(row, count_values(before, OPERANDS), position)?;
-    let first = find_or_empty(before, OPERANDS, 0);
-    check_value(kind, first, position, word)
+    let position = before.len() + first;
+    let kind = operand_kind(form, count_values(before, OPERANDS), position)?;
+    let earliest = find_or_empty(before, OPERANDS, 0);
+    check_value(kind, earliest, position, word)
 }
 
 /// What the value is of the operand at this position, behind so many.
-fn operand_kind(row: &Row, place: usize, position: usize) -> Result<Kind, WordFault>
-    ensures is { result ≡ operand_kind (slice_get (row_of row.now).operands place) position }
+fn operand_kind(form: &Form, place: usize, position: usize) -> Result<Kind, WordFault>
+    ensures is { result ≡ operand_kind (slice_get (form_of form.now).operands place) position }
     ensures told { result ≢ Err WordFault.NoMemory }
 {
-    match row.operands.get(place) {
+    match form.operands.get(place) {
         Some(kind) => Ok(*kind),
         None => Err(WordFault::Extra(position)),
     }
 }
 
 fn check_option(
-    row: &Row,
+    form: &Form,
+    first: usize,
     before: &[String],
     name: &str,
     value: Option<&String>,
 ) -> Result<(), WordFault>
-    requires { length before.now < 2 ^ 62 }
-    ensures is { result ≡ part_answer (row_of row.now)
-        (given (Some name.now) (parts_of (map string_bytes before.now))) (length before.now + 2)
+    requires few { length before.now < 2 ^ 62 }
+    requires first { first ≤ 2 }
+    ensures is { result ≡ part_answer (form_of form.now)
+        (given (Some name.now) (parts_of (map string_bytes before.now))) (length before.now + first)
         (AnOption name.now (option_map string_bytes (option_copied value.entry))) }
     ensures told { result ≢ Err WordFault.NoMemory }
 {
-    let position = before.len() + 2;
-    let kind = option_kind(row, count_values(before, Some(name)), position, name)?;
+    let position = before.len() + first;
+    let kind = option_kind(form, count_values(before, Some(name)), position, name)?;
     let Some(value) = value else {
         return Err(WordFault::Missing);
     };
-    let first = find_or_empty(before, Some(name), 0);
-    check_value(kind, first, position + 1, value.as_str())
+    let earliest = find_or_empty(before, Some(name), 0);
+    check_value(kind, earliest, position + 1, value.as_str())
 }
 
 /// What the value is of the option of this name at this position, which was given so many times before.
-fn option_kind(row: &Row, times: usize, position: usize, name: &str) -> Result<Kind, WordFault>
+fn option_kind(form: &Form, times: usize, position: usize, name: &str) -> Result<Kind, WordFault>
     ensures is { result
-        ≡ setting_kind (option_named (row_of row.now).options name.now) times position }
+        ≡ setting_kind (option_named (form_of form.now).options name.now) times position }
     ensures told { result ≢ Err WordFault.NoMemory }
 {
-    let Some(option) = option_named(row.options, name) else {
+    let Some(option) = option_named(form.options, name) else {
         return Err(WordFault::Unknown(position));
     };
     if times < most_times(option.kind) {

@@ -1,4 +1,4 @@
-//! How the words of a command are read is said by a row.
+//! How words are read is said by a form, and a row says which command has which.
 
 ghost use Rattle.std.specs.Prelude.{◌≡◌, option_map, option_copied, find, bytes_eq, map};
 ghost use Rattle.tb_cli.specs.Table.{Row as RowWords, option_named};
@@ -36,13 +36,19 @@ pub(crate) struct Setting {
     pub(crate) usual: u32,
 }
 
-/// How the words of a command are read: its first word, its operands in their order, and its options.
+/// How words are read: their operands in their order, and their options.
+#[derive(Clone, Copy)]
+pub(crate) struct Form {
+    pub(crate) operands: &'static [Kind],
+    pub(crate) options: &'static [Setting],
+}
+
+/// How the words of a command are read: its first word, and the form of those behind it.
 #[derive(Clone, Copy)]
 pub(crate) struct Row {
     pub(crate) verb: Verb,
     pub(crate) word: &'static str,
-    pub(crate) operands: &'static [Kind],
-    pub(crate) options: &'static [Setting],
+    pub(crate) form: Form,
 }
 
 /// The row with this first word among these.

@@ -9,8 +9,10 @@ mod loading;
 mod program;
 mod reading;
 mod roots;
+mod writing;
 
 pub use accepting::accept;
 pub use fault::ScriptFault;
 pub use laws::a_text_has_one_program;
 pub use loading::load;
+pub use writing::write_fault;

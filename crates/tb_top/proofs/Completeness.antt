@@ -6,6 +6,7 @@ use Rattle.tb_bus.specs.Buses.{start}
 use Rattle.tb_cli.specs.declared.command.Command.{Command}
 use Rattle.tb_cli.specs.declared.command.Command.TheVariants as command
 use Rattle.tb_edge.specs.Faults.{Rose}
+use Rattle.tb_load.proofs.LoadLemmas.{is-told, not-bad, not-long, not-refused, one-program, told-within}
 use Rattle.tb_run.specs.Views.{OutsideView}
 use Rattle.tb_run.specs.declared.ends.RunWhy.TheVariants as why
 use Rattle.tb_top.specs.Run.{IsRun, LiveOutcome, RunRequest}
@@ -29,7 +30,7 @@ use Rattle.tb_sim.specs.declared.ends.SimEnd.{SimEnd}
 use Rattle.tb_sim.specs.declared.ends.SimEnd.TheVariants as sim
 use Rattle.tb_sim.proofs.SimTraces.{one-sim}
 use Rattle.tb_top.specs.Check.{CheckOutcome}
-use Rattle.tb_top.specs.Loading.{HasProgram, IsLoaded, IsLoadedWithin, IsLongerThan, IsRefused, IsTooLong, IsUnloaded, most_bytes}
+use Rattle.tb_load.specs.Loading.{HasProgram, IsBadScript, IsLoaded, IsLoadedWithin, IsLongerThan, IsRefused, IsTooLong, most_bytes}
 use Rattle.tb_top.specs.Outcomes.{Comes}
 use Rattle.tb_top.specs.Causes.{IsCaused}
 use Rattle.tb_top.specs.Completeness.{Due, Judged, Crowd, Long, IsDue, MustEnd, MustTell, Reads, due_status, tool_status}
@@ -50,43 +51,6 @@ use Rattle.tb_top.specs.declared.status.Edge.TheVariants as edge
 use Rattle.tb_top.specs.declared.status.Bound.TheVariants as bound
 use Rattle.tb_top.specs.declared.status.LogWrong.TheVariants as log_wrong
 
--- bytes that have a program aren't refused
-not-refused : (bytes : List ℕ) (program : Program) (fault : ScriptFault) → IsFound bytes (Program' program) → IsRefused bytes fault → ⊥
-not-refused bytes program (script.Lex fault) found h = let same : NoTokens fault ≡ Program' program = found.only (NoTokens fault) h.holds in cc
-not-refused bytes program (script.Parse fault) found h = let same : NoScript fault ≡ Program' program = found.only (NoScript fault) h.holds in cc
-not-refused bytes program (script.Check fault) found h = let same : Improper fault ≡ Program' program = found.only (Improper fault) h.holds in cc
-not-refused bytes program (script.Expand (expand.Recursion names)) found h = let same : Recursive names ≡ Program' program = found.only (Recursive names) h.holds in cc
-not-refused bytes program (script.Expand (expand.TooLarge name)) found h = let same : Large name ≡ Program' program = found.only (Large name) h.holds in cc
-not-refused bytes program (script.Expand expand.NoMemory) found h = h
-not-refused bytes program (script.Roots count) found h = let same : ManyRoots count ≡ Program' program = found.only (ManyRoots count) h.holds in cc
-not-refused bytes program (script.NotBuilt token) found h = h
-not-refused bytes program script.NoMemory found h = h
-not-refused bytes program (script.TooLong len) found h = h
-
--- bytes that are loaded are those that are told, and not more than so many
-told-within : (most : ℕ) (file : Option (List ℕ)) (bytes all : List ℕ) → file ≡ Some bytes → IsLoadedWithin most file all → (all ≡ bytes) × (length bytes ≤ most)
-told-within most file bytes all told loaded =
-    let same : all ≡ bytes = (subst (λ (it : Option (List ℕ)). IsLoadedWithin most it all) told loaded).0 in
-    (same, subst (λ (bs : List ℕ). length bs ≤ most) same loaded.1)
-
-is-told : (file : Option (List ℕ)) (bytes all : List ℕ) → file ≡ Some bytes → IsLoaded file all → all ≡ bytes
-is-told file bytes all told loaded = (told-within most_bytes file bytes all told loaded).0
-
--- a name that is told to hold few bytes doesn't hold too many
-not-long : (bytes : List ℕ) (len : ℕ) → length bytes ≤ most_bytes → IsTooLong (Some bytes) len → ⊥
-not-long bytes len few h = let same : len ≡ length bytes = h.1 in omega (h.0, same, few, arith)
-
--- the file of a script that is accepted is loaded
-not-unloaded : (bytes : List ℕ) (program : Program) (fault : ScriptFault) → length bytes ≤ most_bytes → IsFound bytes (Program' program) → IsUnloaded (Some bytes) (Script fault) → ⊥
-not-unloaded bytes program (script.TooLong len) few found h = not-long bytes len few h
-not-unloaded bytes program (script.Lex fault) few found (all, loaded, refused) = not-refused bytes program (script.Lex fault) found (subst (λ (bs : List ℕ). IsRefused bs (script.Lex fault)) loaded.0 refused)
-not-unloaded bytes program (script.Parse fault) few found (all, loaded, refused) = not-refused bytes program (script.Parse fault) found (subst (λ (bs : List ℕ). IsRefused bs (script.Parse fault)) loaded.0 refused)
-not-unloaded bytes program (script.Check fault) few found (all, loaded, refused) = not-refused bytes program (script.Check fault) found (subst (λ (bs : List ℕ). IsRefused bs (script.Check fault)) loaded.0 refused)
-not-unloaded bytes program (script.Expand fault) few found (all, loaded, refused) = not-refused bytes program (script.Expand fault) found (subst (λ (bs : List ℕ). IsRefused bs (script.Expand fault)) loaded.0 refused)
-not-unloaded bytes program (script.Roots count) few found (all, loaded, refused) = not-refused bytes program (script.Roots count) found (subst (λ (bs : List ℕ). IsRefused bs (script.Roots count)) loaded.0 refused)
-not-unloaded bytes program (script.NotBuilt token) few found (all, loaded, refused) = refused
-not-unloaded bytes program script.NoMemory few found (all, loaded, refused) = refused
-
 -- what a command answers that ends well, or for which memory ran out
 abbrev pub IsWell : {A : Type 0} → Result A Fault → Type 0
 IsWell (Ok done) = Unit {0}
@@ -100,7 +64,7 @@ check-well bytes program old new (Ok done) few found file out h = tt
 check-well bytes program old new (Err NoMemory) few found file out h = tt
 check-well bytes program old new (Err File) few found file out h = absurd (file refl)
 check-well bytes program old new (Err Out) few found file out h = absurd (out refl)
-check-well bytes program old new (Err (Script fault)) few found file out h = absurd (not-unloaded bytes program fault few found h.0)
+check-well bytes program old new (Err (Script fault)) few found file out h = absurd (not-bad bytes program fault few found h.0)
 check-well bytes program old new (Err (Feed fault)) few found file out h = absurd h
 check-well bytes program old new (Err (Words fault)) few found file out h = absurd h
 check-well bytes program old new (Err Clock) few found file out h = absurd h
@@ -124,12 +88,6 @@ one-fed held None inputs others reads fed = fed ∙ sym reads
 one-fed held (Some name) inputs others (bytes, told, few, is) (all, loaded, fed) =
     one-feed bytes others inputs (subst (λ (bs : List ℕ). IsFeedOf bs others) (is-told (held name) bytes all told loaded) fed) is
 
--- a file that has a program has that one
-one-program : (file : Option (List ℕ)) (bytes : List ℕ) (program other : Program) → file ≡ Some bytes → IsFound bytes (Program' program) → HasProgram file other → other ≡ program
-one-program file bytes program other told found has =
-    let there : IsFound bytes (Program' other) = subst (λ (bs : List ℕ). IsFound bs (Program' other)) (is-told file bytes has.bytes told has.loaded) has.found in
-    let same : Program' other ≡ Program' program = found.only (Program' other) there.holds in cc
-
 -- a program and inputs have one simulation
 same-end : (request : Request) (program other : Program) (inputs others : List Input) (log more : List Entry) (last : SimEnd) → other ≡ program → others ≡ inputs →
     IsSim (limits_of request.steps (origin_for request program)) (sim_start (start (origin_for request program)) inputs) log sim.Down →
@@ -152,7 +110,7 @@ sim-well held request old new (Err NoMemory) must file out h = tt
 sim-well held request old new (Err File) must file out h = absurd (file refl)
 sim-well held request old new (Err Out) must file out h = absurd (out refl)
 sim-well held request old new (Err (Script fault)) must file out h =
-    absurd (not-unloaded must.bytes must.program fault must.few must.found (subst (λ (told : Option (List ℕ)). IsUnloaded told (Script fault)) must.told h.0))
+    absurd (not-bad must.bytes must.program fault must.few must.found (subst (λ (told : Option (List ℕ)). IsBadScript told fault) must.told h.0))
 sim-well held request old new (Err (Feed fault)) must file out h = absurd (not-unread held request.feed must.inputs fault must.reads h.1)
 sim-well held request old new (Err (Words fault)) must file out h = absurd h
 sim-well held request old new (Err Clock) must file out h = absurd h
@@ -221,7 +179,7 @@ run-well held request bytes program old new (Err Out) told few found file out cl
 run-well held request bytes program old new (Err Clock) told few found file out clock crew h = clock refl
 run-well held request bytes program old new (Err Crew) told few found file out clock crew h = crew refl
 run-well held request bytes program old new (Err (Script fault)) told few found file out clock crew h =
-    not-unloaded bytes program fault few found (subst (λ (it : Option (List ℕ)). IsUnloaded it (Script fault)) told h.0)
+    not-bad bytes program fault few found (subst (λ (it : Option (List ℕ)). IsBadScript it fault) told h.0)
 run-well held request bytes program old new (Err (Feed fault)) told few found file out clock crew h = h
 run-well held request bytes program old new (Err (Words fault)) told few found file out clock crew h = h
 run-well held request bytes program old new (Err (Log wrong)) told few found file out clock crew h = h
@@ -302,7 +260,7 @@ verify-well held request due old new (Err NoMemory) must file out h = inr refl
 verify-well held request due old new (Err File) must file out h = absurd (file refl)
 verify-well held request due old new (Err Out) must file out h = absurd (out refl)
 verify-well held request due old new (Err (Script fault)) must file out h =
-    absurd (not-unloaded must.bytes must.program fault must.few must.found (subst (λ (it : Option (List ℕ)). IsUnloaded it (Script fault)) must.told h.0))
+    absurd (not-bad must.bytes must.program fault must.few must.found (subst (λ (it : Option (List ℕ)). IsBadScript it fault) must.told h.0))
 verify-well held request due old new (Err (Limit bound.Steps)) must file out h = absurd h
 verify-well held request due old new (Err (Feed fault)) must file out h = absurd h
 verify-well held request due old new (Err (Words fault)) must file out h = absurd h
@@ -332,7 +290,7 @@ iface-well bytes tool program old new (Err Stranger) few found file out (it, put
 iface-well bytes tool program old new (Err NoMemory) few found file out h = inr refl
 iface-well bytes tool program old new (Err File) few found file out h = absurd (file refl)
 iface-well bytes tool program old new (Err Out) few found file out h = absurd (out refl)
-iface-well bytes tool program old new (Err (Script fault)) few found file out h = absurd (not-unloaded bytes program fault few found h.0)
+iface-well bytes tool program old new (Err (Script fault)) few found file out h = absurd (not-bad bytes program fault few found h.0)
 iface-well bytes tool program old new (Err (Feed fault)) few found file out h = absurd h
 iface-well bytes tool program old new (Err (Words fault)) few found file out h = absurd h
 iface-well bytes tool program old new (Err Clock) few found file out h = absurd h

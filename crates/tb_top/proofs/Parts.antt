@@ -20,7 +20,7 @@ use Rattle.tb_top.specs.Asking.{AsksAll, AsksBeside, AsksScript, Asks, AsksSome}
 use Rattle.tb_cli.specs.declared.command.Command.{Command}
 use Rattle.tb_cli.specs.declared.command.Command.TheVariants as command
 use Rattle.tb_cli.specs.declared.fault.WordFault.{WordFault}
-use Rattle.tb_top.specs.Loading.{HasProgram, IsAccepted, IsRefused}
+use Rattle.tb_load.specs.Loading.{HasProgram, IsAccepted, IsRefused}
 use Rattle.tb_top.specs.Outcomes.{CommandOutcome}
 use Rattle.tb_core.specs.Cores.{CoreState}
 use Rattle.tb_edge.specs.Faults.{Rose}

@@ -1,6 +1,6 @@
 -- Which names the files are asked for.
 use Rattle.std.specs.Prelude.{◌≡◌, ◌⊎◌, ℕ, List, [], ◌∷◌, ◌++◌, Option, Result, Ok, Err}
-use Rattle.tb_top.specs.Loading.{IsAccepted}
+use Rattle.tb_load.specs.Loading.{IsAccepted}
 use Rattle.tb_top.specs.declared.fault.Fault.{Fault}
 use Rattle.tb_top.specs.declared.fault.Fault.TheVariants.{Script, File, NoMemory}
 

@@ -1,7 +1,8 @@
 -- How `check` ends, and what was put then.
 use Rattle.std.specs.Prelude.{◌≡◌, ℕ, List, Option, Result, Ok, Err, codes}
 use Rattle.tb_edge.specs.Sinks.{Writes, WritesPrefix}
-use Rattle.tb_top.specs.Loading.{IsAccepted, IsUnloaded}
+use Rattle.tb_load.specs.Loading.{IsAccepted}
+use Rattle.tb_top.specs.Loading.{IsUnloaded}
 use Rattle.tb_top.specs.declared.fault.Fault.{Fault}
 use Rattle.tb_top.specs.declared.fault.Fault.TheVariants.{Script, File, Out, NoMemory}
 

@@ -10,7 +10,7 @@ use Rattle.tb_iface.specs.declared.answer.Interface.{Interface}
 use Rattle.tb_script.specs.Findings.{IsFound, Program'}
 use Rattle.tb_sim.specs.Simulation.{IsSim, limits_of, sim_start}
 use Rattle.tb_sim.specs.declared.ends.SimEnd.TheVariants as sim
-use Rattle.tb_top.specs.Loading.{most_bytes}
+use Rattle.tb_load.specs.Loading.{most_bytes}
 use Rattle.tb_top.specs.Sim.{Request, origin_for}
 use Rattle.tb_top.specs.Verify.{HasVerdict, IsCrowded, VerifyRequest, log_origin, most_log_bytes}
 use Rattle.tb_top.specs.declared.status.Status.{Status}

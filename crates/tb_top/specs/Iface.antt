@@ -5,7 +5,8 @@ use Rattle.tb_body.specs.declared.program.Program.{Program}
 use Rattle.tb_iface.specs.Interfaces.{interface_of}
 use Rattle.tb_iface.specs.PatternTexts.{interface_text}
 use Rattle.tb_iface.specs.declared.answer.Interface.{Interface}
-use Rattle.tb_top.specs.Loading.{HasProgram, IsUnloaded}
+use Rattle.tb_load.specs.Loading.{HasProgram}
+use Rattle.tb_top.specs.Loading.{IsUnloaded}
 use Rattle.tb_top.specs.declared.fault.Fault.{Fault}
 use Rattle.tb_top.specs.declared.fault.Fault.TheVariants.{Script, File, Out, NoMemory, Stranger}
 

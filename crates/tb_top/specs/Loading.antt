@@ -1,68 +1,12 @@
--- What is made of the file of a script: its program, or which fault it has.
-use Rattle.std.specs.Prelude.{◌≡◌, ◌<◌, ◌≤◌, ℕ, List, Option, IfSome, length}
-use Rattle.tb_body.specs.declared.program.Program.{Program}
-use Rattle.tb_expand.specs.declared.fault.ExpandFault.TheVariants as expand
-use Rattle.tb_script.specs.declared.fault.ScriptFault.{ScriptFault}
-use Rattle.tb_script.specs.declared.fault.ScriptFault.TheVariants as script
-use Rattle.tb_script.specs.Findings.{IsFound, NoTokens, NoScript, Improper, Recursive, Large, ManyRoots, Program'}
+-- Why the file of a script gives no program, as a fault of a command.
+use Rattle.std.specs.Prelude.{ℕ, List, Option}
+use Rattle.tb_load.specs.Loading.{IsBadScript}
 use Rattle.tb_top.specs.declared.fault.Fault.{Fault}
 use Rattle.tb_top.specs.declared.fault.Fault.TheVariants.{Script, File, NoMemory}
 
--- a file of more bytes is too long
-abbrev pub most_bytes : ℕ
-most_bytes = 1048576
-
--- bytes that may be loaded: those that the name holds, where the files tell them, and not more than so many
-abbrev pub IsLoadedWithin : ℕ → Option (List ℕ) → List ℕ → Type 0
-IsLoadedWithin most told bytes = IfSome told (λ held. bytes ≡ held) × (length bytes ≤ most)
-
--- the name holds so many bytes, where the files tell them, and these are too many
-abbrev pub IsLongerThan : ℕ → Option (List ℕ) → ℕ → Type 0
-IsLongerThan most told len = (most < len) × IfSome told (λ held. len ≡ length held)
-
--- the same of a script and of a feed
-abbrev pub IsLoaded : Option (List ℕ) → List ℕ → Type 0
-IsLoaded told bytes = IsLoadedWithin most_bytes told bytes
-
-abbrev pub IsTooLong : Option (List ℕ) → ℕ → Type 0
-IsTooLong told len = IsLongerThan most_bytes told len
-
--- What a fault of a script says of its bytes: this was found of them, and nothing else is.
-abbrev pub IsRefused : List ℕ → ScriptFault → Type 0
--- they have no tokens
-IsRefused bytes (script.Lex fault) = IsFound bytes (NoTokens fault)
--- their tokens spell no script within the limits
-IsRefused bytes (script.Parse fault) = IsFound bytes (NoScript fault)
--- the script fails a condition
-IsRefused bytes (script.Check fault) = IsFound bytes (Improper fault)
--- its calls form a cycle
-IsRefused bytes (script.Expand (expand.Recursion names)) = IsFound bytes (Recursive names)
--- a process is too large
-IsRefused bytes (script.Expand (expand.TooLarge name)) = IsFound bytes (Large name)
--- there are too many roots
-IsRefused bytes (script.Roots count) = IsFound bytes (ManyRoots count)
--- each form is built, running out of memory is no fault of the script, and its length is a matter of the file
-IsRefused bytes (script.NotBuilt token) = ⊥
-IsRefused bytes (script.Expand expand.NoMemory) = ⊥
-IsRefused bytes script.NoMemory = ⊥
-IsRefused bytes (script.TooLong len) = ⊥
-
--- The file's bytes are loaded; they have this program, and nothing else is found of them.
-pub record HasProgram (told : Option (List ℕ)) (program : Program) : Type 0 where
-  pub bytes : List ℕ
-  pub loaded : IsLoaded told bytes
-  pub found : IsFound bytes (Program' program)
-
--- the file's script is accepted
-abbrev pub IsAccepted : Option (List ℕ) → Type 0
-IsAccepted told = (program : Program) × HasProgram told program
-
--- Why the file of a script gives no program.
 abbrev pub IsUnloaded : Option (List ℕ) → Fault → Type 0
--- it has so many bytes, too many
-IsUnloaded told (Script (script.TooLong len)) = IsTooLong told len
--- its bytes are refused
-IsUnloaded told (Script fault) = (bytes : List ℕ) × IsLoaded told bytes × IsRefused bytes fault
+-- it is refused
+IsUnloaded told (Script fault) = IsBadScript told fault
 -- it could not be read
 IsUnloaded told File = Unit {0}
 -- memory ran out

@@ -14,7 +14,7 @@ use Rattle.tb_script.specs.Findings.{IsFound, Program'}
 use Rattle.tb_sim.specs.Simulation.{IsSim, limits_of, sim_start}
 use Rattle.tb_sim.specs.declared.ends.SimEnd.{SimEnd}
 use Rattle.tb_sim.specs.declared.ends.SimEnd.TheVariants as sim
-use Rattle.tb_top.specs.Loading.{IsRefused}
+use Rattle.tb_load.specs.Loading.{IsRefused}
 use Rattle.tb_top.specs.declared.fault.Fault.{Fault}
 use Rattle.tb_top.specs.declared.fault.Fault.TheVariants.{Script, Out, Limit, NoMemory}
 use Rattle.tb_top.specs.declared.status.Bound.TheVariants as bound

@@ -7,7 +7,8 @@ use Rattle.tb_run.specs.Outcomes.{Runs}
 use Rattle.tb_run.specs.Views.{OutsideView}
 use Rattle.tb_run.specs.declared.ends.RunWhy.{RunWhy}
 use Rattle.tb_run.specs.declared.ends.RunWhy.TheVariants as why
-use Rattle.tb_top.specs.Loading.{HasProgram, IsUnloaded}
+use Rattle.tb_load.specs.Loading.{HasProgram}
+use Rattle.tb_top.specs.Loading.{IsUnloaded}
 use Rattle.tb_top.specs.Views.{IsLeft}
 use Rattle.tb_top.specs.declared.fault.Fault.{Fault}
 use Rattle.tb_top.specs.declared.fault.Fault.TheVariants.{Script, File, Out, Clock, Crew, Limit, NoMemory}

@@ -16,7 +16,8 @@ use Rattle.tb_log.specs.declared.entry.Entry.{Entry}
 use Rattle.tb_sim.specs.Simulation.{IsSim, limits_of, sim_start}
 use Rattle.tb_sim.specs.declared.ends.SimEnd.{SimEnd}
 use Rattle.tb_sim.specs.declared.ends.SimEnd.TheVariants as sim
-use Rattle.tb_top.specs.Loading.{HasProgram, IsAccepted, IsLoaded, IsTooLong, IsUnloaded}
+use Rattle.tb_load.specs.Loading.{HasProgram, IsAccepted, IsLoaded, IsTooLong}
+use Rattle.tb_top.specs.Loading.{IsUnloaded}
 use Rattle.tb_top.specs.declared.fault.Fault.{Fault}
 use Rattle.tb_top.specs.declared.fault.Fault.TheVariants.{Script, Feed, File, Out, Limit, NoMemory}
 use Rattle.tb_top.specs.declared.status.Bound.TheVariants as bound

@@ -8,7 +8,8 @@ use Rattle.tb_core.specs.Cores.{most_entries}
 use Rattle.tb_verify.specs.Verdicts.{IsCrowdedAt, IsVerdict}
 use Rattle.tb_verify.specs.declared.verdict.Verdict.{Verdict}
 use Rattle.tb_verify.specs.declared.verdict.Verdict.TheVariants as verdict
-use Rattle.tb_top.specs.Loading.{HasProgram, IsAccepted, IsLoadedWithin, IsLongerThan, IsUnloaded}
+use Rattle.tb_load.specs.Loading.{HasProgram, IsAccepted, IsLoadedWithin, IsLongerThan}
+use Rattle.tb_top.specs.Loading.{IsUnloaded}
 use Rattle.tb_top.specs.declared.fault.Fault.{Fault}
 use Rattle.tb_top.specs.declared.fault.Fault.TheVariants.{Script, File, Out, Limit, NoMemory, Log}
 use Rattle.tb_top.specs.declared.status.Bound.TheVariants as bound

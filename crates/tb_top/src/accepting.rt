@@ -3,13 +3,14 @@ ghost use Rattle.std.specs.Prelude.{◌≡◌, ◌≤◌, [], ◌∷◌, IfErr, 
 ghost use Rattle.tb_body.specs.declared.program.Program.{Program};
 ghost use Rattle.tb_edge.specs.Faults.{Rose};
 ghost use Rattle.tb_script.specs.Findings.{IsFound, Program'};
-ghost use Rattle.tb_top.specs.Loading.{IsAccepted, IsUnloaded};
+ghost use Rattle.tb_load.specs.Loading.{IsAccepted};
+ghost use Rattle.tb_top.specs.Loading.{IsUnloaded};
 ghost use Rattle.tb_top.specs.Helpers.Parts.{AsksFor, IsRefusedBy};
 
 use crate::fault::Fault;
-use crate::loading::MOST_BYTES;
 use std::alloc::Global;
 use tb_edge::{Files, FilesFault, Loaded};
+use tb_load::MOST_BYTES;
 use tb_script::{ScriptFault, accept};
 
 /// Whether the script in the file of this name is accepted. No program is made of it.

@@ -3,7 +3,7 @@ ghost use Rattle.std.specs.Prelude.{◌≡◌, ◌≢◌, ℕ, List, [], Option,
 ghost use Rattle.tb_edge.specs.Faults.{Rose};
 ghost use Rattle.tb_top.specs.Asking.{AsksBeside};
 ghost use Rattle.tb_top.specs.Check.{CheckOutcome};
-ghost use Rattle.tb_top.specs.Loading.{IsAccepted};
+ghost use Rattle.tb_load.specs.Loading.{IsAccepted};
 ghost use Rattle.tb_top.specs.Helpers.Parts.{IsBehindScript, IsInside};
 
 use crate::accepting::accept_script;

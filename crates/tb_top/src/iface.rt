@@ -6,7 +6,7 @@ ghost use Rattle.tb_edge.specs.Faults.{Rose};
 ghost use Rattle.tb_iface.specs.PatternTexts.{interface_text};
 ghost use Rattle.tb_top.specs.Asking.{AsksBeside};
 ghost use Rattle.tb_top.specs.Iface.{HasInterface, IfaceOutcome};
-ghost use Rattle.tb_top.specs.Loading.{HasProgram};
+ghost use Rattle.tb_load.specs.Loading.{HasProgram};
 ghost use Rattle.tb_top.specs.Helpers.Parts.{HasNoInterface, IsBehindScript, IsInside, IsInterfaceText};
 
 use crate::fault::Fault;

@@ -15,7 +15,7 @@ ghost use Rattle.tb_script.specs.Findings.{IsFound, Program'};
 ghost use Rattle.tb_sim.specs.declared.ends.SimEnd.{SimEnd};
 ghost use Rattle.tb_sim.specs.declared.ends.SimEnd.TheVariants.{Down};
 ghost use Rattle.tb_top.specs.Completeness.{Due, MustEnd, MustTell, due_status, tool_status};
-ghost use Rattle.tb_top.specs.Loading.{most_bytes};
+ghost use Rattle.tb_load.specs.Loading.{most_bytes};
 ghost use Rattle.tb_top.specs.OneLog.{HasPut, PutsAll};
 ghost use Rattle.tb_top.specs.Outcomes.{Comes};
 ghost use Rattle.tb_top.specs.Reporting.{Reported};

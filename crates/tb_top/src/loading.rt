@@ -3,7 +3,8 @@ ghost use Rattle.std.specs.Prelude.{◌≡◌, ◌≤◌, [], ◌∷◌, Some, I
 ghost use Rattle.tb_edge.specs.Faults.{Rose};
 ghost use Rattle.tb_feed.specs.Feeds.{IsFeedOf};
 ghost use Rattle.tb_script.specs.Findings.{IsFound, Program'};
-ghost use Rattle.tb_top.specs.Loading.{HasProgram, IsLoadedWithin, IsRefused, IsUnloaded};
+ghost use Rattle.tb_load.specs.Loading.{HasProgram, IsLoadedWithin, IsRefused};
+ghost use Rattle.tb_top.specs.Loading.{IsUnloaded};
 ghost use Rattle.tb_top.specs.Sim.{IsFed};
 ghost use Rattle.tb_top.specs.Verify.{most_log_bytes};
 ghost use Rattle.tb_top.specs.Helpers.Parts.{AsksFor, AsksForFeed, IsBadFeed, IsLogUnread, IsRefusedBy, IsUnread};
@@ -14,11 +15,9 @@ use std::alloc::Global;
 use tb_body::Program;
 use tb_edge::{Bytes, Files, FilesFault, Loaded};
 use tb_feed::{Feed, FeedFault, read_feed};
+use tb_load::{LoadFault, MOST_BYTES};
 use tb_script::{ScriptFault, load};
 use tb_terms::Text;
-
-/// A longer file of a script or of a feed is refused.
-pub const MOST_BYTES: usize = 1_048_576;
 
 /// A longer file of a log is refused.
 const MOST_LOG_BYTES: usize = 67_108_864;
@@ -32,11 +31,11 @@ pub fn load_script<F: Files>(alloc: Global, name: &str, files: &mut F) -> Result
     ensures rose { result ≡ Err Fault.File → Rose (F.faults files.old) (F.faults files.new) }
     ensures never_falls { F.faults files.old ≤ F.faults files.new }
 {
-    match files.load(alloc, name, MOST_BYTES) {
-        Ok(Loaded::Bytes(bytes)) => load_bytes(alloc, bytes.as_slice()),
-        Ok(Loaded::TooLong(len)) => Err(Fault::Script(ScriptFault::TooLong(len))),
-        Err(FilesFault::Failed) => Err(Fault::File),
-        Err(FilesFault::NoMemory) => Err(Fault::NoMemory),
+    match tb_load::load_script(alloc, name, files) {
+        Ok(program) => Ok(program),
+        Err(LoadFault::Script(fault)) => Err(Fault::Script(fault)),
+        Err(LoadFault::File) => Err(Fault::File),
+        Err(LoadFault::NoMemory) => Err(Fault::NoMemory),
     }
 }
 

@@ -7,7 +7,7 @@ ghost use Rattle.tb_log.specs.LogText.{log_text};
 ghost use Rattle.tb_log.specs.Proper.{is_proper_entry};
 ghost use Rattle.tb_log.specs.Shapes.{lane_count};
 ghost use Rattle.tb_top.specs.Asking.{AsksBeside};
-ghost use Rattle.tb_top.specs.Loading.{HasProgram};
+ghost use Rattle.tb_load.specs.Loading.{HasProgram};
 ghost use Rattle.tb_top.specs.Sim.{IsFed, SimOutcome};
 ghost use Rattle.tb_top.specs.Helpers.Parts.{AsksForFeed, IsBehindFeed, IsBehindScript, IsInside, IsSimulated, PutsText};
 

@@ -3,7 +3,7 @@ ghost use Rattle.std.specs.Prelude.{◌≡◌, ◌≢◌, ◌≤◌, ℕ, List, 
 ghost use Rattle.tb_edge.specs.Faults.{Rose};
 ghost use Rattle.tb_log.specs.Shapes.{lane_count};
 ghost use Rattle.tb_top.specs.Asking.{AsksBeside};
-ghost use Rattle.tb_top.specs.Loading.{HasProgram};
+ghost use Rattle.tb_load.specs.Loading.{HasProgram};
 ghost use Rattle.tb_top.specs.Verify.{HasVerdict, IsJudged, VerifyOutcome, VerifyRequest};
 ghost use Rattle.tb_top.specs.Helpers.Parts.{AsksFor, IsBehindScript, IsInside, IsVerified};
 

@@ -8,7 +8,7 @@ use Rattle.tb_cli.specs.declared.table.Kind.{Kind}
 use Rattle.tb_cli.specs.declared.table.Kind.TheVariants.{File, Number, Factor}
 use Rattle.tb_cli.specs.declared.table.Kind.TheVariants as kind
 use Rattle.tb_cli.specs.Parts.{Part, given, operands_of}
-use Rattle.tb_cli.specs.Table.{Setting, Row, check, sim, run, verify, iface, ring, option_named, operand}
+use Rattle.tb_cli.specs.Table.{Setting, Form, Row, check, sim, run, verify, iface, ring, option_named, operand}
 use Rattle.tb_cli.specs.Words.{most_times}
 
 abbrev pub row_by : Verb → Row
@@ -47,10 +47,10 @@ pub record OperandFits (place : ℕ) (kind : Kind) (parts : List Part) : Type 0 
   pub there : place < length (operands_of parts)
   pub fits : Fits kind (take place (operands_of parts)) (operand place parts)
 
--- for all options of a command, and all its operands
-pub record RowFits (row : Row) (parts : List Part) : Type 0 where
-  pub option : (option : Setting) → option_named row.options option.name ≡ Some option → OptionFits option parts
-  pub operand : (place : ℕ) (kind : Kind) → slice_get row.operands place ≡ Some kind → OperandFits place kind parts
+-- for all options that words may have, and all their operands
+pub record FormFits (form : Form) (parts : List Part) : Type 0 where
+  pub option : (option : Setting) → option_named form.options option.name ≡ Some option → OptionFits option parts
+  pub operand : (place : ℕ) (kind : Kind) → slice_get form.operands place ≡ Some kind → OperandFits place kind parts
 
 -- a number in its range
 abbrev pub IsIn : Kind → ℕ → Type 0

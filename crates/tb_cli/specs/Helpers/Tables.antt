@@ -1,11 +1,15 @@
 -- The table of the code as that of the definitions.
 use Rattle.std.specs.Prelude.{map}
 use Rattle.tb_cli.specs.declared.table.Setting.{Setting as CodeSetting}
+use Rattle.tb_cli.specs.declared.table.Form.{Form as CodeForm}
 use Rattle.tb_cli.specs.declared.table.Row.{Row as CodeRow}
-use Rattle.tb_cli.specs.Table.{Setting, Row}
+use Rattle.tb_cli.specs.Table.{Setting, Form, Row}
 
 abbrev pub setting_of : CodeSetting → Setting
 setting_of option = record { name = option.name.now; kind = option.kind; usual = option.usual }
 
+abbrev pub form_of : CodeForm → Form
+form_of form = record { operands = form.operands.now; options = map setting_of form.options.now }
+
 abbrev pub row_of : CodeRow → Row
-row_of row = record { verb = row.verb; word = row.word.now; operands = row.operands.now; options = map setting_of row.options.now }
+row_of row = record { verb = row.verb; word = row.word.now; form = form_of row.form }

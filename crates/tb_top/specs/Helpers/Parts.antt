@@ -11,7 +11,7 @@ use Rattle.tb_gen.specs.Ring.{ring_text}
 use Rattle.tb_iface.specs.Interfaces.{interface_of}
 use Rattle.tb_iface.specs.PatternTexts.{interface_text}
 use Rattle.tb_iface.specs.declared.answer.Interface.{Interface}
-use Rattle.tb_top.specs.Loading.{HasProgram, IsLoadedWithin, IsLongerThan, IsRefused}
+use Rattle.tb_load.specs.Loading.{HasProgram, IsLoadedWithin, IsLongerThan, IsRefused}
 use Rattle.tb_run.specs.Views.{OutsideView}
 use Rattle.tb_run.specs.declared.ends.RunWhy.{RunWhy}
 use Rattle.tb_run.specs.declared.ends.RunWhy.TheVariants as why

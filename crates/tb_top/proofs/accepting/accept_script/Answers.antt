@@ -3,7 +3,7 @@ use Rattle.std.proofs.lemmas.Result.{on_ok_weaker}
 use Rattle.tb_body.specs.declared.program.Program.{Program}
 use Rattle.tb_edge.specs.FilesHeld.{IsOf, IsWithin}
 use Rattle.tb_script.specs.Findings.{IsFound, Program'}
-use Rattle.tb_top.specs.Loading.{IsAccepted, IsLoaded}
+use Rattle.tb_load.specs.Loading.{IsAccepted, IsLoaded}
 use Rattle.tb_top.proofs.accepting.accept_script.Goals as goal
 
 pub returns-in-Ok-Bytes-clause-ok : goal.returns-in-Ok-Bytes-clause-ok

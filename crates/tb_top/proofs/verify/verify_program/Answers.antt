@@ -1,5 +1,5 @@
 use Rattle.std.proofs.Common.{sym, subst}
-use Rattle.tb_top.specs.Loading.{IsLoadedWithin}
+use Rattle.tb_load.specs.Loading.{IsLoadedWithin}
 use Rattle.tb_top.specs.Verify.{most_log_bytes}
 use Rattle.tb_top.proofs.Parts.{log-unread}
 use Rattle.tb_top.proofs.verify.verify_program.Goals as goal

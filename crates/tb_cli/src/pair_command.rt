@@ -1,0 +1,49 @@
+//! What the words of a pair ask for, and how they are read.
+
+ghost use Rattle.std.specs.Prelude.{◌≡◌, map, string_bytes, IfOk};
+ghost use Rattle.tb_cli.specs.Parts.{parts_of};
+ghost use Rattle.tb_cli.specs.Table.{make_pair, pair, IsPairWithin};
+ghost use Rattle.tb_cli.specs.Helpers.Fitting.{FormFits};
+
+use crate::command::{EVENTS, TICKS};
+use crate::table::{Form, Kind};
+use crate::values::{operand_text, option_number};
+use std::alloc::Global;
+use tb_terms::{NoMemory, Text};
+
+/// What the words of a pair ask for.
+#[derive(Drop)]
+pub struct PairCommand {
+    /// The name of the file that has the script of the first bus.
+    pub first: Text,
+    /// The name of the file that has the script of the second bus.
+    pub second: Text,
+    /// The clock ticks so many times at most.
+    pub ticks: u64,
+    /// Each of the two logs has so many entries at most.
+    pub events: u32,
+}
+
+pub(crate) static PAIR: Form = Form {
+    operands: &[Kind::File, Kind::File],
+    options: &[TICKS, EVENTS],
+};
+
+/// What words ask for that have no fault.
+pub(crate) fn make_pair(alloc: Global, words: &[String]) -> Result<PairCommand, NoMemory>
+    requires { FormFits pair (parts_of (map string_bytes words.now)) }
+    ensures is { IfOk result
+        (λ command. command ≡ make_pair (parts_of (map string_bytes words.now))) }
+    ensures within { IfOk result IsPairWithin }
+{
+    let first = operand_text(alloc, words, 0)?;
+    let second = operand_text(alloc, words, 1)?;
+    let ticks = option_number(&TICKS, words);
+    let events = option_number(&EVENTS, words);
+    Ok(PairCommand {
+        first,
+        second,
+        ticks: u64::from(ticks),
+        events,
+    })
+}

@@ -1,0 +1,97 @@
+//! The words of a fault, at the end of some bytes.
+
+ghost use Rattle.std.specs.Prelude.{◌≡◌, ◌++◌, ◌∷◌, OnOk, OnErr, decimal};
+ghost use Rattle.std.specs.List.{flat_map, join_with_byte};
+ghost use Rattle.tb_line.specs.Lines.{line_text, rest_text};
+ghost use Rattle.tb_terms.specs.Helpers.Prefixes.{KeepsPrefix};
+ghost use Rattle.tb_script.specs.Lines.{script_line};
+
+use crate::ScriptFault;
+use itoa::Buffer;
+use tb_line::{Line, Rest};
+use tb_terms::{Ident, NoMemory};
+
+/// Writes the words of the line of a fault at the end: those of [`ScriptFault::line`], for a caller that collects bytes.
+pub fn write_fault(fault: &ScriptFault, into: &mut Vec<u8>) -> Result<(), NoMemory>
+    ensures ok { OnOk result (into.new.items ≡ into.old.items ++ script_line fault.now) }
+    ensures err { OnErr result (into.new.items ≡ into.old.items) }
+{
+    let kept = into.len();
+    match push_line(&fault.line(), into) {
+        Ok(()) => Ok(()),
+        Err(NoMemory) => {
+            into.truncate(kept);
+            Err(NoMemory)
+        }
+    }
+}
+
+fn push_line(line: &Line, into: &mut Vec<u8>) -> Result<(), NoMemory>
+    ensures ok { OnOk result (into.new.items ≡ into.old.items ++ line_text line.now) }
+    ensures err { OnErr result (KeepsPrefix into.old.items into.new.items) }
+{
+    into.extend_from_slice(line.words)?;
+    push_rest(&line.rest, into)
+}
+
+/// Writes what stands behind the words.
+fn push_rest(rest: &Rest, into: &mut Vec<u8>) -> Result<(), NoMemory>
+    ensures ok { OnOk result (into.new.items ≡ into.old.items ++ rest_text rest.now) }
+    ensures err { OnErr result (KeepsPrefix into.old.items into.new.items) }
+{
+    match *rest {
+        Rest::Nothing => Ok(()),
+        Rest::Number(number) => push_number(number, into),
+        Rest::Names(names) => push_names(names, into),
+    }
+}
+
+fn push_number(number: usize, into: &mut Vec<u8>) -> Result<(), NoMemory>
+    ensures ok { OnOk result (into.new.items ≡ into.old.items ++ decimal number) }
+    ensures err { OnErr result (into.new.items ≡ into.old.items) }
+{
+    let mut buffer = Buffer::new();
+    into.extend_from_slice(buffer.format(number).as_bytes())?;
+    Ok(())
+}
+
+/// Writes names with a comma between each two.
+fn push_names(names: &[Ident], into: &mut Vec<u8>) -> Result<(), NoMemory>
+    ensures ok { OnOk result (into.new.items ≡ into.old.items ++ join_with_byte 44 names.now) }
+    ensures err { OnErr result (KeepsPrefix into.old.items into.new.items) }
+{
+    let Some((first, others)) = names.split_first() else {
+        return Ok(());
+    };
+    push_text(first.as_bytes(), into)?;
+    push_more_names(others, into)
+}
+
+/// Writes each name behind a comma.
+fn push_more_names(names: &[Ident], into: &mut Vec<u8>) -> Result<(), NoMemory>
+    ensures ok { OnOk result
+        (into.new.items ≡ into.old.items ++ flat_map (λ name. 44 ∷ name) names.now) }
+    ensures err { OnErr result (KeepsPrefix into.old.items into.new.items) }
+{
+    for name in names {
+        push_name(name, into)?;
+    }
+    Ok(())
+}
+
+fn push_name(name: &Ident, into: &mut Vec<u8>) -> Result<(), NoMemory>
+    ensures ok { OnOk result (into.new.items ≡ into.old.items ++ 44 ∷ name.now) }
+    ensures err { OnErr result (KeepsPrefix into.old.items into.new.items) }
+{
+    into.push(b',')?;
+    into.extend_from_slice(name.as_bytes())?;
+    Ok(())
+}
+
+fn push_text(text: &[u8], into: &mut Vec<u8>) -> Result<(), NoMemory>
+    ensures ok { OnOk result (into.new.items ≡ into.old.items ++ text.now) }
+    ensures err { OnErr result (into.new.items ≡ into.old.items) }
+{
+    into.extend_from_slice(text)?;
+    Ok(())
+}
