@@ -4,6 +4,7 @@
 
 SCRIPT := $(CURDIR)/examples/hello.tb
 PROGRAM := $(CURDIR)/crates/toolbus/out/toolbus
+LENS := $(CURDIR)/crates/toolbus_lens/out/toolbus_lens
 PREFIX := /usr/local
 SHARE := $(DESTDIR)$(PREFIX)/share
 
@@ -12,25 +13,29 @@ hello:
 	@echo "This proves nothing: it runs the unproved program. make build proves the program, make test proves all crates."
 	@cd crates/toolbus && rt try -- sim "$(SCRIPT)"
 
-# Runs all scenarios, calls, and examples with unproved programs.
+# Runs most scenarios, and all calls and examples, with unproved programs.
 quick:
 	tests/quick
 
-# Proves the program with all crates that it depends on, and builds it.
+# Proves the programs with all crates that they depend on, and builds them.
 build:
 	cd crates/toolbus && rt run -- sim "$(SCRIPT)"
-	@echo "The program is $(PROGRAM)"
+	cd crates/toolbus_lens && rt run -- --version
+	@echo "The programs are $(PROGRAM) and $(LENS)"
 
 # The CI gate.
 test:
 	.ci/run
 
-# Installs the built program, its pages for man, the completion for bash, and the syntax files for editors. PREFIX=DIR installs in DIR.
+# Installs the built programs, their pages for man, the completion for bash, and the syntax files for editors. PREFIX=DIR installs in DIR.
 # It builds nothing. DESTDIR=DIR puts all files below DIR.
 install:
 	@test -x "$(PROGRAM)" || { echo "There is no $(PROGRAM). make build makes it."; exit 1; }
+	@test -x "$(LENS)" || { echo "There is no $(LENS). make build makes it."; exit 1; }
 	install -D -m 755 "$(PROGRAM)" "$(DESTDIR)$(PREFIX)/bin/toolbus"
+	install -D -m 755 "$(LENS)" "$(DESTDIR)$(PREFIX)/bin/toolbus_lens"
 	install -D -m 644 man/toolbus.1 "$(SHARE)/man/man1/toolbus.1"
+	install -D -m 644 man/toolbus_lens.1 "$(SHARE)/man/man1/toolbus_lens.1"
 	install -D -m 644 man/toolbus.5 "$(SHARE)/man/man5/toolbus.5"
 	install -D -m 644 completion/toolbus "$(SHARE)/bash-completion/completions/toolbus"
 	install -D -m 644 editors/vim/ftdetect/toolbus.vim "$(SHARE)/vim/vimfiles/ftdetect/toolbus.vim"
@@ -41,6 +46,7 @@ install:
 # Removes what make install has installed, with the same PREFIX and DESTDIR.
 uninstall:
 	rm -f "$(DESTDIR)$(PREFIX)/bin/toolbus" "$(SHARE)/man/man1/toolbus.1" "$(SHARE)/man/man5/toolbus.5"
+	rm -f "$(DESTDIR)$(PREFIX)/bin/toolbus_lens" "$(SHARE)/man/man1/toolbus_lens.1"
 	rm -f "$(SHARE)/bash-completion/completions/toolbus"
 	rm -f "$(SHARE)/vim/vimfiles/ftdetect/toolbus.vim" "$(SHARE)/vim/vimfiles/syntax/toolbus.vim"
 	rm -rf "$(SHARE)/toolbus" "$(SHARE)/doc/toolbus"

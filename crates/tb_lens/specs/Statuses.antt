@@ -1,0 +1,9 @@
+-- The number with which the program exits.
+use Rattle.std.specs.Prelude.{ℕ}
+use Rattle.tb_lens.specs.declared.status.Status.{Status}
+use Rattle.tb_lens.specs.declared.status.Status.TheVariants as status
+
+abbrev pub status_number : Status → ℕ
+status_number status.Fine = 0
+status_number status.Found = 1
+status_number status.Trouble = 2

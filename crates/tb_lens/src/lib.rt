@@ -1,0 +1,17 @@
+//! The whole of `toolbus_lens`, from the words of the command line on: a module for each command.
+#![tactic(auto)]
+
+mod feed;
+mod loading;
+mod naming;
+mod plain;
+mod program;
+mod put;
+mod source;
+mod status;
+
+pub use feed::tell_feed;
+pub use plain::tell_plain;
+pub use program::lens;
+pub use source::{Reading, Source};
+pub use status::{Status, Trouble};

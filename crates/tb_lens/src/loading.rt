@@ -1,0 +1,68 @@
+//! The files that commands read.
+
+use crate::naming::names_of;
+use crate::status::Trouble;
+use std::alloc::Global;
+use tb_body::Program;
+use tb_edge::{Bytes, Files, FilesFault, Loaded};
+use tb_place::all_places;
+use tb_plain::Names;
+use tb_script::{ScriptFault, load};
+
+/// A longer file of a script is refused.
+const MOST_BYTES: usize = 1_048_576;
+
+/// A longer file of a log is refused.
+const MOST_LOG_BYTES: usize = 67_108_864;
+
+/// A script that was read.
+#[derive(Drop)]
+pub(crate) struct Loading {
+    pub program: Program,
+    pub names: Names,
+}
+
+/// Reads the script in the file of this name.
+pub(crate) fn load_script<F: Files>(
+    alloc: Global,
+    name: &str,
+    files: &mut F,
+) -> Result<Loading, Trouble> {
+    let bytes = load_bytes(alloc, name, MOST_BYTES, files)?;
+    match read_script(alloc, bytes.as_slice()) {
+        Ok(loading) => Ok(loading),
+        Err(ScriptFault::NoMemory) => Err(Trouble::NoMemory),
+        Err(_) => Err(Trouble::Script(String::from_str(alloc, name)?)),
+    }
+}
+
+/// A script with these bytes.
+fn read_script(alloc: Global, bytes: &[u8]) -> Result<Loading, ScriptFault> {
+    let program = load(alloc, bytes)?;
+    let places = all_places(alloc, bytes)?;
+    let names = names_of(alloc, bytes, &places)?;
+    Ok(Loading { program, names })
+}
+
+/// Reads the log in the file of this name.
+pub(crate) fn load_log<F: Files>(
+    alloc: Global,
+    name: &str,
+    files: &mut F,
+) -> Result<Bytes, Trouble> {
+    load_bytes(alloc, name, MOST_LOG_BYTES, files)
+}
+
+fn load_bytes<F: Files>(
+    alloc: Global,
+    name: &str,
+    most: usize,
+    files: &mut F,
+) -> Result<Bytes, Trouble> {
+    match files.load(alloc, name, most) {
+        Ok(Loaded::Bytes(bytes)) => Ok(bytes),
+        Ok(Loaded::TooLong(_)) => Err(Trouble::TooLong(String::from_str(alloc, name)?)),
+        Err(FilesFault::Failed) => Err(Trouble::File(String::from_str(alloc, name)?)),
+        Err(FilesFault::NoMemory) => Err(Trouble::NoMemory),
+    }
+}

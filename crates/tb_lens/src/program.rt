@@ -1,0 +1,126 @@
+//! What the words of the command line ask for.
+
+use crate::feed::tell_feed;
+use crate::plain::tell_plain;
+use crate::source::Source;
+use crate::status::{Status, Trouble};
+use clap::error::ErrorKind;
+use clap::{Arg, Command, Error};
+use std::alloc::{AllocError, Global};
+use tb_edge::{Failed, Files, Sink};
+
+/// Does what the words ask for, of which the first is the name of the program. What it tells goes to `out`; what
+/// keeps it from telling goes to `err`.
+pub fn lens<F: Files, I: Source, O: Sink, E: Sink>(
+    alloc: Global,
+    words: &[String],
+    files: &mut F,
+    input: &mut I,
+    out: &mut O,
+    err: &mut E,
+) -> Status {
+    match answer(alloc, words, files, input, out, err) {
+        Ok(status) => status,
+        Err(trouble) => report(&trouble, err),
+    }
+}
+
+/// The commands, as `clap` reads them.
+fn commands<'a>(alloc: Global) -> Result<Command<'a>, AllocError> {
+    Command::new(alloc, "toolbus_lens")
+        .version("1.0")
+        .about("Shows what a log says")
+        .subcommand_required(true)
+        .subcommand(plain_command(alloc)?)?
+        .subcommand(feed_command(alloc)?)
+}
+
+fn plain_command<'a>(alloc: Global) -> Result<Command<'a>, AllocError> {
+    let script = Arg::new(alloc, "SCRIPT")
+        .required(true)
+        .help("The file of a script");
+    Command::new(alloc, "plain")
+        .about("Reads a log from the standard input, and writes it for people")
+        .arg(script)
+}
+
+fn feed_command<'a>(alloc: Global) -> Result<Command<'a>, AllocError> {
+    let log = Arg::new(alloc, "LOG")
+        .required(true)
+        .help("The file of a log");
+    Command::new(alloc, "feed")
+        .about("Writes the feed that delivers again what came in")
+        .arg(log)
+}
+
+fn answer<F: Files, I: Source, O: Sink, E: Sink>(
+    alloc: Global,
+    words: &[String],
+    files: &mut F,
+    input: &mut I,
+    out: &mut O,
+    err: &mut E,
+) -> Result<Status, Trouble> {
+    let matches = match commands(alloc)?.try_get_matches_from(words) {
+        Ok(matches) => matches,
+        Err(error) => return tell_usage(alloc, &error, out, err),
+    };
+    match matches.subcommand() {
+        Some(("plain", asked)) => {
+            let script = asked.get_str("SCRIPT").unwrap_or("");
+            tell_plain(alloc, script, files, input, out)
+        }
+        Some(("feed", asked)) => {
+            tell_feed(alloc, asked.get_str("LOG").unwrap_or(""), files, out)
+        }
+        _ => Err(Trouble::NoMemory),
+    }
+}
+
+/// Tells the help or the version, or what is wrong with the words.
+fn tell_usage<O: Sink, E: Sink>(
+    alloc: Global,
+    error: &Error,
+    out: &mut O,
+    err: &mut E,
+) -> Result<Status, Trouble> {
+    if error.kind() == ErrorKind::OutOfMemory {
+        return Err(Trouble::NoMemory);
+    }
+    let text = format!(in alloc; "{error}")?;
+    if error.use_stderr() {
+        let _ = err.put(text.as_bytes());
+        return Ok(Status::Trouble);
+    }
+    match out.put(text.as_bytes()) {
+        Ok(()) => Ok(Status::Fine),
+        Err(Failed) => Err(Trouble::Out),
+    }
+}
+
+/// Puts the line of what failed. Nothing is to be done where that fails too.
+fn report<E: Sink>(trouble: &Trouble, err: &mut E) -> Status {
+    let _ = err.put(b"toolbus_lens: ");
+    let _ = match trouble {
+        Trouble::File(name) => put_named(b"can't read ", name.as_str(), err),
+        Trouble::TooLong(name) => put_named(b"too long: ", name.as_str(), err),
+        Trouble::Script(name) => {
+            put_named(
+                b"the script is rejected: see toolbus check ",
+                name.as_str(),
+                err,
+            )
+        }
+        Trouble::Input => err.put(b"can't read the standard input"),
+        Trouble::Out => err.put(b"can't write to the standard output"),
+        Trouble::NoMemory => err.put(b"out of memory"),
+    };
+    let _ = err.put(b"\n");
+    Status::Trouble
+}
+
+/// A text with a name behind it.
+fn put_named<E: Sink>(before: &[u8], name: &str, err: &mut E) -> Result<(), Failed> {
+    err.put(before)?;
+    err.put(name.as_bytes())
+}

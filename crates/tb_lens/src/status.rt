@@ -1,0 +1,80 @@
+//! How a call of the program ends.
+
+use std::alloc::{AllocError, AllocFailed};
+use tb_terms::NoMemory;
+
+/// How a call of the program ended.
+#[derive(Clone, Copy, Debug, PartialEq, Eq)]
+pub enum Status {
+    /// There was nothing to complain of.
+    Fine,
+    /// Something is wrong with what was looked at, and was said.
+    Found,
+    /// The words ask for nothing that can be done, or something failed.
+    Trouble,
+}
+
+impl Status {
+    ghost use Rattle.std.specs.Prelude.{◌≡◌};
+    ghost use Rattle.tb_lens.specs.Statuses.{status_number};
+
+    /// The exit status of the program.
+    pub fn number(&self) -> u8
+        ensures { result ≡ status_number self.now }
+    {
+        match self {
+            Status::Fine => 0,
+            Status::Found => 1,
+            Status::Trouble => 2,
+        }
+    }
+}
+
+/// Why a command can't be done.
+#[derive(Drop)]
+pub enum Trouble {
+    /// The file of this name could not be read.
+    File(String),
+    /// The file of this name is too long.
+    TooLong(String),
+    /// The script in the file of this name is rejected.
+    Script(String),
+    /// The standard input could not be read.
+    Input,
+    /// What was to be written could not be.
+    Out,
+    NoMemory,
+}
+
+impl From<NoMemory> for Trouble {
+    ghost use Rattle.std.specs.Prelude.{◌≡◌};
+    ghost use Rattle.tb_lens.specs.declared.status.Trouble.TheVariants.{NoMemory};
+
+    ghost from_gives = { λ _ trouble. trouble ≡ NoMemory };
+
+    fn from(_refused: NoMemory) -> Trouble {
+        Trouble::NoMemory
+    }
+}
+
+impl From<AllocError> for Trouble {
+    ghost use Rattle.std.specs.Prelude.{◌≡◌};
+    ghost use Rattle.tb_lens.specs.declared.status.Trouble.TheVariants.{NoMemory};
+
+    ghost from_gives = { λ _ trouble. trouble ≡ NoMemory };
+
+    fn from(_refused: AllocError) -> Trouble {
+        Trouble::NoMemory
+    }
+}
+
+impl<T: Drop> From<AllocFailed<T>> for Trouble {
+    ghost use Rattle.std.specs.Prelude.{◌≡◌};
+    ghost use Rattle.tb_lens.specs.declared.status.Trouble.TheVariants.{NoMemory};
+
+    ghost from_gives = { λ _ trouble. trouble ≡ NoMemory };
+
+    fn from(_refused: AllocFailed<T>) -> Trouble {
+        Trouble::NoMemory
+    }
+}

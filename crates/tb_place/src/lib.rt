@@ -1,0 +1,13 @@
+//! The places of a script: lines and columns of bytes, and where in the script each atom of a process stands.
+#![tactic(auto)]
+
+mod laws;
+mod mark;
+mod places;
+mod sites;
+mod spot;
+
+pub use laws::{atoms_come_from_their_places, columns_count_from_the_line};
+pub use mark::{Mark, mark_at};
+pub use places::{Places, ProcessPlace, all_places};
+pub use spot::{Spot, spot_at};

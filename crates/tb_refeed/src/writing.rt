@@ -1,0 +1,112 @@
+//! How the lines of a feed are written.
+
+ghost use Rattle.std.specs.Prelude.{◌≡◌, ◌++◌, ◌∷◌, [], ℕ, List, length, decimal, ◌+◌, ◌≤◌, IfOk, IfErr, OnOk, true};
+ghost use Rattle.std.specs.List.{All, flat_map};
+ghost use Rattle.tb_feed.specs.Feeds.{IsFeedOf};
+ghost use Rattle.tb_log.specs.LogText.{log_text};
+ghost use Rattle.tb_log.specs.Shapes.{InShape, IsInputInShape, IsLane};
+ghost use Rattle.tb_log.specs.declared.entry.Entry.{Entry};
+ghost use Rattle.tb_log_read.specs.Lines.{IsLog};
+ghost use Rattle.tb_refeed.specs.Feeding.{came_in, feed_line, feed_text, HasFault, IsTooLongAt};
+ghost use Rattle.tb_refeed.specs.Helpers.Writing.{IsCaused, are_short, entry_line, is_short, is_short_input};
+
+use crate::fault::RefeedFault;
+use std::alloc::Global;
+use tb_log::{Entry, Input, Reply, Seen, write_seen};
+use tb_log_read::read_log;
+use tb_terms::NoMemory;
+
+/// How many bytes a line of a tool has at most, in a feed as on a lane.
+const MOST_LINE: usize = 65_536;
+
+/// How many bytes the log writes around the words of an entry without a number of its own: `0`, a blank, and the newline.
+const AROUND: usize = 3;
+
+/// How many bytes stand before a tool's line in its words, but for the number of the lane.
+const BEFORE: usize = 6;
+
+/// Writes the feed that delivers again what came in by a log, given as its text: a line for each input, in order, whatever the
+/// bus replied. No feed says that no more ticks come, so this input is left out; a simulation delivers it behind its feed.
+pub fn refeed(alloc: Global, log: &[u8]) -> Result<Vec<u8>, RefeedFault>
+    ensures feed { IfOk result (λ feed. (entries : List Entry) × IsLog entries
+        × (log.now ≡ log_text entries) × IsFeedOf feed.items (came_in entries)) }
+    ensures text { (entries : List Entry) → IsLog entries → log.now ≡ log_text entries
+        → IfOk result (λ feed. feed.items ≡ feed_text (came_in entries)) }
+    ensures fault { IfErr result (HasFault log.now) }
+
+    // Nothing else keeps the feed from being written.
+    ensures only { (entries : List Entry) → IsLog entries → log.now ≡ log_text entries
+        → ((number : ℕ) → IsTooLongAt entries number → ⊥)
+        → IfErr result (λ fault. fault ≡ RefeedFault.NoMemory) }
+{
+    let entries = read_log(alloc, log)?;
+    write_feed(alloc, entries.as_slice())
+}
+
+/// Writes the lines of what came in by these entries.
+fn write_feed(alloc: Global, entries: &[Entry]) -> Result<Vec<u8>, RefeedFault>
+    requires { All InShape entries.now }
+    ensures text { IfOk result (λ feed. feed.items ≡ flat_map entry_line entries.now) }
+    ensures short { OnOk result (are_short entries.now ≡ true) }
+    ensures fault { IfErr result (IsCaused entries.now) }
+{
+    let mut feed = Vec::new(alloc);
+    let mut line = Vec::new(alloc);
+    for (index, entry) in entries.iter().enumerate() {
+        if !push_entry(entry, &mut line, &mut feed)? {
+            return Err(RefeedFault::TooLong(index as u64 + 1));
+        }
+    }
+    Ok(feed)
+}
+
+/// Appends the line of what came in by an entry, if anything did. Returns `false` where it is too long.
+fn push_entry(entry: &Entry, line: &mut Vec<u8>, feed: &mut Vec<u8>) -> Result<bool, NoMemory>
+    requires { InShape entry.now }
+    ensures short { IfOk result (λ short. short ≡ is_short entry.now) }
+    ensures text { IfOk result
+        (λ short. short ≡ true → feed.new.items ≡ feed.old.items ++ entry_line entry.now) }
+{
+    match entry {
+        Entry::Did(_) | Entry::Quiet | Entry::Gave(_, _) => Ok(true),
+        Entry::Fed(Input::NoTicks, _) => Ok(true),
+        Entry::Fed(input, _) => push_input(input, line, feed),
+    }
+}
+
+/// Appends the line of an input: that of the log, without a number. Returns `false` where it is too long.
+fn push_input(input: &Input, line: &mut Vec<u8>, feed: &mut Vec<u8>) -> Result<bool, NoMemory>
+    requires { IsInputInShape input.now }
+    ensures short { IfOk result (λ short. short ≡ is_short_input input.now) }
+    ensures text { IfOk result
+        (λ short. short ≡ true → feed.new.items ≡ feed.old.items ++ feed_line input.now) }
+{
+    line.clear();
+    write_seen(0, &Seen::Fed(input, Reply::Took), line)?;
+    if !is_within(input, line.len()) {
+        return Ok(false);
+    }
+    feed.extend_from_slice(&line.as_slice()[2..])?;
+    Ok(true)
+}
+
+/// Whether a line of so many bytes, as the log writes it, is that of an input that a feed can carry.
+fn is_within(input: &Input, bytes: usize) -> bool
+    requires shape { IsInputInShape input.now }
+    requires long { bytes ≡ length (feed_line input.now) + 2 }
+    ensures { result ≡ is_short_input input.now }
+{
+    match input {
+        Input::Line(lane, _) => bytes <= MOST_LINE + AROUND + BEFORE + number_len(*lane),
+        Input::Tick | Input::NoTicks | Input::Gone(_) | Input::Cut(_) => true,
+    }
+}
+
+/// How many digits the number of a lane has.
+fn number_len(lane: u8) -> usize
+    requires { IsLane lane }
+    ensures value { result ≡ length (decimal lane) }
+    ensures few { result ≤ 2 }
+{
+    if lane < 10 { 1 } else { 2 }
+}
