@@ -1,4 +1,4 @@
--- No words have the fault `NotBuilt`: every command and each of its options is built.
+-- No arguments have the error `NotBuilt`: every command and each of its options is built.
 use Rattle.std.proofs.Common.{◌≡◌, ◌≢◌, ◌+◌, ◌*◌, ◌&&◌, ℕ, Bool, true, false, if◌then◌else◌, nat_le, List, [], ◌∷◌, ◌++◌, length, get_or, slice_get, Option, Some, None, Result, Ok, Err, IfErr, ap, ◌∙◌}
 use Rattle.std.specs.Bool.{⊤}
 use Rattle.tb_terms.specs.Names.{is_text}
@@ -14,7 +14,7 @@ use Rattle.tb_cli.specs.Parts.{Part, AnOption, AWord, parts_of, name_of, len_of,
 use Rattle.tb_cli.specs.Table.{Setting, Form, Row, option_named, row_named, pair}
 use Rattle.tb_cli.specs.Words.{Answer, value_answer, most_times, once_more, setting_kind, operand_kind, checked_value, part_answer, and_then, parts_answer, whole_answer, form_answer, made, made_pair, asked_by, asked}
 
--- what comes isn't that fault, at any place
+-- the answer isn't that error, at any place
 abbrev IsBuilt : (A : Type 0) → Result A WordFault → Type 0
 IsBuilt A answer = (place : ℕ) → answer ≢ Err (fault.NotBuilt place)
 
@@ -101,12 +101,12 @@ asked_by-built : (row : Option Row) (words : List (List ℕ)) → IsBuilt Comman
 asked_by-built None words place e = absurd cc
 asked_by-built (Some row) words place e = made-built row (parts_of words) (form_answer row.form 2 (parts_of words)) (form-built row.form 2 (parts_of words)) place e
 
--- what all words ask for
+-- what all arguments request
 pub never_unbuilt : (words : List (List ℕ)) (place : ℕ) → asked words ≡ Err (fault.NotBuilt place) → ⊥
 never_unbuilt [] place e = absurd cc
 never_unbuilt (word ∷ words) place e = asked_by-built (row_named word) words place e
 
--- what is read of them: where memory doesn't run out, a fault is their own
+-- what is read of them: if memory doesn't run out, an error is their own
 pub read-built : (words : List (List ℕ)) (result : Result Command WordFault) → IfErr result (λ f. f ≢ fault.NoMemory → asked words ≡ Err f) → IsBuilt Command result
 read-built words (Ok command) told place e = absurd cc
 read-built words (Err f) told place e =
@@ -114,7 +114,7 @@ read-built words (Err f) told place e =
     let other : f ≢ fault.NoMemory = λ none. absurd cc in
     never_unbuilt words place (told other ∙ ap Err same)
 
--- the same of the words of a pair
+-- the same of the arguments of a pair
 
 made_pair-built : (parts : List Part) (answer : Answer) → IsBuilt ⊤ answer → IsBuilt PairCommand (made_pair parts answer)
 made_pair-built parts (Ok fine) built place e = absurd cc

@@ -1,10 +1,10 @@
--- What some words ask for, and the faults of others, worked out by hand: each rule once at least.
+-- The commands that some arguments request, and the errors of others, computed by hand: each rule at least once.
 use Rattle.std.proofs.Common.{◌≡◌, ℕ, zero, suc, List, [], ◌∷◌, replicate, Some, None, Ok, Err, codes, refl}
 use Rattle.tb_cli.specs.declared.command.Command.TheVariants.{Check, Sim, Run, Verify, Iface, Ring}
 use Rattle.tb_cli.specs.declared.fault.WordFault.TheVariants.{NoCommand, Unknown, Missing, Extra, Number, Range}
 use Rattle.tb_cli.specs.Words.{asked}
 
--- no words
+-- no arguments
 nothing_asked : asked [] ≡ Err NoCommand
 nothing_asked = refl
 
@@ -24,11 +24,11 @@ steps_first = refl
 steps_last : asked (codes "sim" ∷ codes "a.tb" ∷ codes "--steps" ∷ codes "007" ∷ []) ≡ Ok (Sim (codes "a.tb") None [] 7 1000000)
 steps_last = refl
 
--- an empty word is a script's name
+-- an empty argument is a script's name
 empty_name : asked (codes "check" ∷ [] ∷ []) ≡ Ok (Check [])
 empty_name = refl
 
--- a word that is no command
+-- an argument that is no command
 other_asked : asked (codes "simulate" ∷ codes "a.tb" ∷ []) ≡ Err (Unknown 1)
 other_asked = refl
 
@@ -67,7 +67,7 @@ both_limits = refl
 check_events : asked (codes "check" ∷ codes "a.tb" ∷ codes "--events" ∷ codes "6" ∷ []) ≡ Err (Unknown 3)
 check_events = refl
 
--- the feed's name, once, and whatever word comes next, unless it is no string
+-- the feed's name, once, and whatever argument comes next, unless it is no string
 fed_asked : asked (codes "sim" ∷ codes "--feed" ∷ codes "--steps" ∷ codes "a.tb" ∷ []) ≡ Ok (Sim (codes "a.tb") (Some (codes "--steps")) [] 1000000 1000000)
 fed_asked = refl
 
@@ -83,7 +83,7 @@ feed_odd = refl
 check_feed : asked (codes "check" ∷ codes "a.tb" ∷ codes "--feed" ∷ codes "f" ∷ []) ≡ Err (Unknown 3)
 check_feed = refl
 
--- commands to connect, in order, each whatever word comes next, unless it is no string
+-- commands to connect, in order, each whatever argument comes next, unless it is no string
 two_connected : asked (codes "sim" ∷ codes "--connect" ∷ codes "k" ∷ codes "a.tb" ∷ codes "--connect" ∷ codes "--feed" ∷ []) ≡ Ok (Sim (codes "a.tb") None (codes "k" ∷ codes "--feed" ∷ []) 1000000 1000000)
 two_connected = refl
 
@@ -104,7 +104,7 @@ abbrev connecting : ℕ → List (List ℕ) → List (List ℕ)
 connecting zero words = words
 connecting (suc n) words = codes "--connect" ∷ codes "k" ∷ connecting n words
 
--- one past the most, told at the option before its value
+-- one past the most, reported at the option before its value
 most_connected : asked (codes "sim" ∷ codes "a.tb" ∷ connecting 16 []) ≡ Ok (Sim (codes "a.tb") None (replicate 16 (codes "k")) 1000000 1000000)
 most_connected = refl
 
@@ -115,7 +115,7 @@ one_more_connected = refl
 steps_twice : asked (codes "sim" ∷ codes "--steps" ∷ codes "5" ∷ codes "--steps" ∷ []) ≡ Err (Extra 4)
 steps_twice = refl
 
--- a value that lacks, and one that is the next word, whatever it is
+-- a missing value, and one that is the next argument, whatever it is
 no_value : asked (codes "sim" ∷ codes "a.tb" ∷ codes "--steps" ∷ []) ≡ Err Missing
 no_value = refl
 
@@ -155,7 +155,7 @@ range_then_unknown = refl
 unknown_then_range : asked (codes "sim" ∷ codes "--tick" ∷ codes "--steps" ∷ codes "0" ∷ []) ≡ Err (Unknown 2)
 unknown_then_range = refl
 
--- an option's name is its whole word, and an option is told from an operand by its first two bytes
+-- an option's name is its whole argument, and its first two bytes distinguish an option from an operand
 near_option : asked (codes "sim" ∷ codes "--Steps" ∷ codes "5" ∷ codes "a.tb" ∷ []) ≡ Err (Unknown 2)
 near_option = refl
 
@@ -168,7 +168,7 @@ two_hyphens = refl
 one_hyphen : asked (codes "check" ∷ codes "-x" ∷ []) ≡ Ok (Check (codes "-x"))
 one_hyphen = refl
 
--- an unknown option behind the operand is told as such, and one word more in front of it first
+-- an unknown option after the operand is reported as such, but if an argument too many comes before it, that one is reported
 unknown_behind : asked (codes "check" ∷ codes "a.tb" ∷ codes "--foo" ∷ codes "b.tb" ∷ []) ≡ Err (Unknown 3)
 unknown_behind = refl
 
@@ -208,7 +208,7 @@ ticks_twice = refl
 run_extra : asked (codes "run" ∷ codes "a.tb" ∷ codes "b.tb" ∷ []) ≡ Err (Extra 3)
 run_extra = refl
 
--- each limit that isn't given is the usual one
+-- each limit that isn't given is the default
 run_usual_events : asked (codes "run" ∷ codes "--ticks" ∷ codes "0" ∷ codes "a.tb" ∷ codes "--connect" ∷ codes "k" ∷ []) ≡ Ok (Run (codes "a.tb") (codes "k" ∷ []) 0 1000000)
 run_usual_events = refl
 
@@ -246,7 +246,7 @@ one_process = refl
 many_processes : asked (codes "ring" ∷ codes "10001" ∷ codes "1" ∷ []) ≡ Err (Range 2)
 many_processes = refl
 
--- 0 rounds, and a product past the most, are told at the second number
+-- 0 rounds, and a product past the most, are reported at the second number
 no_rounds : asked (codes "ring" ∷ codes "2" ∷ codes "0" ∷ []) ≡ Err (Range 3)
 no_rounds = refl
 

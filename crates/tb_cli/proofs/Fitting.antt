@@ -1,4 +1,4 @@
--- The values of words without a fault are what they should be.
+-- The values of arguments without an error are what they should be.
 use Rattle.std.proofs.Common.{◌≡◌, ◌≤◌, ◌<◌, ◌&&◌, ◌*◌, ◌+◌, ℕ, zero, suc, Bool, true, false, if◌then◌else◌, nat_le, bytes_eq, List, [], ◌∷◌, ◌++◌, length, get_or, slice_get, take, Option, Some, None, IsTrue, Result, Ok, Err, refl, sym, ap, subst, ◌∙◌, ◌⊎◌, inl, inr, ◌^◌, ◌-◌, min, arith}
 use Rattle.std.proofs.lemmas.Bool.{and_parts, leb-true, leb-false}
 use Rattle.std.proofs.lemmas.List.{append-nil, append_assoc, length-append}
@@ -81,7 +81,7 @@ setting-known (Some option) times position kind e = by (nat_le (most_times optio
       let same : option.kind ≡ kind = cc in
       record { option = option; is = refl; same = same; few = subst (λ (k : Kind). times < most_times k) same (leb-false (most_times option.kind) times full) }
 
--- parts without a fault
+-- parts without an error
 
 pub record Fine (form : Form) (parts : List Part) : Type 0 where
   pub option : (option : Setting) → option_named form.options option.name ≡ Some option → OptionFits option parts
@@ -193,7 +193,7 @@ enough-operands form parts e = by (nat_le (length form.operands) (length (operan
   by true is h = leb-true (length form.operands) (length (operands_of parts)) is
   by false is h = absurd cc
 
--- Words without a fault give what their form needs.
+-- Arguments without an error give what their form needs.
 pub form-fits : (form : Form) (first : ℕ) (parts : List Part) → form_answer form first parts ≡ Ok tt → FormFits form parts
 form-fits form first parts e =
     let fines = both-fine (parts_answer form [] first parts) (whole_answer form parts) e in
@@ -231,7 +231,7 @@ number-is kind.Command value number fit = absurd number
 number-is (Factor most) value number fit = absurd number
 number-is (Number least most) value number fit = (omega (arith, number, fit.1), fit)
 
--- a number that was told up to the greatest of 64 bits
+-- a number that is cut off at the greatest of 64 bits
 pub number-told : (n : ℕ) (value : List ℕ) → n ≡ min (digits_value value) (2 ^ 64 - 1) → digits_value value < 2 ^ 32 → n ≡ digits_value value
 number-told n value told small = told ∙ min-eq_left (omega (arith, small))
 

@@ -1,4 +1,4 @@
--- What some words of a pair ask for, and the faults of others, worked out by hand: each rule once at least.
+-- The pairs that some arguments request, and the errors of others, computed by hand: each rule at least once.
 use Rattle.std.proofs.Common.{◌≡◌, ℕ, [], ◌∷◌, Ok, Err, codes, refl}
 use Rattle.tb_cli.specs.declared.pair_command.PairCommand.{PairCommand}
 use Rattle.tb_cli.specs.declared.fault.WordFault.TheVariants.{NoCommand, Unknown, Missing, Extra, Number, Range}
@@ -7,7 +7,7 @@ use Rattle.tb_cli.specs.Words.{asked_pair}
 abbrev both : ℕ → ℕ → PairCommand
 both ticks events = record { first = codes "a.tb"; second = codes "b.tb"; ticks = ticks; events = events }
 
--- no words
+-- no arguments
 nothing_asked : asked_pair [] ≡ Err NoCommand
 nothing_asked = refl
 
@@ -15,7 +15,7 @@ nothing_asked = refl
 two_asked : asked_pair (codes "a.tb" ∷ codes "b.tb" ∷ []) ≡ Ok (both 36000 1000000)
 two_asked = refl
 
--- options in front of them, between them, and behind them
+-- options before them, between them, and after them
 options_anywhere : asked_pair (codes "--events" ∷ codes "7" ∷ codes "a.tb" ∷ codes "--ticks" ∷ codes "0" ∷ codes "b.tb" ∷ []) ≡ Ok (both 0 7)
 options_anywhere = refl
 
@@ -33,14 +33,14 @@ option_alone = refl
 no_value : asked_pair (codes "a.tb" ∷ codes "b.tb" ∷ codes "--ticks" ∷ []) ≡ Err Missing
 no_value = refl
 
--- there is no command: the first word is a script, whatever command it would be
+-- there is no command: the first argument is a script, whatever command it would be
 command_is_a_script : asked_pair (codes "run" ∷ codes "a.tb" ∷ codes "b.tb" ∷ []) ≡ Err (Extra 3)
 command_is_a_script = refl
 
 empty_names : asked_pair ([] ∷ [] ∷ []) ≡ Ok (record { first = []; second = []; ticks = 36000; events = 1000000 })
 empty_names = refl
 
--- one word more, behind an option too
+-- one argument more, after an option too
 three_scripts : asked_pair (codes "a.tb" ∷ codes "b.tb" ∷ codes "--ticks" ∷ codes "5" ∷ codes "c.tb" ∷ []) ≡ Err (Extra 5)
 three_scripts = refl
 
@@ -61,7 +61,7 @@ first_odd = refl
 second_odd : asked_pair (codes "a.tb" ∷ (11 ∷ []) ∷ []) ≡ Err (Unknown 2)
 second_odd = refl
 
--- a value is the next word, whatever it is
+-- a value is the next argument, whatever it is
 option_as_value : asked_pair (codes "--ticks" ∷ codes "--events" ∷ codes "5" ∷ []) ≡ Err (Number 2)
 option_as_value = refl
 

@@ -1,4 +1,4 @@
--- The numbers of a command that words ask for are within their ranges.
+-- The numbers of a command that arguments request are within their ranges.
 use Rattle.std.proofs.Common.{◌≡◌, ℕ, List, [], ◌∷◌, Option, Some, None, Ok, Err, slice_get, refl, subst, arith}
 use Rattle.tb_cli.specs.declared.command.Command.{Command}
 use Rattle.tb_cli.specs.declared.pair_command.PairCommand.{PairCommand}
@@ -11,7 +11,7 @@ use Rattle.tb_cli.specs.Helpers.Fitting.{AllFit, IsIn, IsNumber, FormFits, row_b
 use Rattle.tb_cli.proofs.Fitting.{number-at, ring-numbers, form-fits}
 use Rattle.tb_cli.proofs.Rows.{row-by}
 
--- The number of an option is the first that is given, or the usual one.
+-- The number of an option is the first that is given, or the default.
 first-in : (option : Setting) (values : List (List ℕ)) → IsNumber option.kind → IsIn option.kind option.usual → AllFit option.kind [] values → IsIn option.kind (number_or option.usual (slice_get values 0))
 first-in option [] number usual all = usual
 first-in option (value ∷ values) number usual all = (number-at option.kind (value ∷ values) value number all refl).1
@@ -49,7 +49,7 @@ pub asked-within : (words : List (List ℕ)) (command : Command) → asked words
 asked-within [] command e = absurd cc
 asked-within (word ∷ words) command e = found-within (row_named word) words command (row-by word) e
 
--- the same of the words of a pair
+-- the same of the arguments of a pair
 
 pub pair-within : (parts : List Part) → FormFits pair parts → IsPairWithin (make_pair parts)
 pair-within parts fits = (

@@ -1,4 +1,4 @@
--- Definitions that proofs and private functions need, and that nobody has to believe.
+-- Definitions that proofs and private functions need. Nobody has to trust them.
 pub mod Tables
 pub mod Scanning
 pub mod Fitting

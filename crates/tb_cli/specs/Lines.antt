@@ -1,4 +1,4 @@
--- The text of the line of a fault of the words, at its word.
+-- The text of the line of an error in the arguments, at its argument.
 use Rattle.std.specs.Prelude.{ℕ, List, ◌++◌, codes}
 use Rattle.std.specs.Fmt.{decimal}
 use Rattle.tb_cli.specs.declared.fault.WordFault.{WordFault}

@@ -1,17 +1,17 @@
--- How the words behind the first fall into parts, and which values the parts give.
+-- How the arguments after the first are split into parts, and the values of the parts.
 use Rattle.std.specs.Prelude.{ℕ, Bool, if◌then◌else◌, List, [], ◌∷◌, Option, Some, None, option_to_list, codes, bytes_eq, nat_eq}
 use Rattle.std.specs.List.{starts_with, flat_map}
 
 pub data Part : Type 0 where
-  -- an option by its name, with its value, the word that comes next, where there is one
+  -- an option by its name, with its value, the next argument, if there is one
   AnOption : List ℕ → Option (List ℕ) → Part
-  -- any other word: an operand
+  -- any other argument: an operand
   AWord : List ℕ → Part
 
 abbrev pub is_option : List ℕ → Bool
 is_option word = starts_with nat_eq word (codes "--")
 
--- An option's value is the next word, whatever it is.
+-- An option's value is the next argument, whatever it is.
 abbrev pub parts_of : List (List ℕ) → List Part
 parts_of [] = []
 parts_of (word ∷ []) =
@@ -21,24 +21,24 @@ parts_of (word ∷ next ∷ words) =
     if is_option word then AnOption word (Some next) ∷ parts_of words
     else AWord word ∷ parts_of (next ∷ words)
 
--- the name under which a part gives its value: operands have none
+-- the name of a part's value: operands have none
 abbrev pub name_of : Part → Option (List ℕ)
 name_of (AnOption name value) = Some name
 name_of (AWord word) = None
 
--- how many words it has, where its value is there
+-- the number of its arguments, if its value is there
 abbrev pub len_of : Part → ℕ
 len_of (AnOption name value) = 2
 len_of (AWord word) = 1
 
--- the value that a part gives under this name
+-- the value of a part under this name
 abbrev pub given_by : Option (List ℕ) → Part → List (List ℕ)
 given_by None (AWord word) = word ∷ []
 given_by None (AnOption name value) = []
 given_by (Some name) (AWord word) = []
 given_by (Some name) (AnOption other value) = if bytes_eq other name then option_to_list value else []
 
--- the values that parts give under this name, in order
+-- the values of parts under this name, in order
 abbrev pub given : Option (List ℕ) → List Part → List (List ℕ)
 given name parts = flat_map (given_by name) parts
 

@@ -1,4 +1,4 @@
--- The commands: each has a row, which says how its words are read, and one way in which it is made of the values that they give. The words of a pair have no command, and are read in a form of their own.
+-- The commands. Each has a row, which says how its arguments are read, and one way in which it is made of their values. The arguments of a pair have no command and a form of their own.
 use Rattle.std.specs.Prelude.{ℕ, List, [], ◌∷◌, Option, Some, None, find, get_or, slice_get, codes, bytes_eq, length, ◌≤◌, ◌*◌, ⊤}
 use Rattle.tb_read.specs.Spelling.{digits_value}
 use Rattle.tb_cli.specs.declared.command.Command.{Command}
@@ -11,18 +11,18 @@ use Rattle.tb_cli.specs.declared.table.Kind.TheVariants.{File, Number, Factor}
 use Rattle.tb_cli.specs.declared.table.Kind.TheVariants as kind
 use Rattle.tb_cli.specs.Parts.{Part, given, operands_of}
 
--- an option: its name, what its value is, and where that is a number, which one it is where the option isn't given
+-- an option: its name, the kind of its value, and the default if the value is a number
 pub record Setting : Type 0 where
   pub name : List ℕ
   pub kind : Kind
   pub usual : ℕ
 
--- how words are read: what their operands are, and their options
+-- how arguments are read: the kinds of their operands, and their options
 pub record Form : Type 0 where
   pub operands : List Kind
   pub options : List Setting
 
--- a command: its first word, and how the words behind it are read
+-- a command: its first argument, and how the arguments after it are read
 pub record Row : Type 0 where
   pub verb : Verb
   pub word : List ℕ
@@ -66,7 +66,7 @@ iface = record { verb = verb.Iface; word = codes "iface"; form = record { operan
 abbrev pub ring : Row
 ring = record { verb = verb.Ring; word = codes "ring"; form = record { operands = Number 2 10000 ∷ Factor 1000000 ∷ []; options = [] } }
 
--- the words of a pair: two scripts, and the limits of `run`
+-- the arguments of a pair: two scripts, and the limits of `run`
 abbrev pub pair : Form
 pair = record { operands = File ∷ File ∷ []; options = ticks ∷ events ∷ [] }
 
@@ -79,7 +79,7 @@ row_named word = find (λ (row : Row). bytes_eq row.word word) table
 abbrev pub option_named : List Setting → List ℕ → Option Setting
 option_named options name = find (λ (option : Setting). bytes_eq option.name name) options
 
--- what parts give
+-- the values of parts
 
 abbrev pub operand : ℕ → List Part → List ℕ
 operand place parts = get_or (operands_of parts) place []
@@ -100,7 +100,7 @@ number_or usual (Some digits) = digits_value digits
 abbrev pub number_of : Setting → List Part → ℕ
 number_of option parts = number_or option.usual (slice_get (given (Some option.name) parts) 0)
 
--- each command of what was given
+-- each command of its values
 abbrev pub make : Verb → List Part → Command
 make verb.Check parts = command.Check (operand 0 parts)
 make verb.Sim parts = command.Sim (operand 0 parts) (file_of feed parts) (commands_of connect parts) (number_of steps parts) (number_of events parts)
@@ -109,15 +109,15 @@ make verb.Verify parts = command.Verify (operand 0 parts) (operand 1 parts) (com
 make verb.Iface parts = command.Iface (operand 0 parts) (operand 1 parts)
 make verb.Ring parts = command.Ring (digits_value (operand 0 parts)) (digits_value (operand 1 parts))
 
--- a pair of what was given
+-- a pair of its values
 abbrev pub make_pair : List Part → PairCommand
 make_pair parts = record { first = operand 0 parts; second = operand 1 parts; ticks = number_of ticks parts; events = number_of events parts }
 
--- so many commands may be connected: one on each lane
+-- the greatest number of commands to connect: one on each lane
 abbrev pub most_connects : ℕ
 most_connects = 16
 
--- The numbers of a command that was asked for are in their ranges, and there are no more commands to connect than lanes.
+-- The numbers of a requested command are in their ranges, and there are no more commands to connect than lanes.
 abbrev pub IsWithin : Command → Type 0
 IsWithin (command.Check script) = ⊤
 IsWithin (command.Sim script file commands step_limit event_limit) = (length commands ≤ most_connects) × ((1 ≤ step_limit) × (step_limit ≤ 4000000)) × ((1 ≤ event_limit) × (event_limit ≤ 4000000))

@@ -1,4 +1,4 @@
--- What the words of the command line ask for, or which fault they have; and what the words of a pair ask for, which have no command. Words are read from the left, and the first fault ends the reading; their positions count from 1.
+-- The command that the arguments of the command line request, or their error; and the same for the arguments of a pair, which have no command. Arguments are read from the left, and the first error ends the reading; their positions count from 1.
 use Rattle.std.specs.Prelude.{ℕ, ◌+◌, ◌*◌, Bool, ◌&&◌, if◌then◌else◌, List, [], ◌∷◌, ◌++◌, length, get_or, slice_get, Option, Some, None, Result, Ok, Err, ⊤, nat_le}
 use Rattle.tb_terms.specs.Names.{is_text}
 use Rattle.tb_read.specs.Spelling.{is_digits, digits_value}
@@ -12,13 +12,13 @@ use Rattle.tb_cli.specs.declared.table.Kind.TheVariants as kind
 use Rattle.tb_cli.specs.Parts.{Part, AnOption, AWord, parts_of, name_of, len_of, given, operands_of}
 use Rattle.tb_cli.specs.Table.{Setting, Form, Row, most_connects, option_named, row_named, make, make_pair, pair}
 
--- Nothing is wrong with a part, or it has a fault.
+-- Nothing is wrong with a part, or it has an error.
 abbrev pub Answer : Type 0
 Answer = Result ⊤ WordFault
 
 -- the value of an operand or an option
 
--- A file's name and a command are strings: each byte is one that a string may have, and words are well-formed already.
+-- A file's name and a command are strings: each byte is one that a string may have. Arguments are well-formed already.
 abbrev pub text_answer : ℕ → List ℕ → Answer
 text_answer position word = if is_text word then Ok tt else Err (fault.Unknown position)
 
@@ -28,7 +28,7 @@ number_answer in_range position word =
     if is_digits word then (if in_range then Ok tt else Err (fault.Range position))
     else Err (fault.Number position)
 
--- The value at this position, where the first that was given under the same name is this: a factor is multiplied by it.
+-- The value at this position. The first value under the same name is this: a factor is multiplied by it.
 abbrev pub value_answer : Kind → List ℕ → ℕ → List ℕ → Answer
 value_answer File first position word = text_answer position word
 value_answer kind.Command first position word = text_answer position word
@@ -46,7 +46,7 @@ most_times File = 1
 most_times (Number least most) = 1
 most_times (Factor most) = 1
 
--- the fault of an option at this position that was given as often as it may be
+-- the error of an option at this position that was already given as often as it may be
 abbrev pub once_more : Kind → ℕ → WordFault
 once_more kind.Command position = fault.Range position
 once_more File position = fault.Extra position
@@ -59,20 +59,20 @@ setting_kind None times position = Err (fault.Unknown position)
 setting_kind (Some option) times position =
     if nat_le (most_times option.kind) times then Err (once_more option.kind position) else Ok option.kind
 
--- a word at this position that is no option
+-- an argument at this position that is no option
 abbrev pub operand_kind : Option Kind → ℕ → Result Kind WordFault
 operand_kind None position = Err (fault.Extra position)
 operand_kind (Some kind) position = Ok kind
 
 -- parts
 
--- A value that lacks is told where nothing else is wrong with its option.
+-- A missing value is reported if nothing else is wrong with its option.
 abbrev pub checked_value : Result Kind WordFault → List ℕ → ℕ → Option (List ℕ) → Answer
 checked_value (Err f) first position value = Err f
 checked_value (Ok kind) first position None = Err fault.Missing
 checked_value (Ok kind) first position (Some value) = value_answer kind first position value
 
--- the part at this position, behind the values that were given before under its name
+-- the part at this position, after the values that were given before under its name
 abbrev pub part_answer : Form → List (List ℕ) → ℕ → Part → Answer
 part_answer form before position (AWord word) =
     checked_value (operand_kind (slice_get form.operands (length before)) position) (get_or before 0 []) position (Some word)
@@ -83,23 +83,23 @@ abbrev pub and_then : Answer → Answer → Answer
 and_then (Ok fine) next = next
 and_then (Err f) next = Err f
 
--- parts behind others, of which the first stands at this position
+-- parts after others, of which the first is at this position
 abbrev pub parts_answer : Form → List Part → ℕ → List Part → Answer
 parts_answer form before position [] = Ok tt
 parts_answer form before position (part ∷ parts) =
     and_then (part_answer form (given (name_of part) before) position part) (parts_answer form (before ++ part ∷ []) (position + len_of part) parts)
 
--- At the end of the words all operands must be there.
+-- At the end of the arguments, all operands must be there.
 abbrev pub whole_answer : Form → List Part → Answer
 whole_answer form parts =
     if nat_le (length form.operands) (length (operands_of parts)) then Ok tt
     else Err fault.Missing
 
--- all parts, of which the first stands at this position, and then their end
+-- all parts, of which the first is at this position, and then their end
 abbrev pub form_answer : Form → ℕ → List Part → Answer
 form_answer form first parts = and_then (parts_answer form [] first parts) (whole_answer form parts)
 
--- commands: their words stand behind the first
+-- commands: their arguments follow the first
 
 abbrev pub made : Row → List Part → Answer → Result Command WordFault
 made row parts (Ok fine) = Ok (make row.verb parts)
@@ -109,18 +109,18 @@ abbrev pub asked_by : Option Row → List (List ℕ) → Result Command WordFaul
 asked_by None words = Err (fault.Unknown 1)
 asked_by (Some row) words = made row (parts_of words) (form_answer row.form 2 (parts_of words))
 
--- what all words ask for, or their fault
+-- the command that all arguments request, or their error
 abbrev pub asked : List (List ℕ) → Result Command WordFault
 asked [] = Err fault.NoCommand
 asked (word ∷ words) = asked_by (row_named word) words
 
--- a pair: its words are all
+-- a pair: its arguments are all
 
 abbrev pub made_pair : List Part → Answer → Result PairCommand WordFault
 made_pair parts (Ok fine) = Ok (make_pair parts)
 made_pair parts (Err f) = Err f
 
--- what all words of a pair ask for, or their fault
+-- the pair that all arguments of a pair request, or their error
 abbrev pub asked_pair : List (List ℕ) → Result PairCommand WordFault
 asked_pair [] = Err fault.NoCommand
 asked_pair (word ∷ words) = made_pair (parts_of (word ∷ words)) (form_answer pair 1 (parts_of (word ∷ words)))

@@ -1,5 +1,4 @@
-//! The commands: what each asks for, the row that says how its words are read, and how it is made of the values that
-//! they give.
+//! The commands: the request of each, the row that says how its arguments are read, and how a command is made of their values.
 
 ghost use Rattle.std.specs.Prelude.{◌≡◌, map, option_map, option_copied, string_bytes, IfOk};
 ghost use Rattle.tb_cli.specs.Parts.{parts_of};
@@ -12,15 +11,15 @@ use crate::values::{operand_number, operand_text, option_commands, option_file, 
 use std::alloc::Global;
 use tb_terms::{NoMemory, Text, Texts};
 
-/// What the words of the command line ask for.
+/// The command that the arguments of the command line request.
 #[derive(Debug, Drop)]
 pub enum Command {
     /// Whether the script in the file of this name is accepted.
     Check {
         script: Text,
     },
-    /// The log of the simulation of that script and of the feed in the file of this name, or of an empty one,
-    /// with these commands connected; it makes so many steps at most, and logs so many entries at most.
+    /// The log of the simulation of that script and of the feed in the file of this name, or of an empty feed. These commands are
+    /// connected. The simulation makes at most so many steps, and logs at most so many entries.
     Sim {
         script: Text,
         feed: Option<Text>,
@@ -28,8 +27,8 @@ pub enum Command {
         steps: u64,
         events: u32,
     },
-    /// The log of a run of that script with live tools, with these commands connected; the clock ticks so many times
-    /// at most, and so many entries are logged at most.
+    /// The log of a run of that script with live tools. These commands are connected. The clock ticks at most so many times, and at
+    /// most so many entries are logged.
     Run {
         script: Text,
         connects: Texts,
@@ -42,8 +41,8 @@ pub enum Command {
         log: Text,
         connects: Texts,
     },
-    /// The interface of the tool of this name in that script: what the tool may receive and send. Any string is taken
-    /// for a name here.
+    /// The interface of the tool of this name in that script: the lines that the tool may receive and send. Any string is accepted
+    /// as a name here.
     Iface {
         script: Text,
         tool: Text,
@@ -156,14 +155,14 @@ const RING: Row = Row {
 
 static TABLE: [Row; 6] = [CHECK, SIM, RUN, VERIFY, IFACE, RING];
 
-/// The row of the command with this first word.
+/// The row of the command with this first argument.
 pub(crate) fn row_named(word: &str) -> Option<&'static Row>
     ensures { option_map row_of (option_copied result) ≡ row_named word.now }
 {
     find_row(&TABLE, word)
 }
 
-/// The command of this row, of the words behind the first.
+/// Makes the command of this row, from the arguments after the first.
 pub(crate) fn make_command(alloc: Global, verb: Verb, words: &[String]) -> Result<Command, NoMemory>
     requires { FormFits (row_by verb).form (parts_of (map string_bytes words.now)) }
     ensures is { IfOk result

@@ -4,26 +4,26 @@ ghost use Rattle.tb_cli.specs.Lines.{word_line};
 
 use tb_line::Line;
 
-/// Why the words of the command line were refused. Positions count from 1.
+/// Why the arguments of the command line were rejected. Positions count from 1.
 #[derive(Clone, Copy, Debug, PartialEq, Eq)]
 pub enum WordFault {
-    /// There were no words.
+    /// There were no arguments.
     NoCommand,
-    /// The word at this position is no command, no option of its command, or the name of a file or of a tool, or a
-    /// command to connect, that is no string.
+    /// The argument at this position is no command, no option of its command, or isn't a string though it is the name of a file or of a
+    /// tool, or a command to connect.
     Unknown(usize),
-    /// An operand lacks, or the value of an option.
+    /// An operand is missing, or the value of an option.
     Missing,
-    /// The option at this position was given before, or the word there is one more than the command's operands.
+    /// The option at this position was given before, or the argument there is one more than the command's operands.
     Extra(usize),
-    /// The word at this position is no number.
+    /// The argument at this position is no number.
     Number(usize),
     /// The number at this position is out of its range, or the option there is the seventeenth `--connect`.
     Range(usize),
-    /// There wasn't memory enough; it says nothing of the words.
+    /// Out of memory. This says nothing of the arguments.
     NoMemory,
-    /// The word at this position names a command or an option that a later version builds. It never comes:
-    /// every command and each of its options is built.
+    /// The argument at this position names a command or an option that a later version builds. It never comes: every command and each
+    /// of its options is built.
     NotBuilt(usize),
 }
 

@@ -1,4 +1,4 @@
-//! What the words of a pair ask for, and how they are read.
+//! The pair that arguments request, and how they are read.
 
 ghost use Rattle.std.specs.Prelude.{◌≡◌, map, string_bytes, IfOk};
 ghost use Rattle.tb_cli.specs.Parts.{parts_of};
@@ -11,16 +11,16 @@ use crate::values::{operand_text, option_number};
 use std::alloc::Global;
 use tb_terms::{NoMemory, Text};
 
-/// What the words of a pair ask for.
+/// The pair that arguments request.
 #[derive(Drop)]
 pub struct PairCommand {
     /// The name of the file that has the script of the first bus.
     pub first: Text,
     /// The name of the file that has the script of the second bus.
     pub second: Text,
-    /// The clock ticks so many times at most.
+    /// The greatest number of ticks.
     pub ticks: u64,
-    /// Each of the two logs has so many entries at most.
+    /// The greatest number of entries of each of the two logs.
     pub events: u32,
 }
 
@@ -29,7 +29,7 @@ pub(crate) static PAIR: Form = Form {
     options: &[TICKS, EVENTS],
 };
 
-/// What words ask for that have no fault.
+/// The pair of arguments without an error.
 pub(crate) fn make_pair(alloc: Global, words: &[String]) -> Result<PairCommand, NoMemory>
     requires { FormFits pair (parts_of (map string_bytes words.now)) }
     ensures is { IfOk result

@@ -1,4 +1,4 @@
-//! How the words of the command line are read, and those of a pair.
+//! How the arguments of the command line are read, and those of a pair.
 
 ghost use Rattle.std.specs.Prelude.{◌≡◌, ◌≢◌, ℕ, ◌+◌, ◌≤◌, ◌<◌, ◌^◌, ◌&&◌, ◌*◌, [], length, map, slice_get, nat_le, string_bytes, option_map, option_copied, Ok, IsOk, IfOk, IfErr, OnOk, Err, Some};
 ghost use Rattle.tb_read.specs.Spelling.{is_digits, digits_value};
@@ -19,10 +19,10 @@ use std::alloc::Global;
 use tb_read::digits_value;
 use tb_terms::NoMemory;
 
-/// So many commands may be connected.
+/// The greatest number of commands to connect.
 const MOST_CONNECTS: usize = 16;
 
-/// What the words of the command line ask for.
+/// Returns the command that the arguments request.
 pub fn read_words(alloc: Global, words: &Vec<String>) -> Result<Command, WordFault>
     ensures ok { IfOk result (λ command. asked (map string_bytes words.now.items) ≡ Ok command) }
     ensures fault { IfErr result (λ fault. fault ≢ WordFault.NoMemory
@@ -31,7 +31,7 @@ pub fn read_words(alloc: Global, words: &Vec<String>) -> Result<Command, WordFau
     // The command's numbers are in their ranges.
     ensures within { IfOk result IsWithin }
 
-    // A fault of the words is told whether or not there is memory.
+    // An error in the arguments is reported with and without memory.
     ensures memory { result ≡ Err WordFault.NoMemory
         → IsOk (asked (map string_bytes words.now.items)) }
 
@@ -48,7 +48,7 @@ pub fn read_words(alloc: Global, words: &Vec<String>) -> Result<Command, WordFau
     read_row(alloc, row, &words[1..])
 }
 
-/// What the words behind the first ask for, of the command with this row.
+/// Returns the command of this row that the arguments after the first request.
 fn read_row(alloc: Global, row: &Row, words: &[String]) -> Result<Command, WordFault>
     requires { row_of row.now ≡ row_by row.now.verb }
     ensures ok { IfOk result
@@ -69,7 +69,7 @@ fn read_row(alloc: Global, row: &Row, words: &[String]) -> Result<Command, WordF
     }
 }
 
-/// What the words of a pair ask for: two scripts, and limits. They have no command.
+/// Returns the pair that the arguments of a pair request: two scripts, and limits. They have no command.
 pub fn read_pair_words(alloc: Global, words: &Vec<String>) -> Result<PairCommand, WordFault>
     ensures ok { IfOk result
         (λ command. asked_pair (map string_bytes words.now.items) ≡ Ok command) }
@@ -79,7 +79,7 @@ pub fn read_pair_words(alloc: Global, words: &Vec<String>) -> Result<PairCommand
     // The command's numbers are in their ranges.
     ensures within { IfOk result IsPairWithin }
 
-    // A fault of the words is told whether or not there is memory.
+    // An error in the arguments is reported with and without memory.
     ensures memory { result ≡ Err WordFault.NoMemory
         → IsOk (asked_pair (map string_bytes words.now.items)) }
 
@@ -93,7 +93,7 @@ pub fn read_pair_words(alloc: Global, words: &Vec<String>) -> Result<PairCommand
     read_pair(alloc, words)
 }
 
-/// What the words of a pair ask for, wherever they stand.
+/// The same, wherever the arguments come from.
 fn read_pair(alloc: Global, words: &[String]) -> Result<PairCommand, WordFault>
     ensures ok { IfOk result (λ command. made_pair (parts_of (map string_bytes words.now))
         (form_answer pair 1 (parts_of (map string_bytes words.now))) ≡ Ok command) }
@@ -112,7 +112,7 @@ fn read_pair(alloc: Global, words: &[String]) -> Result<PairCommand, WordFault>
     }
 }
 
-/// Whether words of this form have a fault, of which the first has this position.
+/// Returns the error in arguments of this form, if there is one. The first argument is at position `first`.
 fn check_form(form: &Form, first: usize, words: &[String]) -> Result<(), WordFault>
     requires { first ≤ 2 }
     ensures is { result
@@ -134,7 +134,7 @@ fn check_whole(form: &Form, words: &[String]) -> Result<(), WordFault>
     }
 }
 
-/// Whether one of the parts into which the words fall has a fault.
+/// Returns the error in one of the parts of the arguments, if there is one.
 fn check_parts(form: &Form, first: usize, words: &[String]) -> Result<(), WordFault>
     requires { first ≤ 2 }
     ensures is { result
@@ -150,7 +150,7 @@ fn check_parts(form: &Form, first: usize, words: &[String]) -> Result<(), WordFa
     Ok(())
 }
 
-/// The part that begins with this word, behind others.
+/// The part that begins with this argument, after others.
 fn check_part(
     form: &Form,
     first: usize,
@@ -187,7 +187,7 @@ fn check_operand(form: &Form, first: usize, before: &[String], word: &str) -> Re
     check_value(kind, earliest, position, word)
 }
 
-/// What the value is of the operand at this position, behind so many.
+/// The kind of value of the operand at this position, after so many.
 fn operand_kind(form: &Form, place: usize, position: usize) -> Result<Kind, WordFault>
     ensures is { result ≡ operand_kind (slice_get (form_of form.now).operands place) position }
     ensures told { result ≢ Err WordFault.NoMemory }
@@ -221,7 +221,7 @@ fn check_option(
     check_value(kind, earliest, position + 1, value.as_str())
 }
 
-/// What the value is of the option of this name at this position, which was given so many times before.
+/// The kind of value of the option of this name at this position. The option was given so many times before.
 fn option_kind(form: &Form, times: usize, position: usize, name: &str) -> Result<Kind, WordFault>
     ensures is { result
         ≡ setting_kind (option_named (form_of form.now).options name.now) times position }
@@ -247,7 +247,7 @@ fn most_times(kind: Kind) -> usize
     }
 }
 
-/// The fault of an option at this position that was given as often as it may be.
+/// The error of an option at this position that was already given as often as it may be.
 fn once_more(kind: Kind, position: usize) -> WordFault
     ensures is { result ≡ once_more kind position }
     ensures told { result ≢ WordFault.NoMemory }
@@ -258,7 +258,7 @@ fn once_more(kind: Kind, position: usize) -> WordFault
     }
 }
 
-/// The value at this position, where `first` was given first under the same name, or is empty.
+/// The value at this position. The first value under the same name is `first`, or `first` is empty.
 fn check_value(kind: Kind, first: &str, position: usize, word: &str) -> Result<(), WordFault>
     ensures is { result ≡ value_answer kind first.now position word.now }
     ensures told { result ≢ Err WordFault.NoMemory }

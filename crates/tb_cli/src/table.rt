@@ -1,10 +1,10 @@
-//! How words are read is said by a form, and a row says which command has which.
+//! The table of commands. A row has a command and its form, and the form says how arguments are read.
 
 ghost use Rattle.std.specs.Prelude.{◌≡◌, option_map, option_copied, find, bytes_eq, map};
 ghost use Rattle.tb_cli.specs.Table.{Row as RowWords, option_named};
 ghost use Rattle.tb_cli.specs.Helpers.Tables.{row_of, setting_of};
 
-/// Which command the first word is.
+/// The command of the first argument.
 #[derive(Clone, Copy)]
 pub(crate) enum Verb {
     Check,
@@ -15,7 +15,7 @@ pub(crate) enum Verb {
     Ring,
 }
 
-/// What the value of an operand or of an option is.
+/// The kind of value of an operand or of an option.
 #[derive(Clone, Copy)]
 pub(crate) enum Kind {
     /// The name of a file, or of a tool: any string.
@@ -24,11 +24,11 @@ pub(crate) enum Kind {
     Command,
     /// A number from `least` to `most`.
     Number { least: u32, most: u32 },
-    /// A number from 1 that times the operand before it is at most this.
+    /// A number from 1. Multiplied by the operand before it, it is at most this.
     Factor { most: u32 },
 }
 
-/// An option. Where its value is a number, `usual` is that of an option that isn't given.
+/// An option. If its value is a number, `usual` is the default.
 #[derive(Clone, Copy)]
 pub(crate) struct Setting {
     pub(crate) name: &'static str,
@@ -36,14 +36,14 @@ pub(crate) struct Setting {
     pub(crate) usual: u32,
 }
 
-/// How words are read: their operands in their order, and their options.
+/// How arguments are read: their operands in their order, and their options.
 #[derive(Clone, Copy)]
 pub(crate) struct Form {
     pub(crate) operands: &'static [Kind],
     pub(crate) options: &'static [Setting],
 }
 
-/// How the words of a command are read: its first word, and the form of those behind it.
+/// How the arguments of a command are read: its first argument, and the form of those after it.
 #[derive(Clone, Copy)]
 pub(crate) struct Row {
     pub(crate) verb: Verb,
@@ -51,7 +51,7 @@ pub(crate) struct Row {
     pub(crate) form: Form,
 }
 
-/// The row with this first word among these.
+/// The row with this first argument among these.
 pub(crate) fn find_row<'a>(rows: &'a [Row], word: &str) -> Option<&'a Row>
     ensures { option_map row_of (option_copied result)
         ≡ find (λ (row : RowWords). bytes_eq row.word word.now) (map row_of rows.now) }

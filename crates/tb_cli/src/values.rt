@@ -1,4 +1,4 @@
-//! The values that words without a fault give.
+//! The values of arguments without an error.
 
 ghost use Rattle.std.specs.Prelude.{◌≡◌, ◌≤◌, ◌<◌, ◌^◌, map, length, get_or, slice_get, string_bytes, option_copied, IsTrue, IfOk, OnOk, Some};
 ghost use Rattle.tb_read.specs.Spelling.{digits_value};
@@ -37,7 +37,7 @@ fn operand(words: &[String], place: usize) -> &str
     find_or_empty(words, OPERANDS, place)
 }
 
-/// The name of the file of this option, where it is given.
+/// The name of the file of this option, if it is given.
 pub(crate) fn option_file(
     alloc: Global,
     option: &Setting,
@@ -75,7 +75,7 @@ pub(crate) fn option_commands(
     Ok(commands)
 }
 
-/// The number of this option, or the usual one where it isn't given.
+/// The number of this option, or the default.
 pub(crate) fn option_number(option: &Setting, words: &[String]) -> u32
     requires kind { IsNumber option.now.kind }
     requires usual { IsIn option.now.kind option.now.usual }

@@ -1,4 +1,4 @@
--- What a step of a process tells a tool, or takes from it, matches a line of the action that made it.
+-- Each line that a step of a process sends to a tool, or takes from it, matches a line of the action that made the step.
 use Rattle.std.proofs.Common.{◌≡◌, ℕ, true, ◌&&◌, List, [], ◌∷◌, ◌++◌, length, slice_get, Option, Some, None, IfSome, is_some, option_map, option_and_then, option_to_list, refl, ap, sym, ◌∙◌, subst}
 use Rattle.std.specs.List.{list_all}
 use Rattle.std.specs.Str.{bytes_eq}
@@ -36,7 +36,7 @@ use Rattle.tb_iface.proofs.FoundLemmas.{map-each, test-each, unless-each, test-s
 use Rattle.tb_iface.proofs.LineLemmas.{AreMatched, SpeakMatches, OwnMatches, ActionMatches}
 use Rattle.tb_iface.proofs.MatchLemmas.{then-some}
 
--- each line that a step with these terms tells a tool of this name matches one of the first patterns, and each that it takes one of the others
+-- each line that a step with these terms sends to a tool of this name matches one of the first patterns, and each that it takes matches one of the others
 pub record AreHeard (tool : List ℕ) (to from : List Pattern) (kind : LabelKind) (terms : List Term) : Type 0 where
   pub told : AreMatched to (told_as tool kind terms)
   pub heard : AreMatched from (heard_as tool kind terms)
@@ -131,6 +131,6 @@ effect-gives tool to from bus proc (action.Own does) h = own-heard tool to from 
 effect-gives tool to from bus proc (action.Send terms) h = tt
 effect-gives tool to from bus proc (action.Receive patterns) h = tt
 
--- So what a process does by itself tells and takes what matches the lines of its action.
+-- So the lines that a process sends and takes by itself match the lines of its action.
 pub effect-heard : (tool : List ℕ) (to from : List Pattern) (bus : Bus) (proc : Proc) (does : Action) (effect : Effect) → ActionMatches bus.program.tools tool to from does → effect_of bus proc does ≡ Some effect → IsHeard tool to from effect
 effect-heard tool to from bus proc does effect h e = subst (GivesHeard tool to from) e (effect-gives tool to from bus proc does h)

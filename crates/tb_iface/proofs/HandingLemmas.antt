@@ -1,4 +1,4 @@
--- Each line that a trace hands out on a lane was put there by an earlier step of it, and the log says that the tool was told it.
+-- Each line that a trace sends on a lane was queued there by an earlier step of it, and by the log the tool receives it.
 use Rattle.std.proofs.Common.{◌≡◌, ◌⊎◌, inl, inr, ℕ, ◌-◌, Bool, true, false, ◌&&◌, List, [], ◌∷◌, ◌++◌, map, replicate, length, append_assoc, append-nil, slice_index_or, if◌then◌else◌, Option, Some, None, Contains, IsTrue, refl, ap, sym, ◌∙◌, subst, arith, pos, codes}
 use Rattle.std.specs.Prelude.{⊤}
 use Rattle.std.specs.List.{All}
@@ -50,10 +50,10 @@ use Rattle.tb_iface.proofs.OnceLemmas.{contains-flat_map}
 use Rattle.tb_iface.proofs.OutlineLemmas.{has-tool}
 use Rattle.tb_iface.proofs.PuttingLemmas.{Becomes, step-adds}
 
--- what no step puts, and what an input or handing out leaves
+-- an item that no step queues, and the queue after an input or a sent item
 
 module _ (P : Out → Type 0) (ends : P End) where
-  -- of what was to be handed out on a lane, and is after a change of one
+  -- of the items that were queued on a lane, and are after a change of one
   on_lane-keeps : (change : Lane → Lane) (at lane : ℕ) (bench : BenchState) → ((old : Lane) → All P old.outs → All P (change old).outs) → All P (outs_at lane bench) → All P (outs_at lane (on_lane change at bench))
   on_lane-keeps change at lane bench each h = by (with_lane-or at lane (change (lane_at at bench)) bench)
     where
@@ -117,7 +117,7 @@ module _ (P : Out → Type 0) (ends : P End) where
       (All-replicate Q (lane_count - length commands) unused none))
       none
 
--- what is to be handed out was put
+-- each queued item was queued by a step
 
 abbrev IsPut : Origin → List Entry → ℕ → Out → Type 0
 IsPut origin log lane (Start command) = ⊤
@@ -141,7 +141,7 @@ put-further origin log more lane End h = tt
 all-further : (origin : Origin) (log more : List Entry) (lane : ℕ) (outs : List Out) → All (IsPut origin log lane) outs → All (IsPut origin (log ++ more) lane) outs
 all-further origin log more lane outs h = All-weaker (IsPut origin log lane) (IsPut origin (log ++ more) lane) (put-further origin log more lane) outs h
 
--- of what a step puts, each line was put by it
+-- of the items that a step queues, each line was queued by it
 just-put : (origin : Origin) (log : List Entry) (label : Label) (lane : ℕ) (out : Out) → Contains (puts label (lane_at lane (replay (start origin) log).bench)) out →
     outs_at lane (after (replay (start origin) log) (Did label)).bench ≡ outs_at lane (replay (start origin) log).bench ++ puts label (lane_at lane (replay (start origin) log).bench) →
     IsPut origin (log ++ Did label ∷ []) lane out
@@ -193,7 +193,7 @@ from-put origin before (entry ∷ log) trace h =
     subst (λ (es : List Entry). ArePut origin es (replay (start origin) es)) whole
     (from-put origin (before ++ entry ∷ []) log (subst (IsTrace (start origin)) (sym whole) trace) (subst (ArePut origin (before ++ entry ∷ [])) (sym moved) next))
 
--- So each line that a trace hands out on a lane was put there by an earlier step.
+-- So each line that a trace sends on a lane was queued there by an earlier step.
 pub handed-put : (origin : Origin) (before rest : List Entry) (lane : ℕ) (line : Term) → IsTrace (start origin) (before ++ Gave lane (Line line) ∷ rest) → WasPut origin before lane line
 handed-put origin before rest lane line trace =
     let legal = (trace-rest (start origin) before (Gave lane (Line line) ∷ rest) trace).0 in
@@ -201,7 +201,7 @@ handed-put origin before rest lane line trace =
     let all = from-put origin [] before (trace-prefix (start origin) before (Gave lane (Line line) ∷ rest) trace) opens in
     all-there (IsPut origin before lane) (outs_at lane (replay (start origin) before).bench) 0 (Line line) (all lane) legal.1
 
--- what a step puts, the log says that the tool was told
+-- by the log, the tool receives each line that a step queues
 
 tool-sort : (name tool : List ℕ) (number : ℕ) → bytes_eq name tool ≡ true → has_sort (tool_term name number) (sort.Tool tool) ≡ true
 tool-sort name tool number e =
@@ -210,14 +210,14 @@ tool-sort name tool number e =
     has-tool named tool ∙ ap (is_tool tool) (term.outs-Appl name (part ∷ []))
     ∙ and_from (bytes_eq name tool) (is_int (out-Term part)) e (ap is_int (term.outs-Int (pos number)))
 
--- the tool that a step names is one of the name of the tool that stands there
+-- the tool that a step names has the name of the lane's tool
 named-sort : (named : Term) (its : Option Tool) (tool : List ℕ) → of_tool (λ (it : Tool). is_same_term named (term_of it)) its ≡ true → of_tool (λ (it : Tool). bytes_eq it.name tool) its ≡ true → has_sort named (sort.Tool tool) ≡ true
 named-sort named None tool h e = cc
 named-sort named (Some it) tool h e =
     let same : named ≡ term_of it = is_same-sound term_row.the_row.coded named (term_of it) h in
     subst (λ (t : Term). has_sort t (sort.Tool tool) ≡ true) (sym same) (tool-sort it.name tool it.number e)
 
--- one line, where it is among a line and the end that may stand behind it
+-- one line, if it is among a line and the end that may come after it
 no-line : (line : Term) → Contains [] (Line line) → {A : Type 0} → A
 no-line line c = let l = c.1 in absurd (omega arith)
 
@@ -254,7 +254,7 @@ tool-told word after (named ∷ parts) tool lane line stands only c = by (has_to
     by false e d = no-line line d
     by true e d = here (named-sort named lane.tool tool e stands) (only parts d)
 
--- of the line that every tool is told
+-- of the line that every tool receives
 all-told : (reason : List Term) (b : Bool) (line : Term) → Contains (let outs : List Out = if b then tool_line (codes "rec-terminate") reason ∷ End ∷ [] else [] in outs) (Line line) → Contains (last_line reason) line
 all-told reason true line c = (0, omega arith, before-end (codes "rec-terminate") reason line c)
 all-told reason false line c = no-line line c
@@ -275,7 +275,7 @@ as-told tool kind.Finish terms lane line for c = all-told (finish_reason ∷ [])
 as-told tool kind.Halt terms lane line for c = all-told (halt_reason ∷ []) (is_open lane) line c
 as-told tool _ terms lane line for c = no-line line c
 
--- Of what a step put, the log says that each tool was told it for which it is.
+-- By the log, each tool receives each queued line that is for it.
 pub put-told : (origin : Origin) (log : List Entry) (lane : ℕ) (line : Term) (tool : List ℕ) (put : WasPut origin log lane line) → IsFor tool put.label (lane_at lane (replay (start origin) put.before).bench) → Contains (told tool log) line
 put-told origin log lane line tool put for =
     let label = put.label in

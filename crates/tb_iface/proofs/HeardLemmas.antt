@@ -1,4 +1,4 @@
--- Each term that a trace says that a tool was told, or that was taken from it, matches the tool's interface.
+-- Each term that the tool receives by a trace, and each that the trace takes from it, matches the tool's interface.
 use Rattle.std.proofs.Common.{◌≡◌, ℕ, Bool, true, false, List, [], ◌∷◌, ◌++◌, slice_get, codes, ◌-◌, Option, Some, None, Contains, refl, ap, sym, subst}
 use Rattle.std.proofs.lemmas.List.Elements.{All-nil, All-append, All-weaker, All-contains, Contains-append_left, Contains-append_right}
 use Rattle.tb_terms.specs.declared.term.Term.{Term}
@@ -100,7 +100,7 @@ own-matches bus tool proc offered effect does store ready e =
       heard = matched-more (hears program.tools tool store.body.sorts act) (from_of program tool) (heard_as tool effect.kind effect.shown) (λ p. hears-listed program tool store.body at.atom p at.is) it.heard;
     }
 
--- why a bus goes down by itself
+-- the reason if a bus shuts down by itself
 reason-listed : (program : Program) (tool name : List ℕ) → ((p : Pattern) → Contains (line (codes "rec-terminate") (pattern.Appl name [] ∷ [])) p → Contains last_lines p) →
     AreMatched (to_of program tool) (term.Appl (codes "rec-terminate") (term.Appl name [] ∷ []) ∷ [])
 reason-listed program tool name c =
@@ -148,10 +148,10 @@ trace-matches origin bus tool (entry ∷ log) h trace =
       from = All-append (MatchesOne (from_of origin.program tool)) (heard_by tool entry) (heard tool log) first.from rest.from;
     }
 
--- Each term that a trace says that the tool was told matches what it may be told,
+-- Each term that the tool receives by a trace matches a line that the tool may receive,
 pub told-matches : (origin : Origin) (log : List Entry) (tool : List ℕ) (term : Term) → IsTrace (start origin) log → Contains (told tool log) term → MatchesOne (to_of origin.program tool) term
 told-matches origin log tool term trace c = All-contains (MatchesOne (to_of origin.program tool)) (told tool log) term (trace-matches origin (start origin) tool log (sorted-start origin) trace).to c
 
--- and each that was taken from it, what may be taken.
+-- and each term that the trace takes from it matches a line that a process may take.
 pub heard-matches : (origin : Origin) (log : List Entry) (tool : List ℕ) (term : Term) → IsTrace (start origin) log → Contains (heard tool log) term → MatchesOne (from_of origin.program tool) term
 heard-matches origin log tool term trace c = All-contains (MatchesOne (from_of origin.program tool)) (heard tool log) term (trace-matches origin (start origin) tool log (sorted-start origin) trace).from c

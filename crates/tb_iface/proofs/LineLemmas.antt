@@ -1,4 +1,4 @@
--- Each line that an action tells a tool, or takes from it, matches a line of its act.
+-- Each line that an action sends to a tool, or takes from it, matches a line of its act.
 use Rattle.std.proofs.Common.{◌≡◌, ℕ, pos, Bool, true, false, ◌&&◌, nat_le, sum, List, [], ◌∷◌, ◌++◌, map, codes, slice_get, Option, Some, None, IfSome, IsSome, is_some, option_and_then, if◌then◌else◌, refl, ap, sym, ◌∙◌, subst}
 use Rattle.std.specs.Prelude.{⊤}
 use Rattle.std.specs.List.{All}
@@ -70,7 +70,7 @@ tool-by tool word store first value exprs terms true e h v m =
     subst (λ (may : Bool). AreMatched (if may then line word patterns else []) (term.Appl word terms ∷ [])) (sym (tool-may_be store first value tool h v e)) (line-matched word patterns terms m)
 tool-by tool word store first value exprs terms false e h v m = All-nil (MatchesOne (interfaces.line_if tool (sorts_of store) first word exprs))
 
--- the line of an atom whose first argument has this value, where the terms behind it match the outlines of the others
+-- the line of an atom whose first argument has this value, where the terms after it match the outlines of the others
 value-line : (tool word : List ℕ) (store : List Slot) (first : Expr) (value : Term) (exprs : List Expr) (terms : List Term) → are_well_sorted store ≡ true → value_of store first ≡ Some value →
     IsSome (match_list (map (outline (sorts_of store)) exprs) terms) → AreMatched (interfaces.line_if tool (sorts_of store) first word exprs) (hearing.line_if tool word (value ∷ terms))
 value-line tool word store first value exprs terms h v m = tool-by tool word store first value exprs terms (has_sort value (sort.Tool tool)) refl h v m
@@ -129,7 +129,7 @@ connect-line kinds tool sorts which slot number = connect-by kinds tool sorts wh
 
 -- actions
 
--- each line that an exchange with this tool may tell it matches one of the first patterns, and each that it may take one of the others
+-- each line that an exchange with this tool may send to it matches one of the first patterns, and each that it may take matches one of the others
 abbrev pub SpeakMatches : List ToolKind → List ℕ → List Pattern → List Pattern → ToolAction → Type 0
 SpeakMatches kinds tool to from (tool_action.Execute which slot) = ⊤
 SpeakMatches kinds tool to from (tool_action.Connect which slot) = (number : ℕ) → AreMatched from (heard_as tool kind.RecConnect (tool_term (name_of (slice_get kinds which)) number ∷ []))

@@ -1,4 +1,4 @@
--- Each pattern of a list stands among those that are left of it once, and each line of an atom among those of all atoms.
+-- Each pattern of a list is among those that are left of it once, and each line of an atom is among those of all atoms.
 use Rattle.std.proofs.Common.{◌≡◌, Bool, true, false, ◌||◌, ◌⊎◌, inl, inr, List, [], ◌∷◌, ◌++◌, fold, Contains, if◌then◌else◌, refl, sym, subst, arith}
 use Rattle.std.specs.List.{flat_map, list_any}
 use Rattle.std.proofs.lemmas.List.Elements.{Contains-append_left, Contains-append_right}

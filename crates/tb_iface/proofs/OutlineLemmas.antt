@@ -1,4 +1,4 @@
--- What an expression is worth, and what matches it as a pattern, match its outline.
+-- The value of an expression matches its outline, and so does a value that matches it as a pattern.
 use Rattle.std.proofs.Common.{◌≡◌, ℕ, zero, suc, Bool, true, false, ◌&&◌, ◌||◌, codes, List, [], ◌∷◌, map, Option, Some, None, is_some, IsSome, IfSome, IsTrue, option_map, option_and_then, if◌then◌else◌, refl, sym, ap, ◌∙◌, subst}
 use Rattle.std.proofs.lemmas.Bool.{and_parts}
 use Rattle.std.proofs.lemmas.Slice.Eq.{bytes_eq-Decides}
@@ -234,7 +234,7 @@ pub patterns-match : (store : List Slot) (exprs : List Expr) (patterns : List Pa
     IsSome (match_list patterns terms) → IsSome (match_list (map (outline (sorts_of store)) exprs) terms)
 patterns-match store exprs patterns terms well h k = ap is_some (patterns-wide store exprs patterns (each-wide store well exprs) h terms k)
 
--- An expression that is worth a tool may be that tool.
+-- An expression that evaluates to a tool may be that tool.
 
 abbrev pub Test : Type 0
 Test = Term → Bool

@@ -1,4 +1,4 @@
--- What a step makes of what is to be handed out on a lane: it stays, a command comes to its end, or what such a step puts there.
+-- A step changes the output queue of a lane in one of these ways: the queue stays, a command comes to its end, or the items of such a step come to its end.
 use Rattle.std.proofs.Common.{◌≡◌, ◌⊎◌, inl, inr, ℕ, zero, suc, ◌-◌, Bool, true, false, List, [], ◌∷◌, ◌++◌, map, length, append-nil, slice_get, slice_index_or, Option, Some, None, IfSome, is_some, option_map, option_and_then, if◌then◌else◌, unwrap_or, refl, ap, sym, ◌∙◌, subst, arith, codes}
 use Rattle.std.specs.List.{list_all}
 use Rattle.std.proofs.lemmas.List.Elements.{All-contains}
@@ -41,7 +41,7 @@ use Rattle.tb_iface.specs.Handing.{to_tool, to_all, puts_as}
 
 -- one lane
 
--- what becomes of what is to be handed out
+-- changes of the output queue
 abbrev pub Becomes : LabelKind → List Term → Lane → Lane → Type 0
 Becomes seen terms old new = (new.outs ≡ old.outs) ⊎ (((command : List ℕ) × (new.outs ≡ old.outs ++ Start command ∷ [])) ⊎ (new.outs ≡ old.outs ++ puts_as seen terms old))
 
@@ -99,7 +99,7 @@ received-tool bench named terms exchange e = by (lane_of is_live_at bench (named
     by None f g = cc
     by (Some at) f g = here at (oldest_received terms at bench) f g
 
--- so what it puts there is its line
+-- so it queues its line there
 to_tool-there : (word : List ℕ) (after : List Out) (named : Term) (parts : List Term) (lane : Lane) → has_tool named lane ≡ true → tool_line word parts ∷ after ≡ to_tool word after (named ∷ parts) lane
 to_tool-there word after named parts lane e = ap (λ (b : Bool). let outs : List Out = if b then tool_line word parts ∷ after else [] in outs) (sym e)
 
@@ -170,7 +170,7 @@ exchange-adds setting (tool.TakeEvent terms patterns) exchange sent e = on_lane-
 exchange-adds setting (tool.Acknowledge terms) exchange sent e = acknowledging-adds setting terms exchange e
 exchange-adds setting (tool.Terminate terms) exchange sent e = two-terms (ExchangeAdds setting exchange tool.Terminate) (terminate-adds setting exchange) terms sent e
 
--- going down
+-- shutting down
 
 map-or : {A : Type 0} (f : A → A) (xs : List A) (at : ℕ) (d : A) → f d ≡ d → slice_index_or (map f xs) at d ≡ f (slice_index_or xs at d)
 map-or f [] at d e = sym e
@@ -246,7 +246,7 @@ move-adds bus (Handshake sender sent receiver received terms binds) shape is = �
 move-adds bus Finish shape is = λ lane. inr (inr (down-outs finish_reason bus.bench lane))
 move-adds bus Halt shape is = λ lane. inr (inr (down-outs halt_reason bus.bench lane))
 
--- A step leaves what is to be handed out on a lane, or puts a command or what such a step puts to its end.
+-- A step leaves the output queue of a lane as it is, or adds a command to its end, or the items of such a step.
 pub step-adds : (bus : Bus) (label : Label) → IsBusInShape bus → IsLegal bus (Did label) (after bus (Did label)) → AddsTo label.kind label.terms bus.bench (after bus (Did label)).bench
 step-adds bus label shape legal =
     let made = step-made bus (record { label = label; bus = after bus (Did label) }) legal in

@@ -1,4 +1,4 @@
--- The lines of the calculator in examples, worked out from the definitions alone.
+-- The lines of the calculator in examples, computed from the definitions alone.
 use Rattle.std.proofs.Common.{◌≡◌, List, [], ◌∷◌, codes, rules}
 use Rattle.tb_terms.specs.declared.expr.Expr.{Expr, the_lemmas as expr_lemmas}
 use Rattle.tb_terms.specs.declared.expr.Expr.TheVariants as expr
@@ -34,7 +34,7 @@ ack-line = search (rules, expr_lemmas, pattern_lemmas, sort_lemmas)
 bye-line : tells (codes "calc") sorts (act.SndTerminate tool (expr.Str (codes "bye"))) ≡ line (codes "rec-terminate") (pattern.Fixed (term.Str (codes "bye")) ∷ [])
 bye-line = search (rules, expr_lemmas, pattern_lemmas, sort_lemmas)
 
--- another tool isn't told it
+-- another tool doesn't receive it
 no-line : tells (codes "ed") sorts (act.SndTerminate tool (expr.Str (codes "bye"))) ≡ []
 no-line = search (rules, expr_lemmas, pattern_lemmas, sort_lemmas)
 

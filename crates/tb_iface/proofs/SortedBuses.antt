@@ -38,7 +38,7 @@ use Rattle.tb_bus.proofs.TraceLemmas.{replay-append, trace-append, apply-program
 use Rattle.tb_iface.proofs.StoreSorts.{IsStoreOf, HasStore, HaveStores, store-kept, one-opened, program-opened}
 use Rattle.tb_iface.proofs.TakenBinds.{action-takes, IsChangeFit, IsEffectFit, effect-fit}
 
--- changes: of inboxes, and of who is there
+-- changes: of inboxes, and of the processes that are there
 
 inbox-has : (bodies : List Body) (b : Bool) (proc : Proc) (inbox : Held) → HasStore bodies proc → HasStore bodies (if b then record proc { inbox = inbox } else proc)
 inbox-has bodies true proc inbox h = h
@@ -114,7 +114,7 @@ bound-store : (bus : Bus) (proc : Proc) (offered : Offered) (binds : List Bind) 
     IsStoreOf bus.program.bodies proc.body (with_binds offered.store binds)
 bound-store bus proc offered binds h g takes = store-kept bus.program.bodies proc.body offered.store (with_binds offered.store binds) (binds-keep offered.store binds takes) (offered-store bus proc offered h g)
 
--- what a process by itself comes to
+-- the results of a process by itself
 pub own-fits : (bus : Bus) (proc : Proc) (offered : Offered) (does : Action) (effect : Effect) → HaveStores bus.program.bodies bus.procs → IsReadyFor bus proc offered does → effect_of bus proc does ≡ Some effect →
     IsEffectFit bus.program.bodies offered.store effect
 own-fits bus proc offered does effect h ready e = effect-fit bus proc offered.store does effect (offered-store bus proc offered h ready.0) (action-takes bus proc offered does ready.1) e

@@ -64,7 +64,7 @@ fresh-sorted : (sorts : List Sort) → are_well_sorted (map fresh_slot sorts) �
 fresh-sorted [] = refl
 fresh-sorted (s ∷ sorts) = and_from (is_well_sorted (fresh_slot s)) (are_well_sorted (map fresh_slot sorts)) (initial-sorted s) (fresh-sorted sorts)
 
--- actuals in the first slots
+-- arguments in the first slots
 
 sorts-with_values : (store : List Slot) (slot : ℕ) (terms : List Term) → sorts_of (with_values store slot terms) ≡ sorts_of store
 sorts-with_values store slot [] = refl
@@ -112,7 +112,7 @@ opening-of bodies number body actuals there h =
       values = values-sorted store 0 actuals fit (fresh-sorted body.sorts);
     }
 
--- A process that begins with actuals that fit has a store of its body.
+-- A process that begins with arguments that fit has a store of its body.
 pub one-opened : (bodies : List Body) (number process : ℕ) (actuals : List Term) (found : Option Body) → slice_get bodies process ≡ found → fits_formals found actuals ≡ true → HaveStores bodies (opened_one number process actuals found)
 one-opened bodies number process actuals None e h = All-nil (HasStore bodies)
 one-opened bodies number process actuals (Some body) e h =

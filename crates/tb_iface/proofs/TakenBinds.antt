@@ -1,4 +1,4 @@
--- What a step of a process binds, the store takes in which it is offered; and who is created has actuals that fit.
+-- A step of a process binds what the store takes in which the step is offered; and a created process has arguments that fit.
 use Rattle.std.proofs.Common.{◌≡◌, ℕ, nat_lt, Bool, true, false, ◌&&◌, List, [], ◌∷◌, length, slice_get, Option, Some, None, IfSome, is_some, option_map, option_and_then, refl, ap, sym, ◌∙◌, subst}
 use Rattle.std.specs.Prelude.{⊤, MatchOption}
 use Rattle.std.specs.List.{list_all}
@@ -182,7 +182,7 @@ effect-gives bus proc store (action.Own does) is takes = own-fit bus proc store 
 effect-gives bus proc store (action.Send terms) is takes = tt
 effect-gives bus proc store (action.Receive patterns) is takes = tt
 
--- So what an action comes to binds what the store takes.
+-- So the result of an action binds what the store takes.
 pub effect-fit : (bus : Bus) (proc : Proc) (store : List Slot) (does : Action) (effect : Effect) → IsStoreOf bus.program.bodies proc.body store → ActionTakes store does → effect_of bus proc does ≡ Some effect →
     IsEffectFit bus.program.bodies store effect
 effect-fit bus proc store does effect is takes e = subst (GivesFit bus.program.bodies store) e (effect-gives bus proc store does is takes)

@@ -7,7 +7,7 @@ use Rattle.tb_terms.specs.Helpers.Prefixes.{comma_before}
 use Rattle.tb_terms.specs.declared.pattern.Pattern.{Pattern}
 use Rattle.tb_iface.specs.PatternTexts.{pattern_text}
 
--- behind texts of which there is one at least
+-- after texts of which there is one at least
 joined-push : (x : List ℕ) (xs : List (List ℕ)) (y : List ℕ) → joined (x ∷ xs ++ y ∷ []) ≡ joined (x ∷ xs) ++ (44 ∷ y)
 joined-push x [] y = refl
 joined-push x (z ∷ zs) y = ap (λ t. x ++ (44 ∷ t)) (joined-push z zs y) ∙ sym (append_assoc x (44 ∷ joined (z ∷ zs)) (44 ∷ y))

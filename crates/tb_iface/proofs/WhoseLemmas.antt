@@ -1,4 +1,4 @@
--- Each line that a step puts on a lane is for a tool.
+-- Each line that a step queues on a lane is for a tool.
 use Rattle.std.proofs.Common.{◌≡◌, ◌⊎◌, inl, inr, ℕ, Bool, true, false, List, [], ◌∷◌, Option, Some, None, Contains, IsTrue, if◌then◌else◌, refl, arith}
 use Rattle.std.specs.Str.{bytes_eq}
 use Rattle.std.proofs.lemmas.Slice.Eq.{bytes_eq-Decides}
@@ -14,7 +14,7 @@ use Rattle.tb_tools.specs.Lanes.{Tool, Lane, of_tool}
 use Rattle.tb_bus.specs.Ends.{TakesDown}
 use Rattle.tb_iface.specs.Handing.{to_tool, puts_as, puts, IsFor}
 
--- a tool of this name stands there
+-- the lane has a tool of this name
 abbrev Stands : List ℕ → Option Tool → Type 0
 Stands tool found = IsTrue (of_tool (λ (it : Tool). bytes_eq it.name tool) found)
 
@@ -29,7 +29,7 @@ stands-by : (named : Term) (lane : Lane) (outs : List Out) (line : Out) (b : Boo
 stands-by named lane outs line true e c = tool-there _ lane.tool e
 stands-by named lane outs line false e c = none-there line c
 
--- where a step puts a line for the tool that it names
+-- if a step queues a line for the tool that it names
 tool-stands : (word : List ℕ) (behind : List Out) (terms : List Term) (lane : Lane) (line : Out) → Contains (to_tool word behind terms lane) line → (tool : List ℕ) × Stands tool lane.tool
 tool-stands word behind [] lane line c = none-there line c
 tool-stands word behind (named ∷ parts) lane line c = stands-by named lane (tool_line word parts ∷ behind) line (has_tool named lane) refl c
@@ -48,6 +48,6 @@ kind-whose kind.Finish terms lane line c = ([], inl tt)
 kind-whose kind.Halt terms lane line c = ([], inl tt)
 kind-whose _ terms lane line c = none-there line c
 
--- Whatever step puts a line, the bus goes down, or a tool stands on the lane.
+-- If a step queues a line, the bus shuts down, or the lane has a tool.
 pub line-whose : (label : Label) (lane : Lane) (line : Out) → Contains (puts label lane) line → (tool : List ℕ) × IsFor tool label lane
 line-whose label lane line c = kind-whose label.kind label.terms lane line c

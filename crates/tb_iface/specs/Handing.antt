@@ -1,4 +1,4 @@
--- What a step puts on the lanes for tools, and which step of a trace put a line that the trace hands out later.
+-- The items that a step queues on the lanes for tools, and which step of a trace queued a line that the trace sends later.
 use Rattle.std.specs.Prelude.{◌≡◌, ◌⊎◌, ℕ, List, [], ◌∷◌, ◌++◌, IsTrue, Contains, codes, if◌then◌else◌}
 use Rattle.std.specs.Str.{bytes_eq}
 use Rattle.tb_terms.specs.declared.term.Term.{Term}
@@ -20,17 +20,17 @@ use Rattle.tb_bus.specs.declared.origin.Origin.{Origin}
 use Rattle.tb_iface.specs.Hearing.{MatchesOne}
 use Rattle.tb_iface.specs.Interfaces.{to_of}
 
--- a line with this word for the tool that is the first of these terms, with the others as its parts, and what comes behind it: on the lane where
--- this tool stands
+-- a line with this word for the tool that is the first of these terms, with the other terms as its parts, and the items after it: on
+-- the lane of this tool
 abbrev pub to_tool : List ℕ → List Out → List Term → Lane → List Out
 to_tool word behind [] lane = []
 to_tool word behind (tool ∷ parts) lane = if has_tool tool lane then tool_line word parts ∷ behind else []
 
--- why the bus goes down, and the lane's end: on each lane that is up and hasn't ended
+-- the reason of a shutdown, and the lane's end: on each lane that is up and hasn't ended
 abbrev pub to_all : List Term → Lane → List Out
 to_all reason lane = if is_open lane then tool_line (codes "rec-terminate") reason ∷ End ∷ [] else []
 
--- What a step with these terms puts on a lane that stands so before it: one line a kind of step.
+-- The items that a step with these terms queues on a lane that has this state before it: one equation for each kind of step.
 abbrev pub puts_as : LabelKind → List Term → Lane → List Out
 puts_as kind.SndEval terms lane = to_tool (codes "rec-eval") [] terms lane
 puts_as kind.SndDo terms lane = to_tool (codes "rec-do") [] terms lane
@@ -39,18 +39,18 @@ puts_as kind.SndTerminate terms lane = to_tool (codes "rec-terminate") (End ∷ 
 puts_as kind.Shutdown terms lane = to_all terms lane
 puts_as kind.Finish terms lane = to_all (finish_reason ∷ []) lane
 puts_as kind.Halt terms lane = to_all (halt_reason ∷ []) lane
--- no other step puts a line
+-- no other step queues a line
 puts_as _ terms lane = []
 
 abbrev pub puts : Label → Lane → List Out
 puts label lane = puts_as label.kind label.terms lane
 
--- A step puts a line on this lane: the line is among what such a step puts there, and just that comes to the end of what is to be handed out.
+-- A step queues a line on this lane: the line is one of the items that such a step queues there, and exactly these come to the end of the lane's queue.
 pub record Puts (bus : Bus) (label : Label) (lane : ℕ) (term : Term) : Type 0 where
   pub is : Contains (puts label (lane_at lane bus.bench)) (Line term)
   pub at_end : outs_at lane (after bus (Did label)).bench ≡ outs_at lane bus.bench ++ puts label (lane_at lane bus.bench)
 
--- A step of this log put the line on this lane.
+-- A step of this log queued the line on this lane.
 pub record WasPut (origin : Origin) (log : List Entry) (lane : ℕ) (term : Term) : Type 0 where
   pub before : List Entry
   pub label : Label
@@ -58,11 +58,11 @@ pub record WasPut (origin : Origin) (log : List Entry) (lane : ℕ) (term : Term
   pub is : log ≡ before ++ Did label ∷ rest
   pub puts : Puts (replay (start origin) before) label lane term
 
--- What a step puts on a lane is for a tool of this name: the bus goes down, which every tool is told, or such a tool stands on the lane.
+-- The items that a step queues on a lane are for a tool of this name: the bus shuts down, which is sent to every tool, or the lane has such a tool.
 abbrev pub IsFor : List ℕ → Label → Lane → Type 0
 IsFor tool label lane = TakesDown label.kind ⊎ IsTrue (of_tool (λ (it : Tool). bytes_eq it.name tool) lane.tool)
 
--- A step of this log put the line on this lane. It is for a tool, and matches what the interface lists of each tool for which it is.
+-- A step of this log queued the line on this lane. The line is for a tool, and matches a `to` pattern of each tool that it is for.
 pub record WasPutAsListed (origin : Origin) (log : List Entry) (lane : ℕ) (term : Term) : Type 0 where
   pub put : WasPut origin log lane term
   pub whose : (tool : List ℕ) × IsFor tool put.label (lane_at lane (replay (start origin) put.before).bench)

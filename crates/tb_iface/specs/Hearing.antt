@@ -1,4 +1,4 @@
--- What a log says that a tool was told, and what was taken from it.
+-- The lines that a tool receives by a log, and the lines that the log takes from it.
 use Rattle.std.specs.Prelude.{ℕ, List, [], ◌∷◌, Contains, IsSome, codes, if◌then◌else◌}
 use Rattle.std.specs.List.{flat_map}
 use Rattle.tb_terms.specs.declared.term.Term.{Term}
@@ -12,16 +12,16 @@ use Rattle.tb_log.specs.declared.entry.Entry.TheVariants.{Did, Quiet, Fed, Gave}
 use Rattle.tb_log.specs.declared.entry.LabelKind.{LabelKind}
 use Rattle.tb_log.specs.declared.entry.LabelKind.TheVariants as kind
 
--- a line with this word, of the terms behind the first, where that is a tool of this name
+-- a line with this word and the terms after the first, if the first is a tool of this name
 abbrev pub line_if : List ℕ → List ℕ → List Term → List Term
 line_if tool word [] = []
 line_if tool word (first ∷ terms) = if has_sort first (Tool tool) then Appl word terms ∷ [] else []
 
--- why the bus goes down
+-- the reason of a shutdown
 abbrev pub last_line : List Term → List Term
 last_line reason = Appl (codes "rec-terminate") reason ∷ []
 
--- What a step with these terms tells a tool of this name: one line a kind of step.
+-- The line that a tool of this name receives by a step with these terms: one equation for each kind of step.
 abbrev pub told_as : List ℕ → LabelKind → List Term → List Term
 told_as tool kind.SndEval terms = line_if tool (codes "rec-eval") terms
 told_as tool kind.SndDo terms = line_if tool (codes "rec-do") terms
@@ -32,7 +32,7 @@ told_as tool kind.Finish terms = last_line (Appl (codes "finish") [] ∷ [])
 told_as tool kind.Halt terms = last_line (Appl (codes "halt") [] ∷ [])
 told_as tool _ terms = []
 
--- What it takes from such a tool.
+-- The line that the step takes from such a tool.
 abbrev pub heard_as : List ℕ → LabelKind → List Term → List Term
 heard_as tool kind.RecValue terms = line_if tool (codes "snd-value") terms
 heard_as tool kind.RecEvent terms = line_if tool (codes "snd-event") terms
@@ -52,11 +52,11 @@ heard_by tool Quiet = []
 heard_by tool (Fed input reply) = []
 heard_by tool (Gave lane out) = []
 
--- What a log says that a tool of this name was told, in order.
+-- The lines that a tool of this name receives by a log, in order.
 abbrev pub told : List ℕ → List Entry → List Term
 told tool log = flat_map (told_by tool) log
 
--- What it says that was taken from it.
+-- The lines that the log takes from it, in order.
 abbrev pub heard : List ℕ → List Entry → List Term
 heard tool log = flat_map (heard_by tool) log
 

@@ -1,4 +1,4 @@
--- The interface of a tool, worked out from the program alone: what it may be told, and what of it may be taken.
+-- The interface of a tool, from the program alone: the lines that it may receive, and the lines of it that a process may take.
 use Rattle.std.specs.Prelude.{ℕ, List, [], ◌∷◌, ◌++◌, map, Bool, Option, Some, None, find, fold, slice_get, codes, if◌then◌else◌}
 use Rattle.std.specs.List.{flat_map, list_any}
 use Rattle.std.specs.Str.{bytes_eq}
@@ -22,21 +22,21 @@ use Rattle.tb_iface.specs.declared.answer.Interface.{Interface}
 abbrev pub line : List ℕ → List Pattern → List Pattern
 line word parts = pattern.Appl word parts ∷ []
 
--- the line of an atom whose first argument is this, where that may be the tool
+-- the line of an atom whose first argument is this, if this may be the tool
 abbrev pub line_if : List ℕ → List Sort → Expr → List ℕ → List Expr → List Pattern
 line_if tool sorts first word parts = if may_be tool (outline sorts first) then line word (map (outline sorts) parts) else []
 
--- What an atom may tell a tool of this name, in a body whose slots have these sorts.
+-- The lines that an atom may send to a tool of this name, in a body whose slots have these sorts.
 abbrev pub tells : List ℕ → List Sort → Act → List Pattern
 tells tool sorts (SndEval first expr) = line_if tool sorts first (codes "rec-eval") (expr ∷ [])
 tells tool sorts (SndDo first expr) = line_if tool sorts first (codes "rec-do") (expr ∷ [])
 tells tool sorts (SndAckEvent first exprs) = line_if tool sorts first (codes "rec-ack-event") exprs
 tells tool sorts (SndTerminate first expr) = line_if tool sorts first (codes "rec-terminate") (expr ∷ [])
--- every tool is told why the bus goes down
+-- every tool receives the reason of a shutdown
 tells tool sorts (Shutdown reason) = line (codes "rec-terminate") (outline sorts reason ∷ [])
 tells tool sorts _ = []
 
--- What an atom may take from such a tool, in a program with these kinds of tools.
+-- The lines that an atom may take from such a tool, in a program with these kinds of tools.
 abbrev pub hears : List ToolKind → List ℕ → List Sort → Act → List Pattern
 hears kinds tool sorts (RecValue first expr) = line_if tool sorts first (codes "snd-value") (expr ∷ [])
 hears kinds tool sorts (RecEvent first exprs) = line_if tool sorts first (codes "snd-event") exprs
@@ -44,34 +44,34 @@ hears kinds tool sorts (RecConnect kind slot) =
     if bytes_eq (name_of (slice_get kinds kind)) tool then line (codes "snd-connect") (pattern.Appl tool [] ∷ []) else []
 hears kinds tool sorts _ = []
 
--- what the atoms of all bodies do so, the bodies by their definitions and the atoms by their numbers
+-- the lines of the atoms of all bodies, in the order of the definitions and then of the atoms' numbers
 abbrev pub of_atoms : (List Sort → Act → List Pattern) → List Body → List Pattern
 of_atoms lines bodies = flat_map (λ (body : Body). flat_map (λ (atom : Atom). lines body.sorts atom.act) body.atoms) bodies
 
--- the bus goes down where no process is left, and where none can do anything any more
+-- the bus shuts down if no process is left, or if no process can do anything any more
 abbrev pub last_lines : List Pattern
 last_lines = line (codes "rec-terminate") (pattern.Appl (codes "finish") [] ∷ []) ++ line (codes "rec-terminate") (pattern.Appl (codes "halt") [] ∷ [])
 
 abbrev pub is_same_pattern : Pattern → Pattern → Bool
 is_same_pattern = is_same pattern_row.the_row.coded
 
--- a pattern behind others, unless it stands among them
+-- a pattern after others, unless it is among them
 abbrev pub with_new : List Pattern → Pattern → List Pattern
 with_new patterns pattern = if list_any (is_same_pattern pattern) patterns then patterns else patterns ++ pattern ∷ []
 
--- each pattern once, where it comes first
+-- each pattern once, at its first place
 abbrev pub once : List Pattern → List Pattern
 once = fold with_new []
 
--- What a tool of this name may be told.
+-- The lines that a tool of this name may receive.
 abbrev pub to_of : Program → List ℕ → List Pattern
 to_of program tool = once (of_atoms (tells tool) program.bodies ++ last_lines)
 
--- What may be taken from it.
+-- The lines of it that a process may take.
 abbrev pub from_of : Program → List ℕ → List Pattern
 from_of program tool = once (of_atoms (hears program.tools tool) program.bodies)
 
--- The interface of the tool of this name: none where the program declares no such tool.
+-- The interface of the tool of this name: none if the program declares no such tool.
 abbrev pub interface_by : Program → List ℕ → Option ToolKind → Option Interface
 interface_by program tool None = None
 interface_by program tool (Some kind) = Some (record { command = kind.command; to = to_of program tool; from = from_of program tool })

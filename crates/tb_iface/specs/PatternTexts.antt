@@ -10,7 +10,7 @@ use Rattle.tb_terms.specs.declared.pattern.Pattern.TheOpen.{Pattern-F, Fixed, Ho
 use Rattle.tb_terms.specs.declared.pattern.Pattern.TheFolds.{fold-Pattern}
 use Rattle.tb_iface.specs.declared.answer.Interface.{Interface}
 
--- a sort by its type, where it isn't that of any term; a list of any terms is `list` alone
+-- a sort by its type, if it isn't that of any term; a list of any terms is `list` alone
 abbrev pub type_step : sort.Sort-F (Option (List ℕ)) → Option (List ℕ)
 type_step sort.Bool = Some (codes "bool")
 type_step sort.Int = Some (codes "int")
@@ -39,16 +39,16 @@ pattern_text_step (ListOf parts) = list_text parts
 abbrev pub pattern_text : Pattern → List ℕ
 pattern_text = fold-Pattern (List ℕ) pattern_text_step
 
--- the command of a tool as a string, behind a blank, where it has one
+-- the command of a tool as a string, after a space, if the tool has a command
 abbrev pub command_words : Option (List ℕ) → List ℕ
 command_words None = []
 command_words (Some command) = 32 ∷ quoted command
 
--- a line for each pattern, behind this word
+-- a line for each pattern, after this word
 abbrev pub pattern_lines : List ℕ → List Pattern → List ℕ
 pattern_lines word patterns = flat_map (λ pattern. word ++ pattern_text pattern ++ 10 ∷ []) patterns
 
--- the interface of the tool of this name: what it is, then what it may be told, then what may be taken from it
+-- the interface of the tool of this name: the tool, then the lines that it may receive, then the lines that a process may take from it
 abbrev pub interface_text : List ℕ → Interface → List ℕ
 interface_text tool interface =
     codes "tool " ++ tool ++ command_words interface.command ++ 10 ∷ pattern_lines (codes "to ") interface.to ++ pattern_lines (codes "from ") interface.from

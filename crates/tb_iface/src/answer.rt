@@ -1,8 +1,8 @@
-//! What is answered where a tool's interface is asked for.
+//! The answer to a query for a tool's interface.
 
 use tb_terms::{NoMemory, Patterns, Text};
 
-/// What a tool may be told, and what of it may be taken.
+/// The lines that a tool may receive, and the lines of the tool that a process may take.
 #[derive(Drop)]
 pub struct Interface {
     /// The command that starts the tool, if it has one.
@@ -18,7 +18,7 @@ pub struct Interface {
 pub enum IfaceFault {
     /// The program declares no tool of this name.
     Stranger,
-    /// There wasn't memory enough; it says nothing of the program.
+    /// Out of memory. This says nothing of the program.
     NoMemory,
 }
 

@@ -1,4 +1,4 @@
-//! The interface of a tool: what a program may tell it, and what it may take from it.
+//! The interface of a tool: the lines that a program may send to it, and the lines that the program may take from it.
 #![tactic(auto)]
 
 mod answer;

@@ -11,7 +11,7 @@ use std::slice;
 use tb_body::{Act, Tool};
 use tb_terms::{Expr, Items, Name, NoMemory, Pattern, Patterns, Sort};
 
-/// The line that the act may tell the tool, if there is one.
+/// Returns the line that the act may send to the tool, if there is one.
 pub(crate) fn told_line(
     alloc: Global,
     tool: &Name,
@@ -62,7 +62,7 @@ pub(crate) fn told_line(
     }
 }
 
-/// The line that the act may take from the tool, if there is one, in a program with these kinds of tools.
+/// Returns the line that the act may take from the tool, if there is one, in a program with these kinds of tools.
 pub(crate) fn heard_line(
     alloc: Global,
     kinds: &[Tool],
@@ -127,7 +127,7 @@ fn name_at(kinds: &[Tool], kind: u32) -> &[u8]
     }
 }
 
-/// The line that says why the bus goes down.
+/// The line with the reason of a shutdown.
 pub(crate) fn last_line(alloc: Global, reason: &[u8]) -> Result<Pattern, NoMemory>
     requires { IsTrue (is_name reason.now) }
     ensures { IfOk result (λ it. it ∷ []

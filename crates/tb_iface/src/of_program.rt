@@ -1,4 +1,4 @@
-//! The interface of a tool, worked out from a program.
+//! The interface of a tool, computed from a program.
 
 ghost use Rattle.std.specs.Prelude.{◌≡◌, ◌∷◌, [], None, Some, Err, IfOk, OnOk, find, fold, map, option_to_list};
 ghost use Rattle.std.specs.List.{flat_map, list_any};
@@ -12,8 +12,8 @@ use std::alloc::Global;
 use tb_body::{Body, Program, Tool};
 use tb_terms::{Items, Name, NoMemory, Pattern, Patterns};
 
-/// Returns the interface of the tool of this name, from the atoms of all processes that are defined, whether or not the
-/// program uses them. Returns `Stranger` if the program declares no such tool.
+/// Returns the interface of the tool of this name, from the atoms of all defined processes, whether or not the program uses
+/// them. Returns `Stranger` if the program declares no such tool.
 pub fn interface(alloc: Global, program: &Program, tool: &Name) -> Result<Interface, IfaceFault>
     ensures found { IfOk result (λ found. interface_of program.now tool.now ≡ Some found) }
     ensures stranger { result ≡ Err IfaceFault.Stranger → interface_of program.now tool.now ≡ None }
@@ -64,7 +64,7 @@ fn to_of(alloc: Global, program: &Program, tool: &Name) -> Result<Patterns, NoMe
     Ok(to)
 }
 
-/// Adds what every tool may be told where the bus goes down by itself.
+/// Adds the lines that every tool may receive if the bus shuts down by itself.
 fn add_last(alloc: Global, to: &mut Patterns) -> Result<(), NoMemory>
     ensures { OnOk result (to.new ≡ fold with_new to.old last_lines) }
 {
@@ -73,7 +73,7 @@ fn add_last(alloc: Global, to: &mut Patterns) -> Result<(), NoMemory>
     Ok(())
 }
 
-/// Adds what the atoms of the body may tell the tool.
+/// Adds the lines that the atoms of the body may send to the tool.
 fn add_told(alloc: Global, tool: &Name, body: &Body, to: &mut Patterns) -> Result<(), NoMemory>
     ensures { OnOk result (to.new ≡ fold with_new to.old
         (flat_map (λ atom. tells tool.now body.now.sorts atom.act) body.now.atoms)) }
@@ -97,7 +97,7 @@ fn from_of(alloc: Global, program: &Program, tool: &Name) -> Result<Patterns, No
     Ok(from)
 }
 
-/// Adds what the atoms of the body may take from the tool.
+/// Adds the lines that the atoms of the body may take from the tool.
 fn add_heard(
     alloc: Global,
     kinds: &[Tool],

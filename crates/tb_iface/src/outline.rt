@@ -8,7 +8,7 @@ use std::alloc::Global;
 use tb_func::{Shape, signature};
 use tb_terms::{Boxed, Expr, Items, Name, NoMemory, Pattern, Patterns, Sort, Term};
 
-/// The pattern of all values that the expression may have, where the slots have these sorts.
+/// Returns the pattern of all values that the expression may have, if the slots have these sorts.
 #[cycle(outline)]
 pub(crate) fn outline(alloc: Global, expr: &Expr, sorts: &[Sort]) -> Result<Pattern, NoMemory>
     ensures { IfOk result (λ pattern. pattern ≡ outline sorts.now expr.now) }
@@ -60,7 +60,7 @@ fn sort_of(alloc: Global, shape: Shape) -> Result<Sort, NoMemory>
     }
 }
 
-/// Whether a value with this outline may be the tool.
+/// Returns whether a value with this outline may be the tool.
 pub(crate) fn may_be(tool: &Name, outline: &Pattern) -> bool
     ensures { result ≡ may_be tool.now outline.now }
 {

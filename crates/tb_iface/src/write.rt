@@ -7,7 +7,7 @@ ghost use Rattle.tb_iface.specs.PatternTexts.{command_words, interface_text, pat
 use crate::Interface;
 use tb_terms::{Name, NoMemory, Pattern, Sort, Text, push_quoted, write_term};
 
-/// Appends the one text of a pattern: that of a term in which a placeholder is its type in angle brackets.
+/// Appends the text of a pattern: that of a term in which each placeholder is its type in angle brackets.
 pub fn write_pattern(pattern: &Pattern, into: &mut Vec<u8>) -> Result<(), NoMemory>
     ensures ok { OnOk result (into.new.items ≡ into.old.items ++ pattern_text pattern.now) }
     ensures err { OnErr result (into.new.items ≡ into.old.items) }
@@ -184,7 +184,7 @@ fn push_tool(tool: &Name, command: &Option<Text>, into: &mut Vec<u8>) -> Result<
     Ok(())
 }
 
-/// A line for each pattern, behind this word.
+/// Appends a line for each pattern, after this word.
 fn push_lines(word: &[u8], patterns: &[Pattern], into: &mut Vec<u8>) -> Result<(), NoMemory>
     ensures ok { OnOk result
         (into.new.items ≡ into.old.items ++ pattern_lines word.now patterns.now) }

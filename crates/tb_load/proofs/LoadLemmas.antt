@@ -1,4 +1,4 @@
--- What is loaded of a file that is told, and that an accepted script isn't refused.
+-- The result of loading a file whose content is reported; and an accepted script isn't rejected.
 use Rattle.std.proofs.Common.{◌≡◌, ◌≤◌, ℕ, Option, Some, List, length, subst, arith}
 use Rattle.tb_body.specs.declared.program.Program.{Program}
 use Rattle.tb_expand.specs.declared.fault.ExpandFault.TheVariants as expand
@@ -7,7 +7,7 @@ use Rattle.tb_script.specs.declared.fault.ScriptFault.{ScriptFault}
 use Rattle.tb_script.specs.declared.fault.ScriptFault.TheVariants as script
 use Rattle.tb_load.specs.Loading.{HasProgram, IsBadScript, IsLoaded, IsLoadedWithin, IsRefused, IsTooLong, most_bytes}
 
--- bytes that have a program aren't refused
+-- bytes that have a program aren't rejected
 pub not-refused : (bytes : List ℕ) (program : Program) (fault : ScriptFault) → IsFound bytes (Program' program) → IsRefused bytes fault → ⊥
 not-refused bytes program (script.Lex fault) found h = let same : NoTokens fault ≡ Program' program = found.only (NoTokens fault) h.holds in cc
 not-refused bytes program (script.Parse fault) found h = let same : NoScript fault ≡ Program' program = found.only (NoScript fault) h.holds in cc
@@ -20,7 +20,7 @@ not-refused bytes program (script.NotBuilt token) found h = h
 not-refused bytes program script.NoMemory found h = h
 not-refused bytes program (script.TooLong len) found h = h
 
--- bytes that are loaded are those that are told, and not more than so many
+-- loaded bytes are the reported ones, and not more than so many
 pub told-within : (most : ℕ) (file : Option (List ℕ)) (bytes all : List ℕ) → file ≡ Some bytes → IsLoadedWithin most file all → (all ≡ bytes) × (length bytes ≤ most)
 told-within most file bytes all told loaded =
     let same : all ≡ bytes = (subst (λ (it : Option (List ℕ)). IsLoadedWithin most it all) told loaded).0 in
@@ -29,7 +29,7 @@ told-within most file bytes all told loaded =
 pub is-told : (file : Option (List ℕ)) (bytes all : List ℕ) → file ≡ Some bytes → IsLoaded file all → all ≡ bytes
 is-told file bytes all told loaded = (told-within most_bytes file bytes all told loaded).0
 
--- a name that is told to hold few bytes doesn't hold too many
+-- a file whose reported content is short doesn't have too many bytes
 pub not-long : (bytes : List ℕ) (len : ℕ) → length bytes ≤ most_bytes → IsTooLong (Some bytes) len → ⊥
 not-long bytes len few h = let same : len ≡ length bytes = h.1 in omega (h.0, same, few, arith)
 

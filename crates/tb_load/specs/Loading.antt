@@ -1,4 +1,4 @@
--- What is made of the file of a script: its program, or which fault it has.
+-- The result of loading the file of a script: its program, or its error.
 use Rattle.std.specs.Prelude.{◌≡◌, ◌<◌, ◌≤◌, ℕ, List, Option, IfSome, length}
 use Rattle.tb_body.specs.declared.program.Program.{Program}
 use Rattle.tb_expand.specs.declared.fault.ExpandFault.TheVariants as expand
@@ -12,11 +12,11 @@ use Rattle.tb_load.specs.declared.fault.LoadFault.TheVariants.{Script, File, NoM
 abbrev pub most_bytes : ℕ
 most_bytes = 1048576
 
--- bytes that may be loaded: those that the name holds, where the files tell them, and not more than so many
+-- bytes that may be loaded: the reported content of the file, if the files report it, and not more than so many
 abbrev pub IsLoadedWithin : ℕ → Option (List ℕ) → List ℕ → Type 0
 IsLoadedWithin most told bytes = IfSome told (λ held. bytes ≡ held) × (length bytes ≤ most)
 
--- the name holds so many bytes, where the files tell them, and these are too many
+-- the file has so many bytes, if the files report its content, and these are too many
 abbrev pub IsLongerThan : ℕ → Option (List ℕ) → ℕ → Type 0
 IsLongerThan most told len = (most < len) × IfSome told (λ held. len ≡ length held)
 
@@ -27,11 +27,11 @@ IsLoaded told bytes = IsLoadedWithin most_bytes told bytes
 abbrev pub IsTooLong : Option (List ℕ) → ℕ → Type 0
 IsTooLong told len = IsLongerThan most_bytes told len
 
--- What a fault of a script says of its bytes: this was found of them, and nothing else is.
+-- What an error in a script claims of its bytes: this was found, and nothing else is.
 abbrev pub IsRefused : List ℕ → ScriptFault → Type 0
--- they have no tokens
+-- they can't be tokenized
 IsRefused bytes (script.Lex fault) = IsFound bytes (NoTokens fault)
--- their tokens spell no script within the limits
+-- their tokens don't parse as a script within the limits
 IsRefused bytes (script.Parse fault) = IsFound bytes (NoScript fault)
 -- the script fails a condition
 IsRefused bytes (script.Check fault) = IsFound bytes (Improper fault)
@@ -41,13 +41,13 @@ IsRefused bytes (script.Expand (expand.Recursion names)) = IsFound bytes (Recurs
 IsRefused bytes (script.Expand (expand.TooLarge name)) = IsFound bytes (Large name)
 -- there are too many roots
 IsRefused bytes (script.Roots count) = IsFound bytes (ManyRoots count)
--- each form is built, running out of memory is no fault of the script, and its length is a matter of the file
+-- each form is built, out of memory is no error of the script, and its length is a matter of the file
 IsRefused bytes (script.NotBuilt token) = ⊥
 IsRefused bytes (script.Expand expand.NoMemory) = ⊥
 IsRefused bytes script.NoMemory = ⊥
 IsRefused bytes (script.TooLong len) = ⊥
 
--- The file's bytes are loaded; they have this program, and nothing else is found of them.
+-- The file's bytes are loaded; they have this program, and nothing else is found.
 pub record HasProgram (told : Option (List ℕ)) (program : Program) : Type 0 where
   pub bytes : List ℕ
   pub loaded : IsLoaded told bytes
@@ -57,16 +57,16 @@ pub record HasProgram (told : Option (List ℕ)) (program : Program) : Type 0 wh
 abbrev pub IsAccepted : Option (List ℕ) → Type 0
 IsAccepted told = (program : Program) × HasProgram told program
 
--- Why the file of a script is refused.
+-- Why the file of a script is rejected.
 abbrev pub IsBadScript : Option (List ℕ) → ScriptFault → Type 0
 -- it has so many bytes, too many
 IsBadScript told (script.TooLong len) = IsTooLong told len
--- its bytes are refused
+-- its bytes are rejected
 IsBadScript told fault = (bytes : List ℕ) × IsLoaded told bytes × IsRefused bytes fault
 
 -- Why it gives no program.
 abbrev pub IsUnloaded : Option (List ℕ) → LoadFault → Type 0
--- it is refused
+-- it is rejected
 IsUnloaded told (Script fault) = IsBadScript told fault
 -- it could not be read
 IsUnloaded told File = Unit {0}

@@ -10,7 +10,7 @@ use tb_body::Program;
 use tb_edge::{Files, FilesFault, Loaded};
 use tb_script::{ScriptFault, load};
 
-/// A longer file is refused.
+/// A longer file is rejected.
 pub const MOST_BYTES: usize = 1_048_576;
 
 /// The program of the script in the file of this name.

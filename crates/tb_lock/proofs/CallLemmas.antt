@@ -1,4 +1,4 @@
--- What a call on the core in hand adds, and what the whole call comes to.
+-- What a call on the taken core adds, and the result of the whole call.
 use Rattle.std.proofs.Common.{◌≡◌, ◌<◌, ◌≤◌, ◌++◌, length, cond, true≢false, ℕ, List, [], ◌∷◌, Bool, true, false, ◌||◌, Option, Some, None, Result, Ok, Err, IfOk, OnErr, option_to_list, refl, sym, ap, ◌∙◌, subst, append-nil, arith}
 use Rattle.std.proofs.lemmas.List.{append_cancel_left}
 use Rattle.atomic_table.specs.Seated.{TableId}

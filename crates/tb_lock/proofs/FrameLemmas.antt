@@ -103,7 +103,7 @@ at_most_one (Waiting ticket) = omega arith
 at_most_one (Serving ticket mark) = omega arith
 at_most_one (Joined one rights other more) = omega arith
 
--- who has a ticket has room
+-- a seat with a ticket has room
 pub ticket_room : (origin : Origin) (log : List Entry) (stopped : Bool) (served drawn : ℕ) (seat : SeatView) → Fits origin log stopped served drawn seat → tickets seat.stage ≤ seat.room
 ticket_room origin log stopped served drawn seat f = by seat.room refl
   where

@@ -1,4 +1,4 @@
--- How the history grows, and where the entries of seats stand in it.
+-- How the history grows, and the places of the seats' entries in it.
 use Rattle.std.proofs.Common.{◌≡◌, ◌⊎◌, ◌≤◌, ◌<◌, ◌+◌, ◌-◌, ◌==◌, ℕ, zero, suc, nat_lt, List, [], ◌∷◌, ◌++◌, length, slice_get, Some, Bool, true, false, ◌||◌, if◌then◌else◌, true≢false, refl, sym, ap, ◌∙◌, subst, inl, inr, ⊎_elim, arith, length-append, append-nil, append_assoc, eqb-true, eq-eqb, ltb-true, ltb-false}
 use Rattle.std.proofs.lemmas.List.Folds.{list_any-append}
 use Rattle.std.proofs.lemmas.Option.{slice_get_within, slice_get_past}
@@ -35,7 +35,7 @@ beginnings {A} (a ∷ one) (b ∷ other) x y e short =
     let t = beginnings one other x y rest (omega arith) in
     (t.0, (λ i. sym head i ∷ t.1 i), t.2)
 
--- so whose rights are in the shorter has seen them in the longer
+-- so a seat whose entries are in the shorter log has seen them in the longer
 pub grows_to : (rights : Rights) (one other log rest : List Entry) → Grows rights one log → log ≡ other ++ rest → length one ≤ length other → Grows rights one other × (own rights rest ≡ [])
 grows_to rights one other log rest g e short =
     let t = beginnings one other g.rest rest (sym g.is ∙ e) short in
@@ -77,7 +77,7 @@ grows_second rights more one other log g h =
     (λ (t : (longer one other ≡ one) × (length other ≤ length one)). subst (Grows more other) (sym t.0) (grows_to more other one log g.rest h g.is t.1).0)
     (longer_is one other)
 
--- what stands in a log stands there when it has grown
+-- entries at places in a log are at these places after it has grown
 get-longer : (log more : List Entry) (k : ℕ) (entry : Entry) → slice_get log k ≡ Some entry → slice_get (log ++ more) k ≡ Some entry
 get-longer [] more k entry e = absurd (cc)
 get-longer (x ∷ log) more zero entry e = e
@@ -127,7 +127,7 @@ index_within log from (own ∷ owns) index h e =
 pub has_index-append : (index : ℕ) (owns more : List Own) → has_index index (owns ++ more) ≡ (has_index index owns || has_index index more)
 has_index-append index owns more = list_any-append (λ (own : Own). own.index == index) owns more
 
--- entries that were added stand at the end
+-- added entries are at the end
 pub indexed_from : (index : ℕ) (entries : List Entry) (at : ℕ) → has_index at (indexed index entries) ≡ true → index ≤ at
 indexed_from index [] at e = absurd (true≢false (sym e))
 indexed_from index (entry ∷ entries) at e =

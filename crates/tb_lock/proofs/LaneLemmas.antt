@@ -19,7 +19,7 @@ not_true false never = refl
 
 module _ (rights : Rights) where
   module _ (lane : ℕ) where
-    -- a lane whose right isn't there is another than one whose right is
+    -- a lane without a right isn't a lane with one
     other_in : has rights (In lane) ≡ true → (at : ℕ) → has rights (In at) ≡ false → (at == lane) ≡ false
     other_in there at none = not_true (at == lane) (λ e. true≢false (sym there ∙ (ap (λ (l : ℕ). has rights (In l)) (sym (same_lane at lane e)) ∙ none)))
 
@@ -46,7 +46,7 @@ module _ (rights : Rights) where
     not_handed there (Fed it reply) none = refl
     not_handed there (Gave at out) none = ap (λ (b : Bool). if b then Some out else None) (other_out there at none)
 
-    -- all that was handed out on a lane
+    -- all items that were sent on a lane
     pub handed_own : has rights (Outs lane) ≡ true → (log : List Entry) → handed (own rights log) lane ≡ handed log lane
     handed_own there log = handed_kept (λ entry. has rights (right_of entry)) lane (not_handed there) log
 
@@ -60,7 +60,7 @@ module _ (rights : Rights) where
     pub cut_off_own : has rights (Outs lane) ≡ true → (log : List Entry) → is_cut_off (own rights log) lane ≡ is_cut_off log lane
     cut_off_own there log = cut_off_kept (λ entry. has rights (right_of entry)) lane (λ it reply none. no_cut there it none) (λ at out none. other_out there at none) log
 
-    -- what was handed out and put
+    -- the items that were sent and written
     pub sent_own : has rights (Outs lane) ≡ true → (log : List Entry) → sent (own rights log) lane ≡ sent log lane
     sent_own there log = sent_kept (λ entry. has rights (right_of entry)) lane (λ it reply none. no_cut there it none) (λ at out none. other_out there at none) log
 
@@ -74,6 +74,6 @@ module _ (rights : Rights) where
   no_tick there (Fed (input.Gone at) reply) none = refl
   no_tick there (Fed (input.Cut at) reply) none = refl
 
-  -- how many ticks were handed in
+  -- how many ticks were delivered
   pub ticks_own : has rights Ticks ≡ true → (log : List Entry) → ticks (own rights log) ≡ ticks log
   ticks_own there log = ticks_kept (λ entry. has rights (right_of entry)) (no_tick there) log

@@ -1,4 +1,4 @@
--- Noting a call on the core in hand keeps the rule, and so does noting that it was stopped.
+-- Noting a call on the taken core keeps the rule, and so does noting that it was stopped.
 use Rattle.std.proofs.Common.{◌≡◌, ◌≢◌, ◌<◌, ◌+◌, ◌%◌, ◌^◌, ℕ, List, [], ◌∷◌, ◌++◌, length, slice_index, slice_set, Bool, true, Option, Some, option_to_list, refl, sym, ap, ◌∙◌, subst, inr, ⊎_elim, arith, length-append}
 use mathlib.Core.Option as opt
 use lib.ListN.{get_elem?}

@@ -1,4 +1,4 @@
--- Reading whose turn it is keeps the rule, and tells of the core that is taken.
+-- Reading whose turn it is keeps the rule, and shows the core that is taken.
 use Rattle.std.proofs.Common.{◌≡◌, ◌≢◌, ◌≤◌, ◌<◌, ◌%◌, ◌^◌, ℕ, List, [], ◌∷◌, slice_index, slice_set, true, false, Option, Some, true≢false, refl, sym, ap, ◌∙◌, subst, inr, ⊎_elim, arith}
 use Rattle.std.proofs.lemmas.List.{set-get_or}
 use mathlib.Core.Logic.{dite}
@@ -142,7 +142,7 @@ module _ (origin : Origin) (board : BoardState) (run : Running origin board) (id
 waits_so : (seat : SeatView) (ticket other : ℕ) → seat.stage ≡ Waiting ticket → seat.stage ≡ Waiting other → ticket ≡ other
 waits_so seat ticket other one more = cc
 
--- told by one ticket, since a seat has no other
+-- by its one ticket, because a seat has no other
 told_by : (me after : HolderState) (found ticket : ℕ) → me.0.stage ≡ Waiting ticket → (found ≡ ticket % 2 ^ 64 → TakesSlot ticket me after) → (found ≢ ticket % 2 ^ 64 → after ≡ me) → Reads me found after
 told_by me after found ticket waits hits misses other more =
     subst (λ (n : ℕ). (found ≡ n % 2 ^ 64 → TakesSlot n me after) × (found ≢ n % 2 ^ 64 → after ≡ me)) (waits_so me.0 ticket other waits more) (hits, misses)

@@ -1,4 +1,4 @@
--- Rights that were handed on, and rights that came together.
+-- Rights that were passed on, and rights that came together.
 use Rattle.std.proofs.Common.{◌≡◌, ◌⊎◌, ◌<◌, ◌+◌, ◌%◌, ◌^◌, ◌==◌, ℕ, zero, suc, min, max, Bool, true, false, not, ◌&&◌, ◌||◌, true≢false, refl, sym, ap, ◌∙◌, subst, inl, inr, arith, eqb-true, eq-eqb}
 use Rattle.std.proofs.lemmas.Bool.{eqb-false}
 use Rattle.std.specs.Int.{bit_at}
@@ -67,7 +67,7 @@ all_lanes lane is =
     let high = is.1 in
     ap (λ (n : ℕ). n == 1) (bit_at_ones 16 (lane - 1) (omega arith))
 
--- what is left is among the rights, and none of it was handed on
+-- what is left is among the rights, and none of it was passed on
 pub left_among : (rights gone : Rights) → AreAmong (without rights gone) rights
 left_among rights gone right e = (and_true (has rights right) (has gone right) (sym (has-without rights gone right) ∙ e)).0
 

@@ -139,7 +139,7 @@ living_send W s = search (sendable, crosses, inbox_send, ready_send) depth 40
 buffers_send : IsSend buffers.the_row
 buffers_send = search (sendable, crosses, terms_send, patterns_send, binds_send) depth 40
 
--- who waits, and what is hinted at
+-- waiting threads, and hints
 gate_sync : IsSync gate.the_row
 gate_sync = search (sendable, crosses) depth 40
 

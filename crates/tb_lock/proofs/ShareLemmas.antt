@@ -1,4 +1,4 @@
--- Parting a seat and joining two keep the rule, and so does the look after a join, which tells what each had seen.
+-- Splitting a seat and joining two keep the rule. So does the look after a join, which shows what each had seen.
 use Rattle.std.proofs.Common.{◌≡◌, ◌≢◌, ◌⊎◌, ◌≤◌, ◌<◌, ◌+◌, ◌-◌, ℕ, List, [], ◌∷◌, ◌++◌, set, slice_index, slice_set, Bool, true, false, ◌||◌, Some, None, true≢false, refl, sym, ap, ◌∙◌, subst, inl, inr, ⊎_elim, arith, length, length-append, append-nil, ◌==◌}
 use Rattle.std.proofs.lemmas.List.{set_comm, nil_from_length}
 use Rattle.std.proofs.lemmas.List.Sums.{sum_by_push}

@@ -16,7 +16,7 @@ ticket_range log stopped served drawn seat (Waiting other) ticket f e = let is :
 ticket_range log stopped served drawn seat (Serving other mark) ticket f e = let is : other ≡ ticket = cc in let low = f.0 in let high = f.1 in (omega arith, omega arith)
 ticket_range log stopped served drawn seat (Joined one rights other more) ticket f e = absurd (cc)
 
--- whose turn is open is served
+-- a seat whose turn is open is served
 pub turn_ticket : (log : List Entry) (stopped : Bool) (served drawn : ℕ) (seat : SeatView) (stage : Stage) → FitsStage log stopped served drawn seat stage → has_turn stage ≡ true → ticket_of stage ≡ Some served
 turn_ticket log stopped served drawn seat Opening f e = absurd f
 turn_ticket log stopped served drawn seat Idle f e = absurd (true≢false (sym e))

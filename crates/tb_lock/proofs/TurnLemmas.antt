@@ -93,7 +93,7 @@ pub acquired : (seat : SeatView) (after : HolderState) (found : Option CoreState
 acquired seat after found core result ticket one more is meets =
     subst (λ (k : CoreState). HasTurn seat k after × Meets seat k) (same_core found core result one more) ((ticket, is), meets)
 
--- Two seats were joined, and the look has told what each had seen.
+-- Two seats were joined, and the look has shown what each had seen.
 pub united_by : (me after : HolderState) (found : ℕ) (seat other : SeatView) → me ≡ (joining seat other, []) → seat.stage ≡ Idle → Looks me found after → (after ≡ (joined seat other, [])) × Joins seat other after.0
 united_by me after found seat other is idle looks =
     let t = (subst (λ (m : HolderState). Looks m found after) is looks) seat.seen seat.rights other.seen other.rights refl in

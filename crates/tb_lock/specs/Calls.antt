@@ -1,4 +1,4 @@
--- What the calls of a shared bus come to: those that wait for a turn are answered as by one core, whose log is the one history; and how seats join.
+-- The results of the calls of a shared bus, and of a join. The calls that wait for a turn have the answers of one core, whose log is the one history.
 use Rattle.std.specs.Prelude.{◌≡◌, ◌↔◌, ℕ, Bool, List, [], ◌∷◌, ◌++◌, map, length, take, drop, true, false, ◌||◌, IsTrue, Result, Ok, Err, IfOk, IsErrOf, ⊤}
 use Rattle.std.specs.Option.{is_some}
 use Rattle.tb_terms.specs.declared.memory.NoMemory.{NoMemory}
@@ -19,23 +19,23 @@ use Rattle.tb_lock.specs.Rights.{own, all_rights}
 use Rattle.tb_lock.specs.Histories.{Grows, IsSparse, indexed}
 use Rattle.tb_lock.specs.Seats.{SeatView, joined, most_seats}
 
--- The core that a seat meets in its turn. It was started where the seat's bus was, and its log is the history so far.
+-- The core that a seat meets in its turn. Core and bus of the seat have the same origin, and the core's log is the history so far.
 pub record Meets (seat : SeatView) (core : CoreState) : Type 0 where
   pub origin : core.origin ≡ seat.origin
-  -- that begins with all that the seat has seen, and nothing that came since needs one of its rights
+  -- the log begins with the entries that the seat has seen, and no later entry needs one of the seat's rights
   pub grows : Grows seat.rights seat.seen core.log
-  -- it is a trace, and says quiet once where nothing came between
+  -- the log is a trace, and no two `quiet` entries follow one another
   pub trace : IsTrace (start seat.origin) core.log
   pub sparse : IsSparse core.log
-  -- each entry needs a right that there is
+  -- each entry needs an existing right
   pub owned : own all_rights core.log ≡ core.log
-  -- a seat that has stopped the bus, or was told that it was stopped, meets it stopped
+  -- if the seat has stopped the bus, or one of its calls was answered `Stopped`, the core is stopped
   pub called : seat.called ≡ true → core.stopped ≡ true
   pub told : seat.told ≡ true → core.stopped ≡ true
-  -- where there is no other seat, it is stopped only where this one has stopped it
+  -- if there is no other seat, the core is stopped only if this seat has stopped it
   pub alone : seat.room ≡ most_seats → core.stopped ≡ true → seat.called ≡ true
 
--- a seat after a call of its own on that core, which has added these entries
+-- a seat after its own call on that core, which has added these entries
 abbrev pub noted : SeatView → CoreState → List Entry → SeatView
 noted seat core entries = record seat {
   seen = core.log ++ entries;
@@ -43,41 +43,41 @@ noted seat core entries = record seat {
   told = seat.told || core.stopped;
 }
 
--- what a call adds: nothing where it was refused
+-- the entries that a call adds: none after an error
 abbrev pub added : {A : Type 0} → Result A CoreFault → List Entry → List Entry
 added (Ok answer) entries = entries
 added (Err refused) entries = []
 
--- what a call needs of what it hands in
+-- the condition on the argument of a call
 abbrev pub IsCallInShape : Call → Type 0
 IsCallInShape (HandIn input) = IsInputInShape input
 IsCallInShape MakeStep = ⊤
 IsCallInShape (HandOut lane) = IsLane lane
 
--- A call that may log an entry: the answer and the entry are those of the core that the seat meets.
+-- A call that may log an entry. The answer and the entry are those of the core that the seat meets.
 pub record Called {A : Type 0} (Finds : CoreState → A → Type 0) (call : Call) (old new : SeatView) (result : Result A CoreFault) : Type 0 where
   pub core : CoreState
   pub meets : Meets old core
-  -- of the seat this changes
+  -- the change of the seat
   pub seat : new ≡ noted old core (added result (entries_of core call))
-  -- the history with the call
+  -- the history, with the call's entry
   pub trace : IsTrace (start old.origin) new.seen
   pub sparse : IsSparse new.seen
-  -- the answer, and when the call is refused
+  -- the answer, and when the call returns an error
   pub finds : IfOk result (Finds core)
   pub stopped : IsErrOf result fault.Stopped ↔ IsTrue core.stopped
   pub full : IsErrOf result fault.Full → is_full core call ≡ true
   pub room : IfOk result (λ _. is_full core call ≡ false)
 
--- what becomes of an input
+-- the reply to an input
 abbrev pub IsReply : Input → CoreState → Reply → Type 0
 IsReply input core reply = reply ≡ (fed (bus_now core) input).reply
 
--- what is taken from a lane
+-- the item that is taken from a lane
 abbrev pub IsTaken : ℕ → CoreState → TakeOut → Type 0
 IsTaken lane core taken = IsTakenOut core lane taken
 
--- A call that changes nothing: the seat has then seen the history so far, and the answer is that of the core that it meets.
+-- A call that changes nothing. Afterwards the seat has seen the history so far, and the answer is that of the core that the seat meets.
 pub record Observes {A : Type 0} (Finds : CoreState → A → Type 0) (old new : SeatView) (answer : A) : Type 0 where
   pub core : CoreState
   pub meets : Meets old core
@@ -88,11 +88,11 @@ pub record Observes {A : Type 0} (Finds : CoreState → A → Type 0) (old new :
 abbrev pub IsStateOf : ℕ → CoreState → LaneState → Type 0
 IsStateOf lane core state = state ≡ lane_state (lane_at lane (bus_now core).bench)
 
--- on which lanes something is to be handed out, in order
+-- for each lane, in order, whether an item is queued on it
 abbrev pub AreOuts : CoreState → List Bool → Type 0
 AreOuts core outs = outs ≡ map (λ lane. is_some (next_out lane (bus_now core).bench)) (1 ∷ 2 ∷ 3 ∷ 4 ∷ 5 ∷ 6 ∷ 7 ∷ 8 ∷ 9 ∷ 10 ∷ 11 ∷ 12 ∷ 13 ∷ 14 ∷ 15 ∷ 16 ∷ [])
 
--- the entries of the log behind the first so many, and of these so many at most
+-- from the entries of the log after the first `from`, at most the first `most`
 abbrev pub IsPieceOf : ℕ → ℕ → CoreState → Result (List Entry) NoMemory → Type 0
 IsPieceOf from most core found = IfOk found (λ piece. piece ≡ take most (drop from core.log))
 
@@ -102,13 +102,13 @@ pub record StopsBus (old new : SeatView) : Type 0 where
   pub meets : Meets old core
   pub seat : new ≡ record old { seen = core.log; called = true; told = true }
 
--- Two seats become one, of which each has seen all the entries of its rights.
+-- Two seats become one. Each has seen all entries of its rights.
 pub record Joins (old other new : SeatView) : Type 0 where
   pub seat : new ≡ joined old other
   pub grows : Grows old.rights old.seen new.seen
   pub other_grows : Grows other.rights other.seen new.seen
 
--- The core that a bus gives back once its only seat closes it.
+-- The core that a bus returns once its only seat closes it.
 pub record Closes (seat : SeatView) (core : CoreState) : Type 0 where
   pub origin : core.origin ≡ seat.origin
   pub log : core.log ≡ seat.seen

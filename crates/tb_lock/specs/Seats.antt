@@ -1,4 +1,4 @@
--- What contracts see of a seat, and what opening, parting and joining make of one.
+-- What contracts see of a seat, and the results of opening, splitting, and joining seats.
 use Rattle.std.specs.Prelude.{◌≡◌, ℕ, ◌+◌, ◌-◌, List, [], Bool, true, false, ◌||◌, ◌⊎◌, refl}
 use Rattle.std.specs.Coded.{Coded, code_by, coded×, coded⊎, coded_ℕ, coded_bool, coded_list}
 use mathlib.Core.Logic.{inl, inr}
@@ -21,13 +21,13 @@ pub data Stage : Type 0 where
   Idle : Stage
   -- it has drawn this ticket
   Waiting : ℕ → Stage
-  -- its turn is open: its ticket, and whether the core in hand is stopped
+  -- its turn is open: its ticket, and whether the taken core is stopped
   Serving : ℕ → Bool → Stage
   -- it was joined by another just now: what each had seen, with its rights
   Joined : List Entry → Rights → List Entry → Rights → Stage
 
 pub record SeatView : Type 0 where
-  -- which bus it is a seat of, and where that was started
+  -- the bus of the seat, and where that bus was started
   pub bus : TableId
   pub origin : Origin
   -- the history, as far as the seat has seen it
@@ -35,11 +35,11 @@ pub record SeatView : Type 0 where
   -- the entries that its calls have made
   pub mine : List Own
   pub rights : Rights
-  -- how many seats it may become, itself among them
+  -- the number of seats that it may become, itself included
   pub room : ℕ
-  -- it has called `stop`, or one that joined it has
+  -- this seat, or one that joined it, has called `stop`
   pub called : Bool
-  -- likewise, or it was answered that the bus was stopped
+  -- the same, or a call was answered `Stopped`
   pub told : Bool
   pub stage : Stage
 
@@ -102,7 +102,7 @@ no_origin = record { program = record { bodies = []; roots = []; tools = []; in_
 abbrev pub nobody : SeatView
 nobody = record { bus = no_bus; origin = no_origin; seen = []; mine = []; rights = no_rights; room = 0; called = false; told = false; stage = Idle }
 
--- how many seats there may be
+-- the greatest number of seats
 abbrev pub most_seats : ℕ
 most_seats = 64
 
@@ -110,11 +110,11 @@ most_seats = 64
 abbrev pub first_seat : TableId → Origin → SeatView
 first_seat bus origin = record { bus = bus; origin = origin; seen = []; mine = []; rights = all_rights; room = most_seats; called = false; told = false; stage = Idle }
 
--- what a seat keeps where these rights are handed on
+-- the rest of a seat after it has passed these rights on
 abbrev pub kept_of : Rights → SeatView → SeatView
 kept_of gone seat = record seat { rights = without seat.rights gone; room = seat.room - 1 }
 
--- the new seat that has them: it has seen as much, and has made nothing
+-- the new seat with these rights: it has seen as much, and has added nothing
 abbrev pub handed_on : Rights → SeatView → SeatView
 handed_on gone seat = record seat { mine = []; rights = gone; room = 1; called = false; told = false }
 

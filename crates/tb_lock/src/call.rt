@@ -10,13 +10,13 @@ use tb_log::{Input, Reply};
 pub(crate) trait CoreCall<W: Walker> {
     ghost use Rattle.tb_core.specs.Cores.{Call, CoreState};
 
-    /// What it is answered.
+    /// The answer of the call.
     type Answer;
 
-    /// Which call it is.
+    /// The kind of the call.
     ghost call: { Self → Call };
 
-    /// Which answer is right.
+    /// The correct answers.
     ghost finds: { Self → CoreState → Self.Answer → Type 0 };
 
     /// Makes the call.
@@ -25,7 +25,7 @@ pub(crate) trait CoreCall<W: Walker> {
         ensures { Answers (finds self) (call self) core.old core.new result };
 }
 
-/// An input is handed in.
+/// Delivers an input.
 #[derive(Drop)]
 pub(crate) struct HandingIn {
     pub(crate) input: Input,
@@ -46,7 +46,7 @@ impl<W: Walker> CoreCall<W> for HandingIn {
     }
 }
 
-/// A step is made.
+/// Makes a step.
 #[derive(Drop)]
 pub(crate) struct Stepping;
 
@@ -64,7 +64,7 @@ impl<W: Walker> CoreCall<W> for Stepping {
     }
 }
 
-/// What is to be handed out next on a lane is taken.
+/// Takes the next item that is queued on a lane.
 #[derive(Drop)]
 pub(crate) struct TakingOut {
     pub(crate) lane: u8,

@@ -6,8 +6,8 @@ ghost use Rattle.tb_lock.specs.Rights.{AreAmong, has, own, right_to};
 ghost use Rattle.tb_lock.specs.Seats.{SeatView};
 ghost use Rattle.tb_lock.specs.Calls.{Meets, StopsBus, Joins, noted};
 
-/// Of the entries that need a seat's rights, or some of them, the seat sees after a call just those that it saw
-/// before, and then the call's own. A call has the right for what it adds, and adds one entry at most.
+/// Take the entries that need one of a seat's rights, or one of some of them. After a call, the seat sees the same of these as
+/// before, and then the call's own. A call has the right for the entries that it adds, and adds one at most.
 pub fn calls_add_their_own()
     ensures seen { (old : SeatView) (core : CoreState) (entries : List Entry) (some : Rights)
         → Meets old core → AreAmong some old.rights
@@ -18,8 +18,8 @@ pub fn calls_add_their_own()
     ensures one { (core : CoreState) (call : Call) → length (entries_of core call) ≤ 1 }
 {}
 
-/// Of the entries that need a seat's rights, or some of them, the seat sees in its turn just those that it saw before, and
-/// so after a call that only looks (`Observes` has such a core), and after it has stopped the bus.
+/// Take the entries that need one of a seat's rights, or one of some of them. In its turn, the seat sees the same of these as
+/// before. So it does after a call that only looks (`Observes` has such a core), and after it has stopped the bus.
 pub fn looks_add_nothing()
     ensures meets { (old : SeatView) (core : CoreState) (some : Rights) → Meets old core
         → AreAmong some old.rights → own some core.log ≡ own some old.seen }
@@ -30,7 +30,7 @@ pub fn looks_add_nothing()
         → AreAmong some old.rights → own some new.seen ≡ own some old.seen }
 {}
 
-/// Of each right of either seat, that seat had seen all entries before the join.
+/// Before a join, each of the two seats had seen all entries that need one of its rights.
 pub fn joins_keep_their_own()
     ensures first { (old other new : SeatView) (some : Rights) → Joins old other new
         → AreAmong some old.rights → own some new.seen ≡ own some old.seen }

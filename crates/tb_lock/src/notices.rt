@@ -1,4 +1,4 @@
-//! For whom there is something on a lane, as the last turn left the core. It is a hint, and no clause speaks of it.
+//! The lanes that have something for their writers, as the last turn left the core. This is a hint, and no clause speaks of it.
 ghost use Rattle.tb_lock.specs.Calls.{AreOuts};
 
 use std::sync::atomic::{AtomicU32, Ordering};
@@ -18,7 +18,7 @@ impl Notices {
         }
     }
 
-    /// Says what a turn leaves, before it is passed on.
+    /// Notes what a turn leaves, before the turn is passed on.
     pub(crate) fn put<W: Walker>(&self, core: &Core<W>) {
         self.lanes.store(lanes_of(core), Ordering::SeqCst);
     }
@@ -32,8 +32,8 @@ fn bit_of(lane: u8) -> u32 {
     1u32.wrapping_shl(u32::from(lane))
 }
 
-/// The lanes on which a call to take out is not answered that there is nothing: where the core was stopped, or its bus is
-/// down, all of them.
+/// Returns the lanes whose writers would get another answer than "nothing is queued". If the core was stopped or its bus has shut
+/// down, these are all lanes.
 fn lanes_of<W: Walker>(core: &Core<W>) -> u32 {
     if core.is_stopped() || core.is_down() {
         return u32::MAX;
@@ -52,7 +52,7 @@ fn lanes_of<W: Walker>(core: &Core<W>) -> u32 {
     lanes
 }
 
-/// On which lanes something is to be handed out, in order.
+/// Returns for each lane, in order, whether an item is queued on it.
 fn outs_of<W: Walker>(core: &Core<W>) -> [bool; 16]
     ensures { AreOuts core.now result }
 {

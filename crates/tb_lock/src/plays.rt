@@ -6,7 +6,7 @@ use std::marker::{Brand, PhantomData};
 use tb_algebra::Walker;
 use tb_core::Core;
 
-/// The rule that every step keeps. Its key is the core that the bus was made of.
+/// The rule that every step keeps. Its key is the core of the bus.
 pub struct BusRule;
 
 impl<W: Walker> TableRule<Option<Core<W>>, View, Core<W>> for BusRule {
@@ -35,7 +35,7 @@ impl<W: Walker> Play<Option<Core<W>>, View> for Draw {
     ghost then = { λ _ me found after. Draws me found after };
 }
 
-/// Read whose turn it is, and take the slot where it is one's own. An exchange then takes the core out of it.
+/// Read the ticket whose turn it is. If it is the seat's own, take the slot. An exchange then takes the core out of the slot.
 pub(crate) struct Read;
 
 impl<W: Walker> Play<Option<Core<W>>, View> for Read {
@@ -44,7 +44,7 @@ impl<W: Walker> Play<Option<Core<W>>, View> for Read {
     ghost then = { λ _ me found after. Reads me found after };
 }
 
-/// Note a call that was made on the core in hand, which has logged one entry at most.
+/// Note a call on the core that was taken. The call has logged one entry at most.
 pub(crate) struct Note;
 
 impl<W: Walker> Play<Option<Core<W>>, View> for Note {
@@ -53,7 +53,7 @@ impl<W: Walker> Play<Option<Core<W>>, View> for Note {
     ghost then = { λ _ me found after. Notes me found after };
 }
 
-/// Note that the core in hand was stopped.
+/// Note that the core that was taken was stopped.
 pub(crate) struct Stop;
 
 impl<W: Walker> Play<Option<Core<W>>, View> for Stop {
@@ -71,7 +71,7 @@ impl<W: Walker> Play<Option<Core<W>>, View> for Pass {
     ghost then = { λ _ me found after. Passes me found after };
 }
 
-/// Look after a join.
+/// Look, after a join.
 pub(crate) struct Look;
 
 impl<W: Walker> Play<Option<Core<W>>, View> for Look {
@@ -80,7 +80,7 @@ impl<W: Walker> Play<Option<Core<W>>, View> for Look {
     ghost then = { λ _ me found after. Looks me found after };
 }
 
-/// Which rights a seat hands on. Each split picks its own.
+/// The rights that a seat passes on. Each split picks its own.
 pub(crate) trait HandsOn {
     ghost use Rattle.tb_lock.specs.declared.rights.Rights.{Rights};
 
@@ -93,7 +93,7 @@ impl HandsOn for Brand {
     ghost rights = { no_rights };
 }
 
-/// A seat hands rights on to a new one.
+/// A seat passes rights on to a new one.
 pub(crate) struct Part<H> {
     of: PhantomData<H>,
 }

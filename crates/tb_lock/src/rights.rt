@@ -2,16 +2,16 @@ ghost use Rattle.std.specs.Prelude.{◌≡◌, ◌↔◌, IsTrue};
 ghost use Rattle.tb_log.specs.Shapes.{IsLane};
 ghost use Rattle.tb_lock.specs.Rights.{AreAmong, all_rights, no_rights, lane_alone, reader_rights, writer_rights, stepper_rights, ticker_rights};
 
-/// What a seat may do. The bit of a lane, from 1 to 16, is its number less one.
+/// The permitted calls of a seat. The bit of a lane, from 1 to 16, is its number minus one.
 #[derive(Clone, Copy, Debug, PartialEq, Eq)]
 pub struct Rights {
     /// To make steps.
     pub steps: bool,
-    /// To hand in ticks, and that no more of them come.
+    /// To deliver ticks, and to report that no more of them come.
     pub ticks: bool,
-    /// To hand in what comes from the tools of these lanes, their ends too.
+    /// To deliver the output of the tools of these lanes, and its end.
     pub ins: u16,
-    /// To take out what goes to the tools of these lanes, and to hand in that it couldn't be put.
+    /// To take the items that are queued for the tools of these lanes, and to report that one couldn't be written.
     pub outs: u16,
 }
 
@@ -40,7 +40,7 @@ impl Rights {
         }
     }
 
-    /// To hand in what comes from the tool of a lane from 1 to 16, and nothing else.
+    /// To deliver the output of the tool of a lane from 1 to 16, and its end. No other right.
     pub fn reader(lane: u8) -> Rights
         requires { IsLane lane }
         ensures { result ≡ reader_rights lane }
@@ -53,7 +53,8 @@ impl Rights {
         }
     }
 
-    /// To take out what goes to the tool of a lane from 1 to 16 and to hand in that it couldn't be put, and nothing else.
+    /// To take the items that are queued for the tool of a lane from 1 to 16, and to report that one couldn't be written. No other
+    /// right.
     pub fn writer(lane: u8) -> Rights
         requires { IsLane lane }
         ensures { result ≡ writer_rights lane }
@@ -66,7 +67,7 @@ impl Rights {
         }
     }
 
-    /// To make steps, and nothing else.
+    /// To make steps. No other right.
     pub fn stepper() -> Rights
         ensures { result ≡ stepper_rights }
     {
@@ -78,7 +79,7 @@ impl Rights {
         }
     }
 
-    /// To hand in ticks, and nothing else.
+    /// To deliver ticks, and to report that no more of them come. No other right.
     pub fn ticker() -> Rights
         ensures { result ≡ ticker_rights }
     {
@@ -90,7 +91,7 @@ impl Rights {
         }
     }
 
-    /// Whether each of some rights is among these.
+    /// Returns whether each right of `some` is among these.
     pub fn cover(&self, some: &Rights) -> bool
         ensures { IsTrue result ↔ AreAmong some.now self.now }
     {

@@ -1,7 +1,7 @@
 use atomic_table::Badge;
 use std::marker::Model;
 
-/// What a seat knows, as the rule of the bus sees it. No value of it is made.
+/// A seat's knowledge, as the rule of the bus sees it. No value of this type is made.
 pub struct View {}
 
 impl Model for View {
@@ -14,9 +14,9 @@ impl Model for View {
     ghost view = { λ _. nobody };
 }
 
-/// The right to take part in a bus. It has no bytes at run time, and may go to another thread. Contracts see what it
-/// knows and may do: the history so far as it has seen it, its own entries in that, its rights, and how many
-/// seats it may become. A seat that is dropped takes its rights and its room with it.
+/// The right to take part in a bus. It has no bytes at run time, and another thread may receive it. Contracts see the seat's
+/// knowledge and rights: the history as far as the seat has seen it, its own entries there, its rights, and the number of seats
+/// that it may become. A dropped seat takes its rights and its room with it.
 #[derive(Drop)]
 pub struct Seat {
     pub(crate) badge: Badge<View>,

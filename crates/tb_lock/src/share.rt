@@ -1,4 +1,4 @@
-//! A seat is parted in two, and two are made one.
+//! Splitting a seat in two, and joining two seats.
 ghost use Rattle.std.specs.Prelude.{◌≡◌, ◌<◌, []};
 ghost use Rattle.tb_lock.specs.Rights.{AreAmong};
 ghost use Rattle.tb_lock.specs.Seats.{Idle, kept_of, handed_on};
@@ -10,7 +10,7 @@ use crate::plays::{HandsOn, Look, Part, Unite};
 use crate::rights::Rights;
 use tb_algebra::Walker;
 
-/// Parts a seat in two.
+/// Splits a seat in two.
 pub(crate) fn part<W: Walker, H: HandsOn>(
     board: &Board<W>,
     holder: &mut Holder<W>,
@@ -30,7 +30,7 @@ pub(crate) fn part<W: Walker, H: HandsOn>(
     board.split_seat::<Part<H>>(holder)
 }
 
-/// Makes two seats one, and looks at once what each had seen.
+/// Joins two seats, and then looks at the entries that each had seen.
 pub(crate) fn unite<W: Walker>(board: &Board<W>, holder: &mut Holder<W>, other: Holder<W>)
     requires board { IsBoard board.now.table_id }
     requires holders { (holder.old.table_id ≡ board.now.table_id)

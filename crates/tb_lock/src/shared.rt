@@ -25,12 +25,12 @@ use tb_log::{Entries, Input, Reply, piece};
 use tb_terms::NoMemory;
 use tb_tools::LaneState;
 
-/// A bus that threads share. Each takes part by a seat of its own, and the calls of all seats take turns: there is one
-/// log, of which each seat has seen a prefix. Contracts see of it its name, by which its seats are known.
+/// A bus that threads share. Each thread takes part by its own seat, and the calls of all seats take turns. So there is one log, and
+/// each seat has seen a prefix of it. Contracts see only the name of the bus, and a seat has the name of its bus.
 #[derive(Drop)]
 pub struct Shared<W: Walker> {
     table: Table<Option<Core<W>>, View, Core<W>, BusRule, Global>,
-    /// Where one goes in before one draws a ticket: so no turn is passed on to a thread that sleeps.
+    /// A thread enters this gate before it draws a ticket. So no turn is passed on to a sleeping thread.
     gate: Gate,
     notices: Notices,
 }
@@ -48,7 +48,7 @@ impl<W: Walker> Model for Shared<W> {
     ghost invariant = { λ bus. IsBoard bus.table.shared.table_id };
 }
 
-/// There was no memory for a bus. The core comes back.
+/// There is no memory for a bus. The core comes back.
 #[derive(Drop)]
 pub struct NoRoom<W: Walker> {
     /// The core, as it was.
@@ -56,7 +56,7 @@ pub struct NoRoom<W: Walker> {
 }
 
 impl<W: Walker> Shared<W> {
-    /// Shares a core that has logged nothing and isn't stopped. The seat has all rights, and room for 64 seats.
+    /// Shares a core that has logged nothing and isn't stopped. The returned seat has all rights, and room for 64 seats.
     pub fn make(alloc: Global, core: Core<W>) -> Result<(Shared<W>, Seat), NoRoom<W>>
         requires log { core.log ≡ [] }
         requires running { core.stopped ≡ false }
@@ -80,7 +80,7 @@ impl<W: Walker> Shared<W> {
         Ok((shared, seat))
     }
 
-    /// Hands some of the seat's rights on to a new seat, with room for itself.
+    /// Moves some of the seat's rights to a new seat, with room for the new seat.
     pub fn split(&self, seat: &mut Seat, rights: Rights) -> Seat
         requires own { seat.old.bus ≡ self.now }
         requires rights { AreAmong rights seat.old.rights }
@@ -96,7 +96,7 @@ impl<W: Walker> Shared<W> {
         }
     }
 
-    /// Takes in another seat, with its rights, its room and its entries.
+    /// Joins another seat to this one, with its rights, its room, and its entries.
     pub fn join(&self, seat: &mut Seat, other: Seat)
         requires own { seat.old.bus ≡ self.now }
         requires other { other.bus ≡ self.now }
@@ -108,7 +108,7 @@ impl<W: Walker> Shared<W> {
         seat.badge = holder.into_badge();
     }
 
-    /// Hands in what comes from outside, in the seat's turn.
+    /// Delivers an input in the seat's turn.
     pub fn hand_in<R: Wait>(
         &self,
         rt: &R,
@@ -123,7 +123,7 @@ impl<W: Walker> Shared<W> {
         self.call(rt, seat, HandingIn { input })
     }
 
-    /// Makes the first of the steps in the seat's turn, or says that there is none, as a core does.
+    /// Makes the first possible step in the seat's turn, or reports that none is possible, as a core does.
     pub fn step<R: Wait>(&self, rt: &R, seat: &mut Seat) -> Result<Stepped, CoreFault>
         requires own { seat.old.bus ≡ self.now }
         requires right { has seat.old.rights (right_to MakeStep) ≡ true }
@@ -132,7 +132,7 @@ impl<W: Walker> Shared<W> {
         self.call(rt, seat, Stepping)
     }
 
-    /// Enters the gate of the bus once, for several turns one after another. The gate is shut until the visit is dropped.
+    /// Enters the gate of the bus once, for several successive turns. The gate stays shut until the visit is dropped.
     pub fn enter<R: Wait>(&self, rt: &R) -> Visit<'_, W>
         ensures { result ≡ self.now }
     {
@@ -142,7 +142,7 @@ impl<W: Walker> Shared<W> {
         }
     }
 
-    /// Takes what is to be handed out next on a lane, in the seat's turn.
+    /// Takes the next item that is queued on a lane, in the seat's turn.
     pub fn take_out<R: Wait>(&self, rt: &R, seat: &mut Seat, lane: u8) -> Result<TakeOut, CoreFault>
         requires own { seat.old.bus ≡ self.now }
         requires lane { IsLane lane }
@@ -152,7 +152,7 @@ impl<W: Walker> Shared<W> {
         self.call(rt, seat, TakingOut { lane })
     }
 
-    /// The state of a lane in the seat's turn.
+    /// Returns the state of a lane, in the seat's turn.
     pub fn lane_state<R: Wait>(&self, rt: &R, seat: &mut Seat, lane: u8) -> LaneState
         requires own { seat.old.bus ≡ self.now }
         requires lane { IsLane lane }
@@ -168,9 +168,8 @@ impl<W: Walker> Shared<W> {
         state
     }
 
-    /// Copies of entries of the history in the seat's turn: of those that stand behind the first `from` the first `most`,
-    /// or all where they are fewer. A seat needs no right for it. Where memory runs out, the seat has seen the history all
-    /// the same.
+    /// Copies entries of the history in the seat's turn. From the entries after the first `from`, it copies the first `most`, or all if
+    /// there are fewer. A seat needs no right for this call. Also if out of memory, the seat has then seen the history.
     pub fn read_log<R: Wait>(
         &self,
         rt: &R,
@@ -192,13 +191,13 @@ impl<W: Walker> Shared<W> {
         found
     }
 
-    /// Whether there is something for who takes out on this lane, as the last turn left the core: something is to be handed out,
-    /// or the bus is down, or was stopped. It takes no turn, and is a hint.
+    /// Returns whether there is something for the writer of this lane, as the last turn left the core: an item is queued on the lane, or
+    /// the bus has shut down or was stopped. The call takes no turn, and its answer is a hint.
     pub fn calls_for(&self, lane: u8) -> bool {
         self.notices.has(lane)
     }
 
-    /// Makes a call of the core in the seat's turn.
+    /// Makes a call of the core, in the seat's turn.
     fn call<R: Wait, C: CoreCall<W>>(
         &self,
         rt: &R,
@@ -216,7 +215,7 @@ impl<W: Walker> Shared<W> {
         answer
     }
 
-    /// Makes a call of the core in one turn of the seat. The thread is inside the gate.
+    /// Makes a call of the core, in one turn of the seat. The thread is inside the gate.
     pub(crate) fn turn<R: Wait, C: CoreCall<W>>(
         &self,
         rt: &R,
@@ -237,7 +236,7 @@ impl<W: Walker> Shared<W> {
         answer
     }
 
-    /// Stops the bus in the seat's turn: from then on each call of any seat that may log an entry is answered `Stopped`.
+    /// Stops the bus in the seat's turn. From then on, each call of any seat that may log an entry answers `Stopped`.
     pub fn stop<R: Wait>(&self, rt: &R, seat: &mut Seat)
         requires own { seat.old.bus ≡ self.now }
         ensures { StopsBus seat.old seat.new }
@@ -252,7 +251,7 @@ impl<W: Walker> Shared<W> {
         seat.badge = holder.into_badge();
     }
 
-    /// Gives the core back once the seat is the only one left, with all rights and all room.
+    /// Returns the core. The seat must be the only one left: it has all rights and all room.
     pub fn close<R: Wait>(self, rt: &R, seat: Seat) -> Core<W>
         requires own { seat.bus ≡ self }
         requires rights { seat.rights ≡ all_rights }

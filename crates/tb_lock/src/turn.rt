@@ -12,7 +12,7 @@ use std::thread::yield_now;
 use tb_algebra::Walker;
 use tb_core::Core;
 
-/// The first turn of a new bus: the core is put in its slot.
+/// Opens the first turn of a new bus: puts the core into its slot.
 pub(crate) fn open<W: Walker>(board: &Board<W>, holder: &mut Holder<W>, core: Core<W>)
     requires board { IsBoard board.now.table_id }
     requires holder { holder.old.table_id ≡ board.now.table_id }
@@ -26,8 +26,8 @@ pub(crate) fn open<W: Walker>(board: &Board<W>, holder: &mut Holder<W>, core: Co
     pass(board, holder);
 }
 
-/// Waits for the seat's turn, and takes the core out. Who is inside the gate of the bus doesn't wait: its ticket is served as it is
-/// drawn.
+/// Waits for the seat's turn, and takes the core out of its slot. A thread inside the gate of the bus doesn't wait: its ticket is
+/// served as soon as it is drawn.
 pub(crate) fn acquire<W: Walker, R: Wait>(
     rt: &R,
     board: &Board<W>,
@@ -52,7 +52,7 @@ pub(crate) fn acquire<W: Walker, R: Wait>(
     unreachable!()
 }
 
-/// Puts the core back with what it has logged in this turn, and passes the turn on.
+/// Puts the core back with the entries that it has logged in this turn, and passes the turn on.
 pub(crate) fn release<W: Walker>(board: &Board<W>, holder: &mut Holder<W>, core: Core<W>)
     requires board { IsBoard board.now.table_id }
     requires holder { holder.old.table_id ≡ board.now.table_id }
@@ -65,7 +65,7 @@ pub(crate) fn release<W: Walker>(board: &Board<W>, holder: &mut Holder<W>, core:
     pass(board, holder);
 }
 
-/// The same with a core that is as it was taken out: there is nothing to note.
+/// Puts back an unchanged core, and passes the turn on. There is nothing to note.
 pub(crate) fn release_unchanged<W: Walker>(board: &Board<W>, holder: &mut Holder<W>, core: Core<W>)
     requires board { IsBoard board.now.table_id }
     requires holder { holder.old.table_id ≡ board.now.table_id }
@@ -77,7 +77,7 @@ pub(crate) fn release_unchanged<W: Walker>(board: &Board<W>, holder: &mut Holder
     pass(board, holder);
 }
 
-/// The same with a core that was stopped in this turn, and has logged nothing.
+/// Puts back a core that was stopped in this turn and has logged nothing, and passes the turn on.
 pub(crate) fn release_stopped<W: Walker>(board: &Board<W>, holder: &mut Holder<W>, core: Core<W>)
     requires board { IsBoard board.now.table_id }
     requires holder { holder.old.table_id ≡ board.now.table_id }

@@ -11,9 +11,9 @@ use std::sync::{MutexGuard, Wait};
 use tb_algebra::Walker;
 use tb_core::{CoreFault, Stepped};
 
-/// A visit inside the gate of a bus, for several turns one after another. Until the visit is dropped, no other thread enters the
-/// gate, so each ticket that the visitor draws is served at once. Calls of the bus itself enter the gate too: within a visit such a
-/// call never returns. Contracts see the name of the bus.
+/// A visit inside the gate of a bus, for several successive turns. Until the visit is dropped, no other thread enters the gate. So
+/// each ticket of the visitor is served at once. Calls of the bus itself enter the gate too: such a call never returns within a
+/// visit. Contracts see the name of the bus.
 #[derive(Drop)]
 pub struct Visit<'a, W: Walker> {
     pub(crate) bus: &'a Shared<W>,
@@ -31,7 +31,7 @@ impl<'a, W: Walker> Model for Visit<'a, W> {
 }
 
 impl<'a, W: Walker> Visit<'a, W> {
-    /// Makes the first of the steps in one turn of the seat, as `step` of `Shared` does.
+    /// Makes the first possible step in one turn of the seat, as `step` of `Shared` does.
     pub fn step<R: Wait>(&self, rt: &R, seat: &mut Seat) -> Result<Stepped, CoreFault>
         requires own { seat.old.bus ≡ self.now }
         requires right { has seat.old.rights (right_to MakeStep) ≡ true }

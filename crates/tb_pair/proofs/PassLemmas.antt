@@ -1,4 +1,4 @@
--- What was said by the two workers, once their seats have become one with all others of their bus, and the two ends of the ring have met.
+-- What the logs of both workers show, once their seats have joined all others of their bus, and the two ends of the ring have met.
 use Rattle.std.proofs.Common.{◌≡◌, ◌⊎◌, List, [], ◌∷◌, ◌++◌, Bool, true, false, cond, sym, ap, ◌∙◌, subst, append_assoc, append-nil, inl, inr, ⊎_elim}
 use Rattle.std.specs.List.{filter_map}
 use Rattle.std.specs.Prelude.{filter}
@@ -56,7 +56,7 @@ dropped_own test p (x ∷ log) d = step (dropped_own test p log) (p x) d
     step hyp true h = here hyp h.0 h.1 h.2 h.3 h.4
     step hyp false h = more (hyp h)
 
--- what the tool of lane 1 was told to do is said by the entries of the right for it alone
+-- the entries of the right for lane 1 alone show the `rec-do` lines of its tool
 pub does_own : (rights : Rights) → has rights (Outs 1) ≡ true → (log : List Entry) → does (own rights log) ≡ does log
 does_own rights there log = ap (filter_map told_by) (handed_own rights 1 there log)
 

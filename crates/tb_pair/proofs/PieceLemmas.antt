@@ -9,7 +9,7 @@ pub pieces-append : (front back : List Term) (last : Bool) → pieces front fals
 pieces-append [] back last = refl
 pieces-append (t ∷ ts) back last = ap (λ (ps : List Piece). Told t ∷ ps) (pieces-append ts back last)
 
--- Where pieces stand at the head of pieces, their terms stand at the head of the terms. Where that nothing more comes stands there, nothing more does.
+-- If pieces are a prefix of pieces, their terms are a prefix of the terms. After the piece that says that nothing more comes, there is none.
 pub record StandFirst (one other : List Term) (ends others_end : Bool) : Type 0 where
   pub more : List Term
   pub is : other ≡ one ++ more

@@ -70,7 +70,7 @@ ends_by Refused Other seat end.NoMemory so e = e
 pub ends_after : (Refused Other : Type 0) (a b c : SeatView) (it : WorkEnd) → (Refused → Other) → Adds a b [] → SameMarks a b → EndsAs Refused b c it → EndsAs Other a c it
 ends_after Refused Other a b c it so adds same e = record { adds = adds_on a b c [] [] adds e.adds; marks = marks_on a b c it same e.marks; ends = ends_by Refused Other c it so e.ends }
 
--- the bus is down, and nothing is left to be handed out
+-- the bus has shut down, and nothing is left in the queue
 pub closes_as : SeenLaw → AddedLaw → (old new : SeatView) → has old.rights (right_to (HandOut 1)) ≡ true → Called (IsTaken 1) (HandOut 1) old new (Ok taken.Closed) → EndsAs (FoundFull (HandOut 1) old new) old new end.Down
 closes_as seen_law added_law old new right c =
     let none : entries_of c.core (HandOut 1) ≡ [] = ap (λ (o : Option Out). option_to_list (out_entry 1 o)) c.finds.0 in
@@ -83,7 +83,7 @@ closes_as seen_law added_law old new right c =
       ends = (ap (λ (b : Bus). next_out 1 b.bench) (sym is) ∙ c.finds.0, ap (λ (b : Bus). b.down) (sym is) ∙ c.finds.1);
     }
 
--- a call that takes out was refused
+-- a call that takes an item was refused
 pub refused_as : (old new : SeatView) (it : WorkEnd) → Refused (HandOut 1) old new it → EndsAs (FoundFull (HandOut 1) old new) old new it × IsEarly it
 refused_as old new end.Stopped r = (record { adds = r.0; marks = (r.1, r.2); ends = tt }, tt)
 refused_as old new end.Full r = (record { adds = r.0.adds; marks = both_marks old new r.0; ends = r.1 }, tt)
@@ -92,7 +92,7 @@ refused_as old new end.Over r = absurd r
 refused_as old new end.Down r = absurd r
 refused_as old new end.Failed r = absurd r
 
--- what becomes of an input
+-- the effect of an input
 pub settles : (it : Input) (old new : SeatView) (answer : Option WorkEnd) → Hands it old new answer → Settles it old new (settled answer)
 settles it old new None h = (h.0, h.1, h.2, λ e. absurd (true≢false e), λ e. h.3)
 settles it old new (Some end.Down) h = (Dropped why.Down, h.0, h.1, λ e. refl, λ e. absurd (true≢false (sym e)))
@@ -102,7 +102,7 @@ settles it old new (Some end.NoMemory) h = (record { adds = h.adds; marks = both
 settles it old new (Some end.Over) h = absurd h
 settles it old new (Some end.Failed) h = absurd h
 
--- memory ran out before anything was handed in
+-- memory ran out before anything was delivered
 pub settles_none : (it : Input) (old new : SeatView) → Stops old new → Settles it old new (Err end.NoMemory)
 settles_none it old new h = (record { adds = h.adds; marks = both_marks old new h; ends = tt }, tt)
 
@@ -124,7 +124,7 @@ dropped_none test d = at d.0 d.4
     at [] e = absurd cc
     at (x ∷ before) e = absurd cc
 
--- what was handed out isn't dropped
+-- a sent item isn't dropped
 pub dropped_out : (test : Input → Bool) (out : Out) → HasDropped test (Gave 1 out ∷ []) → ⊥
 dropped_out test out d = at d.0 d.1 d.2 d.3 d.4
   where

@@ -1,4 +1,4 @@
--- What the reader of a pipe comes to, piece by piece.
+-- The result of the reader of a pipe, piece by piece.
 use Rattle.std.proofs.Common.{◌≡◌, List, [], ◌∷◌, ◌++◌, Bool, true, false, not, ◌&&◌, true≢false, Option, Some, None, Ok, Err, refl, sym, ap, ◌∙◌, subst, append_assoc, append-nil, inl, inr, ◌⊎◌, ⊎_elim, arith}
 use Rattle.std.specs.List.{filter_map}
 use Rattle.tb_terms.specs.declared.term.Term.{Term}
@@ -37,7 +37,7 @@ events_of_lines [] false = refl
 events_of_lines [] true = refl
 events_of_lines (t ∷ ts) leaves = ap (λ (l : List Term). t ∷ l) (events_of_lines ts leaves)
 
--- nothing was received or handed in
+-- nothing was received or delivered
 pub idle_on : (old new : SeatView) (got : List Piece) (reads : Bool) (more : List Entry) → Goes old new more [] → SameMarks old new → (HasDropped (is_of 1) more → ⊥) → ReadsOn old new got got reads reads
 idle_on old new got reads more goes marks none =
     record { more = more; told = []; leaves = false; goes = goes; got = sym (append-nil got); still = λ h. refl; stays = λ h. h; over = λ h. (refl, refl); why = λ h. inl h; let_in = λ h. none; marks = marks }
@@ -81,19 +81,19 @@ reads_both false a b c g0 g1 g2 r0 r2 one two =
       marks = marks_both a b c one.marks two.marks;
     }
 
--- a call that found no room after these did so behind what the seat had seen before
+-- if the log had no capacity for a call after these, so it had after what the seat had seen before
 full_on : (lost : List Piece) (a b c : SeatView) (xs : List Entry) → Adds a b xs → PieceFull b c lost → PieceFull a c lost
 full_on [] a b c xs adds f = found_on (HandOut 1) a b c xs adds f
 full_on (piece ∷ pieces) a b c xs adds f = found_on (HandIn (line_of piece)) a b c xs adds f
 
--- behind nothing of its own
+-- after nothing of its own
 pub feeds_after : (a b c : SeatView) (g0 g1 : List Piece) (r0 r1 : Bool) (answer : Option WorkEnd) → Adds a b [] → SameMarks a b → Feeds b c g0 g1 r0 r1 answer → Feeds a c g0 g1 r0 r1 answer
 feeds_after a b c g0 g1 r0 r1 None adds same f =
     record { more = f.more; told = f.told; leaves = f.leaves; goes = goes_after a b c f.more (lines_of f.told f.leaves) adds f.goes; got = f.got; still = f.still; stays = f.stays; over = f.over; why = f.why; let_in = f.let_in; marks = marks_both a b c same f.marks }
 feeds_after a b c g0 g1 r0 r1 (Some it) adds same f =
     record { lost = f.lost; got = f.got; may = f.may; ends = ends_after (PieceFull b c f.lost) (PieceFull a c f.lost) a b c it (full_on f.lost a b c [] adds) adds same f.ends }
 
--- the bus is down, and nothing more is read
+-- the bus has shut down, and nothing more is read
 pub stops_reading : (old new : SeatView) (got : List Piece) (reads : Bool) → reads ≡ false → EndsAs (FoundFull (HandOut 1) old new) old new end.Down → EndsReading old new got got reads end.Down
 stops_reading old new got reads over e = record { lost = []; got = sym (append-nil got); may = (refl, over); ends = e }
 
@@ -116,7 +116,7 @@ lose_one end.NoMemory piece e = inr (piece, refl, refl)
 pub refused_reading : (old new : SeatView) (got : List Piece) (reads : Bool) (it : WorkEnd) → EndsAs (FoundFull (HandOut 1) old new) old new it × IsEarly it → EndsReading old new got got reads it
 refused_reading old new got reads it e = record { lost = []; got = sym (append-nil got); may = lose_none it reads e.1; ends = e.0 }
 
--- a piece was handed in
+-- a piece was delivered
 pub fed_on : (old new : SeatView) (got : List Piece) (piece : Piece) (up : Bool) → Settles (line_of piece) old new (Ok up) → ReadsOn old new got (got ++ piece ∷ []) true (up && not (says_last piece))
 fed_on old new got (Told t) true h =
     record { more = Fed (line_of (Told t)) h.0 ∷ []; told = t ∷ []; leaves = false; goes = goes_in old new (line_of (Told t)) h.0 refl h.1 refl; got = refl; still = λ e. refl; stays = λ e. refl; over = λ e. absurd (true≢false e); why = λ e. absurd (true≢false e); let_in = λ e. dropped_not (is_of 1) (line_of (Told t)) h.0 (h.4 refl); marks = h.2 }
@@ -203,7 +203,7 @@ refused_so old mid new xs told gone lost last leaves reads adds still let_in (in
 pub dropped_here : (reply : Reply) → reply ≡ Dropped why.Down → HasDropped (is_of 1) (Fed connect reply ∷ [])
 dropped_here reply e = ([], connect, [], refl, ap (λ (r : Reply). Fed connect r ∷ []) e)
 
--- behind the line by which it names itself
+-- after the connect request
 pub read_behind : (old b new : SeatView) (reply : Reply) (g0 g1 : List Piece) (reads : Bool) (it : WorkEnd) → Adds old b (Fed connect reply ∷ []) → SameMarks old b → (reads ≡ false → HasDropped (is_of 1) (Fed connect reply ∷ [])) → (reads ≡ true → is_down reply ≡ false)
     → ReadTo b new g0 g1 reads it → ReadsPipe old new g0 g1 it
 read_behind old b new reply g0 g1 reads it adds same dropped let_in r =

@@ -1,4 +1,4 @@
--- What a tick worker of two buses comes to, tick by tick, of one bus.
+-- The result of a tick worker of two buses, tick by tick, of one bus.
 use Rattle.std.proofs.Common.{◌≡◌, ◌≤◌, ◌<◌, ◌+◌, ◌⊎◌, ⊎_elim, ◌&&◌, ℕ, List, [], ◌∷◌, ◌++◌, length, Bool, true, false, not, true≢false, Option, Some, None, is_some, refl, sym, ap, ◌∙◌, subst, inl, inr, append-nil, length-append, arith}
 use Rattle.atomic_table.specs.Seated.{TableId}
 use Rattle.tb_edge.specs.Faults.{Rose}
@@ -24,7 +24,7 @@ use Rattle.tb_pair.specs.Helpers.Ticking.{Ticked, TickedMore, CutBy, GotBy, Some
 use Rattle.tb_pair.specs.Ticking.{CanTick, GetsTicks, GotAll, TicksSeat, TicksEnd, WhyEnds, WhyNoMore, TicksPair, IsCut}
 use Rattle.tb_pair.specs.Workers.{IsEarly}
 
--- the seat that hands in keeps its bus and its right
+-- the seat that delivers keeps its bus and its right
 kept : (bus : TableId) (old new : SeatView) (more : List Entry) → CanTick bus old → Adds old new more → CanTick bus new
 kept bus old new more can adds = record { own = adds.bus ∙ can.own; right = ap (λ (r : Rights). has r ToTick) adds.rights ∙ can.right }
 
@@ -90,7 +90,7 @@ module _ (a b c : SeatView) (given : ℕ) (t : Ticked a b given None) where
   hands_tick (Some end.Over) h = absurd h
   hands_tick (Some end.Failed) h = absurd h
 
--- a bus after the word that no more ticks come, or that gets none any more
+-- a bus after the notice that no more ticks come, or one that receives none any more
 pub record EndsSeat (Cause : Type 0) (begun new : SeatView) (given : ℕ) (state : Option WorkEnd) (count : ℕ) (wanted it : WorkEnd) : Type 0 where
   pub seat : TicksSeat Cause begun new given it
   pub by : (it ≡ wanted) ⊎ IsCut it

@@ -1,4 +1,4 @@
--- What the writer of a pipe comes to, item by item.
+-- The result of the writer of a pipe, item by item.
 use Rattle.std.proofs.Common.{◌≡◌, List, [], ◌∷◌, ◌++◌, Bool, true, false, true≢false, Option, Some, None, MatchOption, refl, sym, ap, ◌∙◌, subst, append_assoc, append-nil, inl, inr}
 use Rattle.std.specs.Prelude.{MatchBool}
 use Rattle.std.specs.List.{cons_option}
@@ -36,7 +36,7 @@ nothing_on old new sent flows adds marks = record {
   marks = marks;
 }
 
--- what was taken out, and passed on
+-- an item was taken, and its term passed on
 pub taken_on : (old new : SeatView) (out : Out) (flows flows' : Bool) (s0 s1 : List Piece) → Adds old new (Gave 1 out ∷ []) → SameMarks old new → PassesOn out flows flows' s0 s1 → WritesOn old new s0 s1 flows flows'
 taken_on old new out flows flows' s0 s1 adds marks passed = go (told_by out) refl passed
   where
@@ -79,7 +79,7 @@ writes_both false a b c s0 s1 s2 f0 f2 one two =
       marks = marks_both a b c one.marks two.marks;
     }
 
--- behind the line by which it names itself
+-- after the connect request
 pub written_on : (old mid new : SeatView) (reply : Reply) (s0 s1 : List Piece) (flows flows' : Bool) (it : WorkEnd) → Adds old mid (Fed connect reply ∷ []) → SameMarks old mid → Wrote mid new s0 s1 flows flows' it → Written old new s0 s1 flows' it
 written_on old mid new reply s0 s1 flows flows' it adds same w =
     let named : Goes old mid (Fed connect reply ∷ []) (connect ∷ []) = goes_in old mid connect reply refl adds refl in
@@ -122,7 +122,7 @@ pub wrote_end : (a b c : SeatView) (s0 s1 s2 : List Piece) (f0 f1 f2 : Bool) (it
 wrote_end a b c s0 s1 s2 f0 f1 f2 it one e =
     record { mid = b; on = subst (λ (f : Bool). WritesOn a b s0 s2 f0 f) (sym e.same) (subst (λ (s : List Piece). WritesOn a b s0 s f0 f1) (sym e.sent) one); ends = e.ends }
 
--- and then it says that nothing more comes
+-- and then it sends that nothing more comes
 pub written_all : (flows' : Bool) (old new : SeatView) (s0 s1 s2 : List Piece) (flows : Bool) (it : WorkEnd) → Written old new s0 s1 flows it → GoesIn flows flows' s1 s2 Last → WritesPipe old new s0 s2 it
 written_all true old new s0 s1 s2 flows it w p =
     record {

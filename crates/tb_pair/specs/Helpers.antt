@@ -1,4 +1,4 @@
--- Definitions that proofs and private functions need, and that nobody has to believe who believes what the public calls say.
+-- Definitions that proofs and private functions need. A reader who trusts what the public calls say needn't trust them.
 pub mod Pipes
 pub mod Settling
 pub mod Writing

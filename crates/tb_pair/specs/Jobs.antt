@@ -1,4 +1,4 @@
--- What the jobs of a pair need, and what each comes to.
+-- What the jobs of a pair need, and what each does.
 use Rattle.std.specs.Prelude.{◌≡◌, true}
 use Rattle.atomic_table.specs.Seated.{TableId}
 use Rattle.rtrb.specs.Ring.{sent, received, SameProducer, SameConsumer}

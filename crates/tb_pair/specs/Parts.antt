@@ -1,4 +1,4 @@
--- The rights of the workers of one bus of a pair: the readers of lanes 2 to 16, their writers, the one that makes steps, and the one that serves the pipe.
+-- The rights of the workers of one bus of a pair: the readers of lanes 2 to 16, their writers, the stepper, and the worker of the pipe.
 use Rattle.std.specs.Prelude.{ℕ, false, List, [], ◌∷◌, ◌++◌, drop, map}
 use Rattle.std.specs.List.{fold}
 use Rattle.tb_lock.specs.declared.rights.Rights.{Rights}
@@ -16,6 +16,6 @@ to_pipe = record { steps = false; ticks = false; ins = 1; outs = 1 }
 abbrev pub pair_rights : List Rights
 pair_rights = map in_of others ++ (map out_of others ++ to_step ∷ to_pipe ∷ [])
 
--- what is left of all rights
+-- the rest of all rights
 abbrev pub pair_left : Rights
 pair_left = fold without all_rights pair_rights

@@ -1,10 +1,10 @@
--- What goes through a pipe: terms, and then perhaps that nothing more comes.
+-- The pieces of a pipe: terms, and then perhaps the last piece, that nothing more comes.
 use Rattle.std.specs.Prelude.{Bool, true, false, List, [], ◌∷◌}
 use Rattle.tb_terms.specs.declared.term.Term.{Term}
 use Rattle.tb_pair.specs.declared.piece.Piece.{Piece}
 use Rattle.tb_pair.specs.declared.piece.Piece.TheVariants.{Told, Last}
 
--- these terms, and behind them the last piece where it is said that nothing more comes
+-- these terms, and then the last piece if `true`
 abbrev pub pieces : List Term → Bool → List Piece
 pieces [] false = []
 pieces [] true = Last ∷ []

@@ -1,4 +1,4 @@
--- What a log says of a pipe that serves lane 1 of its bus: what the tool of the lane was told to do, which events it gave, and the lines of a tool that gives just such events.
+-- What a log shows of a pipe that serves lane 1 of its bus: the terms of the tool's `rec-do` lines, its events, and the lines of a tool that sends just such events.
 use Rattle.std.specs.Prelude.{Bool, true, false, List, [], ◌∷◌, Option, Some, None, if◌then◌else◌, codes}
 use Rattle.std.specs.List.{filter_map}
 use Rattle.std.specs.Str.{bytes_eq}
@@ -13,7 +13,7 @@ use Rattle.tb_log.specs.declared.entry.Out.TheVariants as out
 use Rattle.tb_log.specs.declared.entry.Entry.{Entry}
 use Rattle.tb_log.specs.Lanes.{handed, inputs}
 
--- the term t of the line rec-do(t), by which a tool is told to do something
+-- the term t of the line rec-do(t)
 abbrev pub told_in : Term-F Term → Option Term
 told_in (layer.Int number) = None
 told_in (layer.Str bytes) = None
@@ -22,13 +22,13 @@ told_in (layer.Appl name (t ∷ [])) = if bytes_eq name (codes "rec-do") then So
 told_in (layer.Appl name (t ∷ u ∷ ts)) = None
 told_in (layer.List parts) = None
 
--- what a tool is told to do by what is handed out to it
+-- the term of an item that is a `rec-do` line
 abbrev pub told_by : Out → Option Term
 told_by (out.Start command) = None
 told_by (out.Line term) = told_in (out-Term term)
 told_by out.End = None
 
--- all that the tool of lane 1 was told to do, in order
+-- the terms of all `rec-do` lines that are sent to the tool of lane 1, in order
 abbrev pub does : List Entry → List Term
 does log = filter_map told_by (handed log 1)
 
@@ -46,11 +46,11 @@ event_in (input.Line at tool.Bad) = None
 event_in (input.Gone at) = None
 event_in (input.Cut at) = None
 
--- all events of one term of lane 1, in order, whatever became of them
+-- all events of one term of lane 1, in order, whatever their replies
 abbrev pub events : List Entry → List Term
 events log = filter_map event_in (inputs log 1)
 
--- the line by which the tool `pipe` names itself
+-- the connect request of the tool `pipe`
 abbrev pub connect : Input
 connect = input.Line 1 (tool.Connect (codes "pipe"))
 
@@ -58,11 +58,11 @@ connect = input.Line 1 (tool.Connect (codes "pipe"))
 abbrev pub event_of : Term → Input
 event_of t = input.Line 1 (tool.Event (t ∷ []))
 
--- the line by which the tool leaves
+-- the disconnect request
 abbrev pub disconnect : Input
 disconnect = input.Line 1 tool.Disconnect
 
--- the events of these terms, and behind them the line by which the tool leaves where it does
+-- the events of these terms, and then the disconnect request if the tool leaves
 abbrev pub lines_of : List Term → Bool → List Input
 lines_of [] false = []
 lines_of [] true = disconnect ∷ []

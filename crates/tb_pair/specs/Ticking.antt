@@ -1,4 +1,4 @@
--- What one tick worker of two buses has done once it ends: which ticks each bus has got of those that the clock gave, and whether it was told that no more come.
+-- What one tick worker of two buses has done once it ends: which of the clock's ticks each bus received, and whether the worker reported to the bus that no more come.
 use Rattle.std.specs.Prelude.{◌≡◌, ◌≤◌, ◌<◌, ◌+◌, ◌⊎◌, ℕ, Bool, true, List, [], ◌++◌, length, Option}
 use Rattle.atomic_table.specs.Seated.{TableId}
 use Rattle.tb_edge.specs.Faults.{Rose}
@@ -17,36 +17,36 @@ use Rattle.tb_run.specs.Seats.{Adds, Marks, EndsWith, FoundFull}
 use Rattle.tb_run.specs.Workers.{AreTicks, IsNoTicks, LetIn}
 use Rattle.tb_pair.specs.Workers.{IsEarly}
 
--- a seat of this bus, with the right to hand in ticks
+-- a seat of this bus, with the right to deliver ticks
 pub record CanTick (bus : TableId) (seat : SeatView) : Type 0 where
   pub own : seat.bus ≡ bus
   pub right : has seat.rights ToTick ≡ true
 
--- How a bus ends that got so many of the ticks that were given; these entries stand behind the ticks. `Cause` says for what cause no more ticks come.
+-- How a bus ends that received so many of the clock's ticks; these entries follow the ticks. `Cause` is the cause for which no more ticks come.
 abbrev pub TicksEnd : Type 0 → List Entry → SeatView → SeatView → ℕ → ℕ → WorkEnd → Type 0
--- it got all of them, and then that no more come
+-- it received all of them, and then that no more come
 TicksEnd Cause tail old new count given end.Over = IsNoTicks tail × (count ≡ given)
 TicksEnd Cause tail old new count given end.Failed = IsNoTicks tail × (count ≡ given)
--- the last entry is a tick that was dropped since the bus is down
+-- the last entry is a tick that was dropped because the bus has shut down
 TicksEnd Cause tail old new count given end.Down = (tail ≡ []) × EndsWith new (Fed input.Tick (Dropped why.Down))
 TicksEnd Cause tail old new count given end.Stopped = tail ≡ []
--- a tick found no room that was given; or, behind all of them, the word that no more come
+-- the log had no capacity for a tick that the clock gave; or, after all of them, for the notice that no more come
 TicksEnd Cause tail old new count given end.Full = (tail ≡ []) × (((count < given) × FoundFull (HandIn input.Tick) old new) ⊎ ((count ≡ given) × Cause × FoundFull (HandIn input.NoTicks) old new))
 TicksEnd Cause tail old new count given end.NoMemory = tail ≡ []
 
--- one of the two buses: it got ticks, at most so many as were given, and then perhaps that no more come
+-- one of the two buses: it received ticks, at most as many as the clock gave, and then perhaps that no more come
 pub record TicksSeat (Cause : Type 0) (old new : SeatView) (given : ℕ) (it : WorkEnd) : Type 0 where
   pub first : List Entry
   pub tail : List Entry
   pub adds : Adds old new (first ++ tail)
   pub ticks : AreTicks first
-  -- behind a tick that was dropped since the bus is down it gets none
+  -- after a tick that was dropped because the bus has shut down, it receives none
   pub let_in : LetIn it first
   pub within : length first ≤ given
   pub marks : Marks old new it
   pub ends : TicksEnd Cause tail old new (length first) given it
 
--- a bus that got no word that no more come
+-- a bus that didn't receive the notice that no more come
 abbrev pub IsCut : WorkEnd → Type 0
 IsCut end.Over = ⊥
 IsCut end.Down = Unit {0}
@@ -55,11 +55,11 @@ IsCut end.Full = Unit {0}
 IsCut end.Failed = ⊥
 IsCut end.NoMemory = Unit {0}
 
--- a bus that gets ticks to the end: it was told that no more come, or was refused that or a tick
+-- a bus that receives ticks to the end: it received the notice that no more come, or refused the notice or a tick
 abbrev pub GetsTicks : WorkEnd → WorkEnd → Type 0
 GetsTicks wanted it = (it ≡ wanted) ⊎ IsEarly it
 
--- Why no more ticks come: the clock has ended or there were as many as there may be, or it failed; or neither bus gets any more. The clock is asked only while a bus gets ticks.
+-- Why no more ticks come: the clock has ended, the limit of ticks is reached, or the clock failed; or neither bus receives any more. The clock is read only while a bus receives ticks.
 abbrev pub WhyEnds : WorkEnd → ℕ → ℕ → Bool → ℕ → ℕ → WorkEnd → WorkEnd → Type 0
 WhyEnds end.Over most given ended old new one other = (new ≡ old) × (((ended ≡ true) × (GetsTicks end.Over one ⊎ GetsTicks end.Over other)) ⊎ (given ≡ most))
 WhyEnds end.Failed most given ended old new one other = Rose old new × (GetsTicks end.Failed one ⊎ GetsTicks end.Failed other)
@@ -68,15 +68,15 @@ WhyEnds end.Stopped most given ended old new one other = ⊥
 WhyEnds end.Full most given ended old new one other = ⊥
 WhyEnds end.NoMemory most given ended old new one other = ⊥
 
--- the clock has ended or failed, or there were as many ticks as there may be
+-- the clock has ended or failed, or the limit of ticks is reached
 abbrev pub WhyNoMore : ℕ → ℕ → Bool → ℕ → ℕ → Type 0
 WhyNoMore most given ended old new = (ended ≡ true) ⊎ (Rose old new ⊎ (given ≡ most))
 
--- a bus that got all ticks that were given, or all but the last, which it was refused
+-- a bus that received all ticks of the clock, or all except the last, which was refused
 abbrev pub GotAll : ℕ → ℕ → WorkEnd → Type 0
 GotAll count given it = (count ≡ given) ⊎ ((count + 1 ≡ given) × IsEarly it)
 
--- `pair_ticker`: the clock gave so many ticks, and perhaps ended; each bus got all of them and then that no more come, or got fewer since it was down or refused one.
+-- `pair_ticker`: the clock gave so many ticks, and perhaps ended. Each bus received all of them and then the notice that no more come; or it received fewer, because it had shut down or refused a call, or memory ran out.
 pub record TicksPair (most : ℕ) (one one_new other other_new : SeatView) (told_old told_new : Option ClockView) (faults_old faults_new : ℕ) (it others : WorkEnd) : Type 0 where
   pub given : ℕ
   pub ended : Bool
@@ -84,7 +84,7 @@ pub record TicksPair (most : ℕ) (one one_new other other_new : SeatView) (told
   pub within : given ≤ most
   pub first : TicksSeat (WhyNoMore most given ended faults_old faults_new) one one_new given it
   pub second : TicksSeat (WhyNoMore most given ended faults_old faults_new) other other_new given others
-  -- each tick was for a bus that got ticks still
+  -- each tick was for a bus that still received ticks
   pub fully : GotAll (length first.first) given it ⊎ GotAll (length second.first) given others
   pub wanted : WorkEnd
   pub first_by : (it ≡ wanted) ⊎ IsCut it

@@ -1,4 +1,4 @@
--- What each of the two workers of a pipe has done once it ends: over what its seat has seen, and over what its end of the pipe sent or received in the call.
+-- What each of the two workers of a pipe has done once it ends, by what its seat has seen, and by the pieces that its end of the pipe sent or received in the call.
 use Rattle.std.specs.Prelude.{◌≡◌, ◌≤◌, ◌⊎◌, Bool, true, false, List, [], ◌∷◌, ◌++◌, length, None}
 use Rattle.tb_terms.specs.declared.term.Term.{Term}
 use Rattle.tb_log.specs.declared.entry.Input.{Input}
@@ -17,7 +17,7 @@ use Rattle.tb_pair.specs.declared.piece.Piece.{Piece}
 use Rattle.tb_pair.specs.Pieces.{pieces}
 use Rattle.tb_pair.specs.Piping.{does, events, connect, disconnect, event_of, lines_of}
 
--- an end by a refused call, or since memory ran out
+-- an end by a refused call, or because memory ran out
 abbrev pub IsEarly : WorkEnd → Type 0
 IsEarly end.Over = ⊥
 IsEarly end.Down = ⊥
@@ -26,21 +26,21 @@ IsEarly end.Full = Unit {0}
 IsEarly end.Failed = ⊥
 IsEarly end.NoMemory = Unit {0}
 
--- why a worker of a pipe may end so; `Refused` says which call found no room
+-- why a worker of a pipe may end so; `Refused` says for which call the log had no capacity
 abbrev pub PipeEnds : Type 0 → SeatView → WorkEnd → Type 0
 PipeEnds Refused new end.Over = ⊥
--- the bus is down, and nothing is left to be handed out
+-- the bus has shut down, and nothing is left in the queue
 PipeEnds Refused new end.Down = (next_out 1 (bus_of new).bench ≡ None) × ((bus_of new).down ≡ true)
 PipeEnds Refused new end.Stopped = Unit {0}
 PipeEnds Refused new end.Full = Refused
 PipeEnds Refused new end.Failed = ⊥
 PipeEnds Refused new end.NoMemory = Unit {0}
 
--- What found no room: what is to be handed out next, or the line by which the tool names itself, which is missing then.
+-- The log had no capacity for the next queued item, or for the connect request of the tool, which is then missing.
 abbrev pub WriterFull : SeatView → SeatView → List Input → Type 0
 WriterFull old new given = FoundFull (HandOut 1) old new ⊎ ((given ≡ []) × FoundFull (HandIn connect) old new)
 
--- Likewise of the reader; or the event of the term that was received last, or the line by which the tool leaves, once it was received that nothing more comes. These are missing then, and none of its inputs was dropped since the bus was down.
+-- The same for the reader; or for the event of the term that was received last, or, once no more pieces come, for the disconnect request. These are then missing, and none of its inputs was dropped because the bus had shut down.
 abbrev pub ReaderFull : SeatView → SeatView → List Entry → List Input → List Term → List Term → Bool → Type 0
 ReaderFull old new more given told lost last =
     FoundFull (HandOut 1) old new
@@ -48,18 +48,18 @@ ReaderFull old new more given told lost last =
     ⊎ (((t : Term) × (lost ≡ t ∷ []) × (given ≡ connect ∷ lines_of told false) × (HasDropped (is_of 1) more → ⊥) × FoundFull (HandIn (event_of t)) old new)
     ⊎ ((last ≡ true) × (lost ≡ []) × (given ≡ connect ∷ lines_of told false) × (HasDropped (is_of 1) more → ⊥) × FoundFull (HandIn disconnect) old new)))
 
--- A worker of a pipe that adds these entries: the inputs of lane 1 among them are these, and none says that something couldn't be put.
+-- A worker of a pipe that adds these entries: their inputs of lane 1 are these, and none reports that an item couldn't be written.
 pub record Goes (old new : SeatView) (more : List Entry) (given : List Input) : Type 0 where
   pub adds : Adds old new more
   pub given_are : inputs more 1 ≡ given
   pub cuts : cut_count 1 more ≡ 0
 
--- `pipe_writer`: its end has sent a front of what the tool was told to do. Where it has said that nothing more comes, that front is the whole.
+-- `pipe_writer`: its end has sent a prefix of the terms of the tool's `rec-do` lines. If it has sent that nothing more comes, the prefix is the whole.
 pub record WritesPipe (old new : SeatView) (sent_old sent_new : List Piece) (it : WorkEnd) : Type 0 where
   pub more : List Entry
   pub given : List Input
   pub goes : Goes old new more given
-  -- the tool names itself, and gives nothing else
+  -- the tool connects, and sends nothing else
   pub names : (given ≡ connect ∷ []) ⊎ ((given ≡ []) × IsEarly it)
   pub front : List Term
   pub rest : List Term
@@ -70,7 +70,7 @@ pub record WritesPipe (old new : SeatView) (sent_old sent_new : List Piece) (it 
   pub marks : Marks old new it
   pub ends : PipeEnds (WriterFull old new given) new it
 
--- what was received and not handed in: nothing where the bus is down, one term at most at an early end
+-- the terms that were received and not delivered: none if the bus has shut down, one at most at an early end
 abbrev pub MayLack : WorkEnd → List Term → Type 0
 MayLack end.Over lost = ⊥
 MayLack end.Down lost = lost ≡ []
@@ -79,7 +79,7 @@ MayLack end.Full lost = length lost ≤ 1
 MayLack end.Failed lost = ⊥
 MayLack end.NoMemory lost = length lost ≤ 1
 
--- a worker that ends since its bus is down has read to the end: the tool has left, or an input of its lane was dropped since the bus was down
+-- a worker that ends because its bus has shut down has read to the end: the tool has left, or an input of its lane was dropped because the bus had shut down
 abbrev pub WhyDown : WorkEnd → Bool → List Entry → Type 0
 WhyDown end.Over leaves more = ⊥
 WhyDown end.Down leaves more = (leaves ≡ true) ⊎ HasDropped (is_of 1) more
@@ -88,7 +88,7 @@ WhyDown end.Full leaves more = Unit {0}
 WhyDown end.Failed leaves more = ⊥
 WhyDown end.NoMemory leaves more = Unit {0}
 
--- `pipe_reader`: the events of its seat are the terms that its end received, but for the last at an early end. The tool leaves only where it was received that nothing more comes.
+-- `pipe_reader`: the events of its seat are the terms that its end received, except the last at an early end. The tool leaves only if its end received that nothing more comes.
 pub record ReadsPipe (old new : SeatView) (got_old got_new : List Piece) (it : WorkEnd) : Type 0 where
   pub more : List Entry
   pub given : List Input
@@ -97,7 +97,7 @@ pub record ReadsPipe (old new : SeatView) (got_old got_new : List Piece) (it : W
   pub lost : List Term
   pub last : Bool
   pub leaves : Bool
-  -- the tool names itself, then gives these events, then perhaps leaves
+  -- the tool connects, then sends these events, then perhaps leaves
   pub names : (given ≡ connect ∷ lines_of told leaves) ⊎ ((given ≡ []) × (told ++ lost ≡ []) × (last ≡ false) × (leaves ≡ false) × IsEarly it)
   pub events_are : events more ≡ told
   pub got : got_new ≡ got_old ++ pieces (told ++ lost) last

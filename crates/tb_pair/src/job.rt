@@ -43,7 +43,7 @@ pub struct PipeReading<'a, W: Walker> {
 /// One of the jobs of a pair.
 #[derive(Drop)]
 pub enum PairJob<'a, W: Walker, J> {
-    /// A worker of one of the two buses, which knows nothing of the pipe.
+    /// A worker of one of the two buses. It knows nothing of the pipe.
     Other(J),
     /// The worker that writes the pipe.
     Writes(PipeWriting<'a, W>),
@@ -71,7 +71,7 @@ impl<'a, W: Walker, J: Job> Job for PairJob<'a, W, J> {
     }
 }
 
-/// Lets a crew do all jobs of a pair beside each other, as `beside` of `Crew` does: the lent one and one's own among them.
+/// Lets a crew do all jobs of a pair concurrently, as `beside` of `Crew` does, with the lent job and the caller's own job among them.
 pub fn beside<
     'a,
     W: Walker + Send,

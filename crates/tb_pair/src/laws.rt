@@ -19,9 +19,9 @@ ghost use Rattle.tb_pair.specs.Workers.{IsEarly, WritesPipe, ReadsPipe};
 
 use crate::pipe::{PipeIn, PipeOut};
 
-/// The two ends of a pipe meet again, once both workers have ended. `begun` and `done` are the seat of the worker that wrote, before and
-/// after its work, and `last` is the seat that has seen all of its bus's log; so it is with `others_begun`, `others_done`, and
-/// `others_last` for the worker that read. The two logs then agree about the pipe.
+/// The two ends of a pipe meet again, once both workers have ended. `begun` and `done` are the seat of the writing worker, before and
+/// after its work. `last` is the seat that has seen the whole log of its bus. `others_begun`, `others_done`, and `others_last` are
+/// the same for the reading worker. The two logs then agree about the pipe.
 pub fn ends_meet<'a>(writes: PipeIn<'a>, reads: PipeOut<'a>)
     requires { IsPair writes.end reads.end }
     ensures passes { (bus others_bus : TableId)
@@ -46,8 +46,8 @@ pub fn ends_meet<'a>(writes: PipeIn<'a>, reads: PipeOut<'a>)
     consumer.slots_beside(&mut producer);
 }
 
-/// After its work the tick worker of a pair has handed the ticks of one clock to two buses, so the two logs agree about that clock. The
-/// seats are named as for `ends_meet`.
+/// After its work, the tick worker of a pair has delivered the ticks of one clock to two buses. So the two logs agree about that
+/// clock. The seats are named as for `ends_meet`.
 pub fn ticks_meet()
     ensures { (most : ℕ) (told_old told_new : Option ClockView) (faults_old faults_new : ℕ)
         (bus others_bus : TableId)
@@ -61,8 +61,8 @@ pub fn ticks_meet()
         (Rose faults_old faults_new) (IsEarly it) (IsEarly others) }
 {}
 
-/// The first seat of a bus of a pair can be parted into one for each worker and one that hands in ticks, and these come together again
-/// to all rights and all room. The worker of the pipe has both rights of lane 1.
+/// The first seat of a bus of a pair can be split into one seat for each worker and one for the ticker. These can join again, to all
+/// rights and all room. The worker of the pipe has both rights of lane 1.
 pub fn a_pair_parts()
     ensures can { CanPart all_rights pair_rights }
     ensures ticks { AreAmong to_tick pair_left }

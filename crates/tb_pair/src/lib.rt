@@ -1,4 +1,4 @@
-//! A pipe between two shared buses: the worker that writes it serves lane 1 of one bus, the worker that reads it lane 1 of the other.
+//! A pipe between two shared buses. The writing worker serves lane 1 of one bus, and the reading worker serves lane 1 of the other.
 #![tactic(auto)]
 
 mod job;

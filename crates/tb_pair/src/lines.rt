@@ -1,4 +1,4 @@
-//! What a tool is told, as a piece of a pipe, and a piece as the line of a tool.
+//! A pipe's piece of an item that goes to a tool, and a tool's line of a piece.
 ghost use Rattle.std.specs.Prelude.{◌≡◌, ◌∷◌, [], IfOk, MatchOption, Some, None, IsTrue, codes};
 ghost use Rattle.std.specs.Str.{bytes_eq};
 ghost use Rattle.tb_terms.specs.declared.term.Term.{out-Term};
@@ -13,7 +13,7 @@ use std::alloc::Global;
 use tb_log::{Input, Out, ToolLine};
 use tb_terms::{Items, Name, NoMemory, Term};
 
-/// What a tool is told to do by this, if it is told to do something.
+/// Returns the term of the item's `rec-do` line, if the item is such a line.
 pub(crate) fn told_of(out: Out) -> Option<Told>
     requires { IsOutInShape out }
     ensures { MatchOption result (told_by out ≡ None) (λ told. told_by out ≡ Some told) }
@@ -56,7 +56,7 @@ fn is_do(name: &[u8]) -> bool
     name == b"rec-do".as_slice()
 }
 
-/// The line by which the tool names itself.
+/// The connect request of the tool.
 pub(crate) fn connect_input(alloc: Global) -> Result<Input, NoMemory>
     ensures value { IfOk result (λ it. it ≡ connect) }
     ensures form { IfOk result IsInputInShape }

@@ -4,7 +4,7 @@ ghost use Rattle.tb_terms.specs.Sizes.{IsWithinLimits};
 use std::marker::Model;
 use tb_terms::Term;
 
-/// A term within the limits, which a tool was told. Contracts see the term.
+/// A term of a `rec-do` line, within the limits. Contracts see the term.
 #[derive(Drop)]
 pub struct Told {
     term: Term,
@@ -33,7 +33,7 @@ impl Told {
         Told { term }
     }
 
-    /// Gives the term itself.
+    /// Returns the term itself.
     pub fn into_term(self) -> Term
         ensures value { result ≡ self }
         ensures within { IsWithinLimits result }
@@ -42,10 +42,10 @@ impl Told {
     }
 }
 
-/// What goes through a pipe.
+/// A piece that a pipe carries.
 #[derive(Drop)]
 pub enum Piece {
-    /// A term that a tool was told.
+    /// The term of a `rec-do` line.
     Told(Told),
     /// Nothing more comes.
     Last,

@@ -10,25 +10,25 @@ use tb_bells::{Bells, Sleeper};
 /// The lane of each bus that the pipe serves.
 pub(crate) const LANE: u8 = 1;
 
-/// The end of a pipe that the worker of the first bus writes. A piece that doesn't go in is dropped.
+/// The write end of a pipe, for the worker of the first bus. A piece that doesn't go in is dropped.
 #[derive(Drop)]
 pub struct PipeIn<'a> {
     /// The end of the ring.
     pub end: Producer<Piece>,
-    /// Whether pieces still go in. From the first piece that is dropped on none does.
+    /// Whether pieces still go in. After the first dropped piece, none does.
     pub flows: bool,
-    /// The bells of the other bus: the one that reads sleeps on that of lane 1.
+    /// The bells of the other bus: the reading worker sleeps on that of lane 1.
     pub others: &'a Bells,
     /// Not 0 once the reader has ended. It is a hint.
     pub over: &'a AtomicU32,
 }
 
-/// The end of a pipe that the worker of the second bus reads.
+/// The read end of a pipe, for the worker of the second bus.
 #[derive(Drop)]
 pub struct PipeOut<'a> {
     /// The end of the ring.
     pub end: Consumer<Piece>,
-    /// The bells of the other bus: the one that writes sleeps on that of lane 1.
+    /// The bells of the other bus: the writing worker sleeps on that of lane 1.
     pub others: &'a Bells,
     /// Not 0 once this end reads no more. It is a hint.
     pub over: &'a AtomicU32,
@@ -39,8 +39,8 @@ impl<'a> PipeIn<'a> {
     ghost use Rattle.rtrb.specs.Ring.{SameProducer};
     ghost use Rattle.tb_pair.specs.Helpers.Pipes.{Puts};
 
-    /// Puts a piece in, and sleeps on a bell of its own bus while there is no room. If the reader has ended, the piece is dropped, and
-    /// so is each later one. `heard` is the count of rings of this bell that was told last, 0 at first.
+    /// Puts a piece in. While the ring is full, it sleeps on a bell of its own bus. If the reader has ended, it drops this piece and each
+    /// later one. `heard` is the last known count of rings of this bell, 0 at first.
     pub(crate) fn put<R: Wait>(&mut self, rt: &R, bells: &Bells, heard: &mut u64, piece: Piece)
         ensures ring { SameProducer self.old.end self.new.end }
         ensures put { Puts self.old self.new piece }
@@ -86,7 +86,7 @@ impl<'a> PipeOut<'a> {
         }
     }
 
-    /// Says that nothing more is read, and wakes the one that writes.
+    /// Notes that this end reads no more, and wakes the writing worker.
     pub(crate) fn end(&mut self)
         ensures { self.new ≡ self.old }
     {

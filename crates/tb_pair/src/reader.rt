@@ -17,10 +17,10 @@ use tb_core::TakeOut;
 use tb_lock::{Seat, calls_add_their_own};
 use tb_run::{Post, WorkEnd, refused, stop};
 
-/// Names the tool of lane 1 `pipe`, and hands in the terms that come through the pipe as events of this tool. Where nothing more comes
-/// it hands in that the tool leaves. Between these it takes out what is handed out on the lane, and forgets it. It reads until nothing
-/// more comes or an input was dropped since the bus was down, and ends once the bus is down too and nothing is left on the lane; or
-/// where a call of the bus is refused or memory runs out.
+/// Names the tool of lane 1 `pipe`, and delivers each received term as an event of this tool. If nothing more comes, the worker
+/// delivers a disconnect request. Meanwhile it takes the items that are queued on the lane, and drops them. It reads until nothing
+/// more comes, or until the bus drops an input because the bus has shut down. The worker ends if it no longer reads, the bus has
+/// shut down, and nothing is left in the lane's queue. It also ends if a call of the bus is refused or memory runs out.
 pub fn pipe_reader<'a, W: Walker, R: Wait>(
     rt: &R,
     post: &Post<W>,
@@ -58,7 +58,7 @@ fn read_all<'a, W: Walker, R: Wait>(
     }
 }
 
-/// Hands in what comes, and takes out what is to be handed out and forgets it, until the worker ends.
+/// Delivers the received pieces, and takes and drops the queued items, until the worker ends.
 fn read_on<'a, W: Walker, R: Wait>(
     rt: &R,
     post: &Post<W>,
@@ -84,7 +84,7 @@ fn read_on<'a, W: Walker, R: Wait>(
     unreachable!()
 }
 
-/// Takes out one item, or where there is none hands in one piece. Where there is neither, it sleeps.
+/// Takes one item. If there is none, it delivers one piece. If there is neither, it sleeps.
 fn read_some<'a, W: Walker, R: Wait>(
     rt: &R,
     post: &Post<W>,
@@ -115,20 +115,20 @@ fn read_some<'a, W: Walker, R: Wait>(
     }
 }
 
-/// What became of what is to be handed out.
+/// The result of taking the next queued item.
 #[derive(Clone, Copy)]
 pub(crate) enum Taken {
     /// Something was taken.
     Some,
     /// Nothing was there.
     Nothing,
-    /// Nothing was there, and the bus is down.
+    /// Nothing was there, and the bus has shut down.
     Closed,
     /// The call was refused.
     Ends(WorkEnd),
 }
 
-/// Takes out what is to be handed out next, and forgets it.
+/// Takes the next queued item, and drops it.
 fn take_out<W: Walker, R: Wait>(rt: &R, post: &Post<W>, seat: &mut Seat) -> Taken
     requires own { seat.old.bus ≡ post.now.shared }
     requires writes { has seat.old.rights (Outs 1) ≡ true }
@@ -149,7 +149,7 @@ fn take_out<W: Walker, R: Wait>(rt: &R, post: &Post<W>, seat: &mut Seat) -> Take
     }
 }
 
-/// Hands in the next piece if one is there, or sleeps.
+/// Delivers the next piece if there is one, or sleeps.
 fn feed<'a, W: Walker, R: Wait>(
     rt: &R,
     post: &Post<W>,
@@ -177,7 +177,7 @@ fn feed<'a, W: Walker, R: Wait>(
     }
 }
 
-/// Hands a piece in, and sets whether it reads on.
+/// Delivers a piece, and sets whether the worker reads on.
 fn feed_piece<W: Walker, R: Wait>(
     rt: &R,
     post: &Post<W>,

@@ -1,4 +1,4 @@
-//! An input is handed in by a worker that goes on where its bus is down.
+//! A worker delivers an input, and goes on also after its bus has shut down.
 ghost use Rattle.std.specs.Prelude.{◌≡◌, true};
 ghost use Rattle.tb_log.specs.Shapes.{IsInputInShape};
 ghost use Rattle.tb_core.specs.Cores.{HandIn};
@@ -13,7 +13,7 @@ use tb_lock::Seat;
 use tb_log::Input;
 use tb_run::{Post, WorkEnd, hand, stop};
 
-/// Hands an input in, and gives whether the bus isn't down, or why the worker ends.
+/// Delivers an input. Returns whether the bus hasn't shut down, or why the worker ends.
 pub(crate) fn hand_over<W: Walker, R: Wait>(
     rt: &R,
     post: &Post<W>,
@@ -38,7 +38,7 @@ fn settle(answer: Option<WorkEnd>) -> Result<bool, WorkEnd>
     }
 }
 
-/// Hands in the line by which the tool of lane 1 names itself.
+/// Delivers the connect request of the tool of lane 1.
 pub(crate) fn name_itself<W: Walker, R: Wait>(
     rt: &R,
     post: &Post<W>,

@@ -4,13 +4,13 @@ use tb_algebra::Walker;
 use tb_edge::{Clock, Job};
 use tb_run::WorkEnd;
 
-/// The tick worker of a pair, as a job. Its clock is lent, so the job is no one of the list, but lent itself.
+/// The tick worker of a pair, as a job. Its clock is lent. So the job isn't in the list, but is lent itself.
 #[derive(Drop)]
 pub struct PairTicking<'a, W: Walker, C> {
     pub one: TickedBus<'a, W>,
     pub other: TickedBus<'a, W>,
     pub clock: &'a mut C,
-    /// How many ticks there may be at most.
+    /// The greatest number of ticks.
     pub ticks: u64,
     /// Why the one bus ended, once the worker has.
     pub one_end: WorkEnd,

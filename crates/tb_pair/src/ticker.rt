@@ -11,19 +11,19 @@ use tb_lock::Seat;
 use tb_log::Input;
 use tb_run::{Post, WorkEnd, hand};
 
-/// One of two buses that get the ticks of one clock.
+/// One of two buses that receive the ticks of one clock.
 #[derive(Drop)]
 pub struct TickedBus<'a, W: Walker> {
     /// The bus.
     pub post: &'a Post<W>,
-    /// Has the right to hand in ticks.
+    /// Has the right to deliver ticks.
     pub seat: Seat,
-    /// Why the bus gets no more of them, if it gets none.
+    /// Why the bus receives no more of them, if this is so.
     pub end: Option<WorkEnd>,
 }
 
-/// Hands each tick of a clock to two buses, to the one and then to the other, `ticks` of them at most, and then that no more come. A bus
-/// that is down or has refused one gets no more. Gives why each has ended.
+/// Delivers each tick of a clock to two buses, first to the one and then to the other, at most `ticks` of them. Then it reports to
+/// each that no more come. A bus that has shut down or has refused a tick receives no more. Returns why each has ended.
 pub fn pair_ticker<'a, W: Walker, R: Wait, C: Clock>(
     rt: &R,
     one: &mut TickedBus<'a, W>,
@@ -43,7 +43,7 @@ pub fn pair_ticker<'a, W: Walker, R: Wait, C: Clock>(
     (one_end, other_end)
 }
 
-/// Hands in the ticks, and gives why no more come.
+/// Delivers the ticks, and returns why no more come.
 fn tick_all<'a, W: Walker, R: Wait, C: Clock>(
     rt: &R,
     one: &mut TickedBus<'a, W>,
@@ -68,7 +68,7 @@ fn tick_all<'a, W: Walker, R: Wait, C: Clock>(
     WorkEnd::Over
 }
 
-/// Hands in the next tick, or gives why no more come.
+/// Delivers the next tick, or returns why no more come.
 fn tick_one<'a, W: Walker, R: Wait, C: Clock>(
     rt: &R,
     one: &mut TickedBus<'a, W>,
@@ -102,14 +102,14 @@ fn tick_one<'a, W: Walker, R: Wait, C: Clock>(
     }
 }
 
-/// Returns whether neither bus gets ticks any more, from why each gets none.
+/// Returns whether neither bus receives ticks any more, by why each receives none.
 fn neither(one: Option<WorkEnd>, other: Option<WorkEnd>) -> bool
     ensures { result ≡ (is_some one && is_some other) }
 {
     one.is_some() && other.is_some()
 }
 
-/// Hands a tick to a bus that gets them still.
+/// Delivers a tick to a bus that still receives them.
 fn tick<'a, W: Walker, R: Wait>(rt: &R, bus: &mut TickedBus<'a, W>)
     requires { CanTick bus.old.post.now.shared bus.old.seat }
     ensures ticked { (begun : SeatView) (given : ℕ) → Ticked begun bus.old.seat given bus.old.end
@@ -122,7 +122,7 @@ fn tick<'a, W: Walker, R: Wait>(rt: &R, bus: &mut TickedBus<'a, W>)
     }
 }
 
-/// Hands in that no more ticks come, to a bus that gets them still.
+/// Reports that no more ticks come, to a bus that still receives them.
 fn no_more<'a, W: Walker, R: Wait>(rt: &R, bus: &mut TickedBus<'a, W>, wanted: WorkEnd) -> WorkEnd
     requires { CanTick bus.old.post.now.shared bus.old.seat }
     ensures { SaysSo bus.old.end bus.old.seat bus.new.seat wanted result }

@@ -18,9 +18,9 @@ use tb_lock::{Seat, calls_add_their_own};
 use tb_log::Out;
 use tb_run::{Post, WorkEnd, refused, wait_for_call};
 
-/// Names the tool of lane 1 `pipe`, and sends all that this tool is told to do through the pipe. It ends once the bus is down and nothing
-/// is left to be handed out on the lane, or where a call of the bus is refused or memory runs out. Then it sends that nothing more comes.
-/// If the reader has ended, it takes out all the same and sends nothing more.
+/// Names the tool of lane 1 `pipe`, and sends the term of each `rec-do` line of this tool through the pipe. The worker ends if the
+/// bus has shut down and nothing is left in the lane's queue, or if a call of the bus is refused, or if memory runs out. Then it
+/// sends that nothing more comes. If the reader has ended, the worker still takes the queued items, but sends nothing more.
 pub fn pipe_writer<'a, W: Walker, R: Wait>(
     rt: &R,
     post: &Post<W>,
@@ -59,7 +59,7 @@ fn write_all<'a, W: Walker, R: Wait>(
     }
 }
 
-/// Takes out and passes on, until the bus is down and nothing is left, or a call is refused.
+/// Takes items and passes their terms on, until the bus has shut down and nothing is left, or a call is refused.
 fn write_on<'a, W: Walker, R: Wait>(
     rt: &R,
     post: &Post<W>,
@@ -83,7 +83,7 @@ fn write_on<'a, W: Walker, R: Wait>(
     unreachable!()
 }
 
-/// Takes out what is to be handed out next and passes it on, if something is there; gives why the worker ends, if it ends.
+/// Takes the next queued item and passes its term on, if there is one. Returns why the worker ends, if it ends.
 fn write_one<'a, W: Walker, R: Wait>(
     rt: &R,
     post: &Post<W>,
@@ -114,7 +114,7 @@ fn write_one<'a, W: Walker, R: Wait>(
     }
 }
 
-/// Sends what the tool is told to do, and nothing else.
+/// Sends the term of a `rec-do` line, and nothing of other items.
 fn pass_on<'a, R: Wait>(rt: &R, bells: &Bells, pipe: &mut PipeIn<'a>, heard: &mut u64, out: Out)
     requires { IsOutInShape out }
     ensures ring { SameProducer pipe.old.end pipe.new.end }

@@ -1,4 +1,4 @@
--- A run that is worked out: a tool that puts three bad lines and ends.
+-- A run that is computed: a tool that writes three bad lines and ends.
 use Rattle.std.proofs.Common.{◌≡◌, ℕ, ◌≤◌, ◌++◌, List, [], ◌∷◌, inl, inr, replicate, take, refl, ap, sym, ◌∙◌, subst, arith, codes, false, true, rules, Option, Some, None, Bool}
 use Rattle.std.specs.Prelude.{map}
 use Rattle.std.specs.Fmt.{digits}
@@ -130,7 +130,7 @@ bus_of procs last down next lane = record {
 abbrev opened : Bus
 opened = bus_of (proc (Let from_start (Seq (At 1 0) (At 2 0))) 0 ∷ []) 0 false 1 unused
 
--- the lane with its tool, where this is to be handed out
+-- the lane with its tool, where this is queued for sending
 abbrev live : List Out → Lane
 live outs = record { up = true; ended = false; tool = Some (new_tool t 1 stage.Live); outs = outs }
 
@@ -215,7 +215,7 @@ departing-text : log_text departing_log ≡ departing_text
 unfolding digits
 departing-text = simp tool-text
 
--- what the tool puts: too long a line, what is no term, a term that is no line, and its end
+-- what the tool writes: too long a line, what is no term, a term that is no line, and its end
 open-bracket : IsToolLine (codes "foo(") line.Bad
 open-bracket = faulty-line (codes "foo(") (fault.Syntax 4) (omega arith) (λ e. cc) (take 2 (appl_tokens (codes "foo") ([] ∷ [])), (_, refl, (_, refl, refl)))
 
@@ -289,7 +289,7 @@ departing-run = record {
   first = (refl, refl, refl);
 }
 
--- the outlet took one item less than the log hands out
+-- the outlet took one item less than the log sends
 pub none-lacks : (text : List ℕ) → Runs 36000 before (afterwards (lanes_of put_by_tool (taken.Start t ∷ [])) text) departing back Ended → ⊥
 none-lacks text runs = let e : ◌≡◌ {A = Option (List Taken)} (Some (taken.Start t ∷ [])) (Some (taken.Start t ∷ taken.End ∷ [])) = runs.outcome.1.0.took in cc
 
@@ -307,7 +307,7 @@ none-unheard text takes runs = let lines = gave-all departing_log 1 (given.Line 
 pub none-made_up : (text : List ℕ) (takes : List Taken) → Runs 36000 before (afterwards (lanes_of (given.Long ∷ given.End ∷ []) takes) text) departing back Ended → ⊥
 none-made_up text takes runs = let lines = gave-all departing_log 1 (given.Long ∷ given.End ∷ []) takes 0 runs.outcome.1.0 in lines.1.0
 
--- other bytes were put
+-- other bytes were written
 pub none-unwritten : (lanes : List LaneView) → Runs 36000 before (afterwards lanes []) departing back Ended → ⊥
 none-unwritten lanes runs =
     let e : ◌≡◌ {A = Option (List ℕ)} (Some []) (Some (log_text departing_log)) = runs.outcome.0 in
@@ -320,7 +320,7 @@ none-clock lanes text runs = elim runs.outcome.4 [ inl less ↦ absurd (omega (a
 pub none-crew : (new : OutsideView) → Runs 36000 before new departing back Crew → ⊥
 none-crew new runs = let e : ◌≡◌ {A = List Entry} departing_log [] = runs.outcome.3 in cc
 
--- the sink failed though it took all, and this is told before that the clock failed, and before the log's limit
+-- the sink failed though it took all, and this is reported before the failure of the clock, and before the log's limit
 pub none-hidden : (lanes : List LaneView) (text : List ℕ) (clock_faults : ℕ) → Runs 36000 before (record (afterwards lanes text) { clock_faults = clock_faults; out_faults = 1 }) departing back Clock → ⊥
 none-hidden lanes text clock_faults runs = absurd (omega (arith, runs.first.1))
 
@@ -332,7 +332,7 @@ pub none-forgotten : (text : List ℕ) (takes : List Taken) → Runs 36000 befor
 none-forgotten text takes runs =
     let most : 6 ≤ 5 = gave-most departing_log 1 (given.Long ∷ given.Long ∷ put_by_tool) takes 0 runs.outcome.1.0 in absurd (omega (arith, most))
 
--- a log that says quiet twice, however it goes on and whatever the outside shows
+-- a log that says quiet twice, however it goes on and whatever the environment shows
 pub none-quiet_twice : (old new : OutsideView) (label : Label) (rest : List Entry) (it : RunWhy) → Runs 36000 old new departing (core_of departing (Did label ∷ Quiet ∷ Quiet ∷ rest)) it → ⊥
 none-quiet_twice old new label rest it runs = let e : ◌≡◌ {A = Bool} true false = runs.history.sparse 1 refl in cc
 
@@ -375,7 +375,7 @@ none-untold ran =
     let same : ◌≡◌ {A = ℕ} 1 0 = ap ticks_of ran.told in
     absurd (omega (arith, same))
 
--- that no more ticks come is said twice, or a tick comes behind it
+-- that no more ticks come is said twice, or a tick comes after it
 pub none-twice : TimeIs (departing_log ++ Fed input.NoTicks (Dropped why.Down) ∷ []) → ⊥
 none-twice = not-twice (departing_log ++ Fed input.NoTicks (Dropped why.Down) ∷ []) (Dropped why.Down) (Dropped why.Down) refl
 
@@ -438,7 +438,7 @@ clock-stopped = record {
 early-proper : list_all is_proper_entry early ≡ true
 early-proper = simp (tool-proper, name-string)
 
--- the call that hands in the line was refused
+-- the call that delivers the line was refused
 line-refused : LaneRefused short early 1 idle (record { gave = Some (record { gave = given.Long ∷ []; over = false }); inlet_faults = 0; took = Some (taken.Start t ∷ []); outlet_faults = 0 })
 line-refused = inl (record {
   fed = [];

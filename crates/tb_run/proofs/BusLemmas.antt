@@ -38,7 +38,7 @@ use Rattle.tb_run.proofs.TraceLemmas.{DownLaw, EmptyLaw, down_to_end, empty_to_e
 use Rattle.tb_run.proofs.WentLemmas.{OfInlet, OfOutlet, each_length, reader_view, writer_view, zip_done}
 use Rattle.tb_run.proofs.WorkedLemmas.{EachNew, IsFirst, Unites, Worked, count_unused, kept_before, kept_behind, new_append, rights_append, rights_of, rights_unused, seats_append, seats_of, seats_unused, seen_of_all, unites, unused_of}
 
--- what the first seat of a bus has kept, once it has handed these rights on, and then those
+-- what the first seat of a bus has kept, once it has passed these rights on, and then those
 abbrev pub kept_after : SeatView → List Rights → List Rights → SeatView
 kept_after begun rights further = left_after (left_after begun rights) further
 
@@ -51,11 +51,11 @@ first_kept begun rights further first = record {
   called = left_called (left_after begun rights) further ∙ (left_called begun rights ∙ ap (λ (s : SeatView). s.called) first);
 }
 
--- the seats of the rights that were handed on first are new
+-- the seats of the rights that were passed on first are new
 pub first_new : (begun : SeatView) (rights : List Rights) → begun ≡ first_seat begun.bus begun.origin → EachNew begun (parted begun rights)
 first_new begun rights first = parted_new begun begun rights refl refl (ap (λ (s : SeatView). s.seen) first)
 
--- and those of the rights that were handed on then
+-- and those of the rights that were passed on then
 pub further_new : (begun : SeatView) (rights further : List Rights) → begun ≡ first_seat begun.bus begun.origin → EachNew begun (parted (left_after begun rights) further)
 further_new begun rights further first =
     parted_new begun (left_after begun rights) further (left_bus begun rights) (left_origin begun rights) (left_seen begun rights ∙ ap (λ (s : SeatView). s.seen) first)
@@ -79,7 +79,7 @@ module _ (begun last : SeatView) (rights further joined : List Rights) (all : Li
       let most : most_seats ≡ 64 = refl in
       omega (arith, whole, one, two, sum, most, count, few)
 
--- What is known of a bus whose seats were handed on and have become one again as they were; these are the seats beside those of the workers of its lanes.
+-- What is known of a bus whose seats were passed on and have become one again as they were; these are the seats in addition to those of the workers of its lanes.
 pub record BusIdle (begun last : SeatView) (rights further : List Rights) (asides : List SeatView) : Type 0 where
   pub bus : last.bus ≡ begun.bus
   pub origin : last.origin ≡ begun.origin
@@ -122,8 +122,8 @@ module _ (begun last : SeatView) (rights further : List Rights) (asides seats : 
     nothing = seen_of_all begun (kept_after begun rights further) last (asides ++ seats) joins (first_kept begun rights further first).seen all_new;
   }
 
--- One bus, as the functions of a run say it of its parts: the workers of the lanes from a number on and the one that makes steps, whose seats have these
--- rights; and the seats beside theirs, in the order in which they were joined. `further` are the rights of these, in the order in which they were handed on.
+-- One bus, as the functions of a run say it of its parts: the workers of the lanes from a number on and the stepper, whose seats have these
+-- rights; and the other seats, in the order in which they were joined. `further` are the rights of these, in the order in which they were passed on.
 pub record BusCourse {X I O : Type 0} (seat : X → SeatView) (ended : X → WorkEnd) (work : X → Work I O) (gave : I → Option InletView) (fails : I → ℕ) (took : O → Option (List Taken)) (faults : O → ℕ)
     (from : ℕ) (begun last : SeatView) (rights further : List Rights) (asides : List (Worked begun)) (is is_new : List I) (os os_new : List O) (xs ys : List X) : Type 0 where
   pub first : begun ≡ first_seat begun.bus begun.origin
@@ -161,13 +161,13 @@ pub record BusCame {X I O : Type 0} (seat : X → SeatView) (ended : X → WorkE
   pub reads : EachLane (ReaderWent seat ended work gave fails took faults last begun (λ _. ⊤)) from is is_new
   pub writes : EachLane (WriterWent seat ended work gave fails took faults last begun (λ _. ⊤)) from os os_new
   pub lanes : EachLane (LaneStopped last.seen) from (views gave fails took faults is os) (views gave fails took faults is_new os_new)
-  -- a seat that has found the bus down, or nothing left to be handed out, has found it so for all time
+  -- a seat that has found the bus down, or nothing left to be sent, has found it so for all time
   pub down_still : (done : SeatView) → done.origin ≡ begun.origin → Kept last done → (bus_of done).down ≡ true → (bus_of last).down ≡ true
   pub empty_still : (done : SeatView) → done.origin ≡ begun.origin → Kept last done → (lane : ℕ) → IsLane lane → (bus_of done).down ≡ true → next_out lane (bus_of done).bench ≡ None → next_out lane (bus_of last).bench ≡ None
-  -- where a worker was refused a call since the log was full
+  -- if a call of a worker was refused because the log was full
   pub refused : list_any is_full_end (map ended ys) ≡ true
       → SomeLane (LaneRefused last.origin last.seen) from (views gave fails took faults is os) (views gave fails took faults is_new os_new) ⊎ HadNoRoom MakeStep last.origin last.seen
-  -- where none was refused, and no seat beside theirs has stopped the bus
+  -- if no call was refused, and no seat except theirs has stopped the bus
   pub to_end : AreQuiet asides → NoneRefused (ends_of asides ++ map ended ys) → (core : CoreState) → Closes last core
       → BusEnded gave fails took faults from begun last asides is is_new os os_new (map ended ys)
 
@@ -250,7 +250,7 @@ module _ (first_law : FirstLaw) (second_law : SecondLaw) (down_law : DownLaw) (e
     writes : EachLane (WriterWent seat ended work gave fails took faults last begun P) from os os_new
     writes = subst (EachLane (WriterWent seat ended work gave fails took faults last begun P) from os) (sym (c.outlets ∙ went.outlets)) went.writes
 
-  -- where none was refused anything
+  -- if no call was refused
   down_of : (stepper : StepperWent seat ended work gave fails took faults last begun CameToEnd) (it : WorkEnd) → CameToEnd it → StepperEnds stepper.begun stepper.done it → (bus_of stepper.done).down ≡ true
   down_of stepper end.Over h e = absurd e
   down_of stepper end.Down h e = e
@@ -296,7 +296,7 @@ module _ (first_law : FirstLaw) (second_law : SecondLaw) (down_law : DownLaw) (e
         empty = is_empty meet;
       }
 
-  -- a worker was refused a call since the log was full
+  -- a call of a worker was refused because the log was full
   all_end : EachEnd (λ _. ⊤) (map ended ys)
   all_end = any_end (map ended ys)
 

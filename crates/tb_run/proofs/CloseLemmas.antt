@@ -1,4 +1,4 @@
--- What a run comes to once its bus is closed and the rest of the log was put.
+-- The result of a run once its bus is closed and the rest of the log was written.
 use Rattle.std.proofs.Common.{◌≡◌, ◌≤◌, ◌+◌, ◌⊎◌, ℕ, List, ◌++◌, length, drop, Option, sym, ap, ◌∙◌, subst, inl, inr, append_assoc, length-append, arith}
 use Rattle.std.specs.Prelude.{IsTrue}
 use Rattle.std.specs.List.{list_all}
@@ -22,7 +22,7 @@ use Rattle.tb_run.specs.Seats.{SeesTrace}
 use Rattle.tb_run.proofs.LimitLemmas.{LaterLaw, full_at_limit, was_full}
 use Rattle.tb_run.proofs.LogLemmas.{drop_after, more_on, text_append}
 
--- the rest of a log may be put
+-- the rest of a log may be written
 pub may_rest : (most : ℕ) (old new : OutsideView) (seat : SeatView) (writer : WriterView) (it : RunWhy) → ComesTo most old new seat writer it → GoesToRest seat.seen writer it
 may_rest most old new seat writer why.Ended c = (c.0.held, let n = length-append c.0.written c.0.rest in let e = ap length c.0.is in let m = c.0.so_many in omega (arith, n, e, m))
 may_rest most old new seat writer why.Clock c = (c.0.held, let n = length-append c.0.written c.0.rest in let e = ap length c.0.is in let m = c.0.so_many in omega (arith, n, e, m))

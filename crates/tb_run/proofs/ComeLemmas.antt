@@ -1,4 +1,4 @@
--- What a run comes to before the bus is closed: the law of its bus, and with it that of its log's writer and of its clock.
+-- The result of a run before the bus is closed: the theorem on its bus, and with it those on its log's writer and its clock.
 use Rattle.std.proofs.Common.{◌≡◌, ◌+◌, ℕ, List, [], ◌∷◌, ◌++◌, map, length, Bool, true, false, ◌||◌, Option, Some, None, refl, sym, ap, ◌∙◌, subst, inl, inr, ⊎_elim, append_assoc, append-nil, arith}
 use Rattle.std.specs.List.{All, list_any}
 use Rattle.tb_edge.specs.Ends.{InletView, ClockView}
@@ -43,7 +43,7 @@ use Rattle.tb_run.proofs.RunLemmas.{Done}
 use Rattle.tb_run.proofs.TraceLemmas.{DownLaw, EmptyLaw}
 use Rattle.tb_run.proofs.WorkedLemmas.{EachNew, IsNew, Worked}
 
--- what was put is a prefix of the text of a longer log
+-- what was written is a prefix of the text of a longer log
 pub prefix_more : (put_old put_new : Option (List ℕ)) (seen more : List Entry) → WritesPrefix put_old put_new (log_text seen) → WritesPrefix put_old put_new (log_text (seen ++ more))
 prefix_more put_old put_new seen more p =
     let after : List ℕ = log_text_from (1 + length seen) more in
@@ -97,7 +97,7 @@ module _ (first_law : FirstLaw) (second_law : SecondLaw) (down_law : DownLaw) (e
   abbrev After : OutsideView
   After = record { lanes = views gave fails took faults is_new os_new; clock = clock_new; clock_faults = clock_faults_new; crew_faults = crew_faults_new; put = put_new; out_faults = out_faults_new }
 
-  -- the seats that were handed on beside those of the workers of the lanes
+  -- the seats that were passed on in addition to those of the workers of the lanes
   abbrev further : List Rights
   further = to_tick ∷ no_rights ∷ []
 
@@ -144,7 +144,7 @@ module _ (first_law : FirstLaw) (second_law : SecondLaw) (down_law : DownLaw) (e
     clock = clock_stopped most tick_begun tick_done last clock_old clock_new clock_faults_old clock_faults_new tick_end c.ticks tick_right tick_new.seen the_bus.kept.1.0;
   }
 
-  -- where none was refused anything
+  -- if no call was refused
   module _ (logged : Logged log_begun log_done writer put_old put_new out_faults_old out_faults_new) (none : NoneRefused (tick_end ∷ map ended ys)) (core : CoreState) (closes : Closes last core) where
     the_end : BusEnded gave fails took faults 1 begun last asides is is_new os os_new (map ended ys)
     the_end = the_bus.to_end (logged.called, (tt, tt)) none core closes
@@ -168,7 +168,7 @@ module _ (first_law : FirstLaw) (second_law : SecondLaw) (down_law : DownLaw) (e
       done = bus_done;
     }
 
-  -- what was put
+  -- what was written
   is_put : Logged log_begun log_done writer put_old put_new out_faults_old out_faults_new → IsPut last.seen writer put_old put_new out_faults_old out_faults_new
   is_put l = record {
     written = l.written;
@@ -191,7 +191,7 @@ module _ (first_law : FirstLaw) (second_law : SecondLaw) (down_law : DownLaw) (e
       TickerEnds (λ count. count ≡ most)
       (record { old = tick_begun; new = tick_done; faults_old = clock_faults_old; faults_new = clock_faults_new; count = length c.ticks.first; last = c.ticks.last; tail = c.ticks.tail; ended = c.ticks.ended }) it
 
-  -- a call was refused since the log was full
+  -- a call was refused because the log was full
   refused_one : list_any is_full_end (tick_end ∷ map ended ys) ≡ true → WasRefused most Before After last.origin last.seen
   refused_one e = go tick_end refl c.ticks.ends e
     where

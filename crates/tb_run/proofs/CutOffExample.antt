@@ -1,4 +1,4 @@
--- A run that is worked out: the third call of an outlet fails, and what it was handed is cut off.
+-- A computed run: the third call of an outlet fails, and its item is cut off.
 use Rattle.std.proofs.Common.{length, length-append, ◌+◌, ◌≡◌, ℕ, ◌++◌, List, [], ◌∷◌, inl, inr, replicate, refl, ap, sym, ◌∙◌, subst, arith, codes, false, true, rules, Option, Some, None, Bool}
 use Rattle.std.specs.Prelude.{map}
 use Rattle.std.proofs.lemmas.List.{length-map}
@@ -144,11 +144,11 @@ bus_of procs last down next lane = record {
 abbrev opened : Bus
 opened = bus_of (proc (Let from_start (Seq (At 1 0) (Seq (At 2 0) (Seq (At 3 0) (At 4 0))))) 0 ∷ []) 0 false 1 unused
 
--- what the tool is told to do
+-- the line that the tool is sent
 abbrev pub do_line : List ℕ → Out
 do_line name = out.Line (term.Appl (codes "rec-do") (word name ∷ []))
 
--- the lane with its tool, where this is to be handed out
+-- the lane with its tool and these queued items
 abbrev live : List Out → Lane
 live outs = record { up = true; ended = false; tool = Some (new_tool t 1 stage.Live); outs = outs }
 
@@ -211,7 +211,7 @@ is-done = record { down = refl; empty = λ lane l. empty-lane (over true).bench 
 pub cutting-done : IsDone (replay (start cutting) cutting_log)
 cutting-done = subst IsDone (sym cutting-leads.is) is-done
 
--- all that was handed out, and what of it was put
+-- all items that were sent, and those that were written
 handed-all : handed cutting_log 1 ≡ out.Start t ∷ do_line (codes "a") ∷ do_line (codes "b") ∷ out.End ∷ []
 handed-all = refl
 
@@ -235,7 +235,7 @@ taken_by_tool = taken.Start t ∷ taken.Line (codes "rec-do(a)") ∷ taken.End �
 pub taken-all : map taken_of (sent cutting_log 1) ≡ taken_by_tool
 taken-all = ap (λ (text : List ℕ). taken.Start t ∷ taken.Line text ∷ taken.End ∷ []) do-text
 
--- the inlet gave its end, and wasn't read to the end, since the bus was down; the outlet failed once
+-- the inlet gave its end, and wasn't read to the end, because the bus had shut down; the outlet failed once
 abbrev pub tool_end : LaneView
 tool_end = record { gave = Some (record { gave = given.End ∷ []; over = false }); inlet_faults = 0; took = Some taken_by_tool; outlet_faults = 1 }
 
@@ -305,7 +305,7 @@ put-text : log_text cutting_log ≡ cutting_text
 unfolding digits
 put-text = simp (tool-text, a-text, b-text, do-text, other-text)
 
--- the outside after the run, where the tool's lane shows this
+-- the environment after the run, where the tool's lane shows this
 abbrev pub after_cut : LaneView → OutsideView
 after_cut lane = afterwards (one_lane lane (at_end [] [] 0)) cutting_text
 
@@ -356,7 +356,7 @@ none-unsaid ran =
     let e : ◌≡◌ {A = Option (List Taken)} (Some taken_by_tool) (Some uncut) = ran.took ∙ ap (λ (takes : List Taken). Some takes) unsaid-taken in
     let same : ◌≡◌ {A = Taken} taken.End (taken.Line (codes "rec-do(b)")) = cc in cc
 
--- the inlet isn't over, and the log has nothing of it that was dropped since the bus was down
+-- the inlet isn't over, and the log has nothing of it that was dropped because the bus had shut down
 pub none-unread : (gives : List Given) (takes : List Taken) (faults : ℕ) → LaneRan before_gone 1 idle (record { gave = Some (record { gave = gives; over = false }); inlet_faults = 0; took = Some takes; outlet_faults = faults }) → ⊥
 none-unread gives takes faults = not-over before_gone 1 gives takes faults refl
 

@@ -49,7 +49,7 @@ zip_length P [] (y ∷ ys) z = absurd z
 zip_length P (x ∷ xs) [] z = absurd z
 zip_length P (x ∷ xs) (y ∷ ys) z = let rest = zip_length P xs ys z.1 in omega (arith, rest)
 
--- what was told, or nothing
+-- the reported value, or nothing
 abbrev given_in : Option InletView → List Given
 given_in None = []
 given_in (Some view) = view.gave
@@ -62,7 +62,7 @@ abbrev ticks_in : Option ClockView → ℕ
 ticks_in None = 0
 ticks_in (Some view) = view.ticks
 
--- who tells gave or took as much as it gave or took
+-- if an end reports its items, the number of items that it gave or took is determined
 as_given : (old : Option InletView) (view : InletView) (xs ys : List Given) (a b : Bool) → old ≡ Some view → and_given old xs a ≡ and_given old ys b → length xs ≡ length ys
 as_given None view xs ys a b is e = absurd (let none : ◌≡◌ {A = Option InletView} None (Some view) = is in cc)
 as_given (Some v) view xs ys a b is e =
@@ -103,7 +103,7 @@ not_cut origin log lane old new view tells ran refused =
     let put = taken_count refused.put in
     omega (arith, less, all, taken, put, count)
 
--- what was dropped since the bus was down isn't let in
+-- an input that was dropped because the bus had shut down isn't let in
 not_let_in : (test : Input → Bool) (time : (it : Input) → test it ≡ true → is_time (Fed it (Dropped why.Down)) ≡ true) (before : List Entry) (it : Input) (after : List Entry) → test it ≡ true →
     AreLetIn (filter is_time (before ++ Fed it (Dropped why.Down) ∷ after)) → ⊥
 not_let_in test time [] it after is let_in = go (is_time (Fed it (Dropped why.Down))) (time it is) let_in
@@ -147,13 +147,13 @@ bus_is : (core : CoreState) (origin : Origin) (log : List Entry) → core.origin
 unfolding bus_now
 bus_is core origin log o l = ap (λ (it : Origin). replay (start it) core.log) o ∙ ap (λ (it : List Entry). replay (start origin) it) l
 
--- the law of a core whose log is full
+-- the theorem on a core whose log is full
 abbrev pub FullLaw : Type 0
 FullLaw = (core : CoreState) (call : Call) → IsTrace (start core.origin) core.log → MayCall call → is_full core call ≡ true → length core.log ≤ core.origin.limit →
     IsAtLimit (largest_command core.origin) core.origin core.log
 
 module _ (law : FullLaw) (back : CoreState) (trace : IsTrace (start back.origin) back.log) (within : length back.log ≤ back.origin.limit) (small : log_size back.log + max 131072 (largest_command back.origin) ≤ most_size) (done : IsDone (replay (start back.origin) back.log)) where
-  -- a call that found no room found none behind the last entry
+  -- a call for which the log had no capacity found none after the last entry
   at_end : (call : Call) (it : HadNoRoom call back.origin back.log) → it.core.log ≡ back.log
   at_end call it = go (law it.core call before it.may it.full fits)
     where

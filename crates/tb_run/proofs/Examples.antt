@@ -110,7 +110,7 @@ pub came : (bus next last : Bus) (input : Input) (reply : Reply) (log : List Ent
     Leads bus (Fed input reply ∷ log) last
 came bus next last input reply log shape r e l = behind bus next last (Fed input reply) log (legal-fed bus input reply shape r) e l
 
--- something is handed out
+-- something is sent
 pub gave : (bus next last : Bus) (lane : ℕ) (out : Out) (log : List Entry) → IsLane lane → next_out lane bus.bench ≡ Some out → taken_out lane bus ≡ next → Leads next log last → Leads bus (Gave lane out ∷ log) last
 gave bus next last lane out log on o e l = behind bus next last (Gave lane out) log (legal-gave bus lane out on o) e l
 
@@ -164,7 +164,7 @@ one_lane lane other = lane ∷ replicate 15 other
 abbrev pub is_silent : List Entry → ℕ → Bool
 is_silent log lane = is_empty (inputs log lane) && (is_empty (sent log lane) && nat_eq (cut_count lane log) 0)
 
--- this lane and those behind it
+-- this lane and those after it
 abbrev pub are_silent : List Entry → ℕ → ℕ → Bool
 are_silent log lane zero = true
 are_silent log lane (suc count) = is_silent log lane && are_silent log (lane + 1) count
@@ -220,7 +220,7 @@ unmoved-lanes log lane (suc count) e =
 abbrev pub clock_of : Bool → Option ClockView
 clock_of ended = Some (record { ticks = 0; ended = ended })
 
--- where no lane has anything to hand out, the lane with this number hasn't
+-- where no lane has anything to send, the lane with this number hasn't
 abbrev pub are_empty : List Lane → Bool
 are_empty [] = true
 are_empty (lane ∷ lanes) = is_empty lane.outs && are_empty lanes
@@ -237,14 +237,14 @@ empty-at (lane ∷ lanes) (suc index) e = empty-at lanes index (and_parts (is_em
 pub empty-lane : (bench : BenchState) (lane : ℕ) → are_empty bench.lanes ≡ true → next_out lane bench ≡ None
 empty-lane bench lane e = empty-at bench.lanes (lane - 1) e
 
--- the outside before a run, and after one that this lane's ends came to, and the other lanes', with this text put
+-- the environment before a run, and after one that this lane's ends came to, and the other lanes', with this text written
 abbrev pub before : OutsideView
 before = outside_of (replicate 16 idle) (clock_of false) 0 0 (Some []) 0
 
 abbrev pub afterwards : List LaneView → List ℕ → OutsideView
 afterwards lanes text = outside_of lanes (clock_of true) 0 0 (Some text) 0
 
--- the core that is handed back
+-- the core that is returned
 abbrev pub core_of : Origin → List Entry → CoreState
 core_of origin log = record { origin = origin; log = log; stopped = false; spare = 0 }
 
@@ -270,7 +270,7 @@ said-twice one two (entry ∷ first) tail e ticks last =
 pub not-twice : (log : List Entry) (one two : Reply) → filter is_time log ≡ Fed input_of.NoTicks one ∷ Fed input_of.NoTicks two ∷ [] → TimeIs log → ⊥
 not-twice log one two e time = said-twice one two time.first time.tail (sym e ∙ time.is) time.ticks time.last
 
--- no tick comes behind it
+-- no tick comes after it
 tick-behind : (one two : Reply) (first tail : List Entry) → Fed input_of.NoTicks one ∷ Fed input_of.Tick two ∷ [] ≡ first ++ tail → AreTicks first → (tail ≡ []) ⊎ IsNoTicks tail → ⊥
 tick-behind one two [] tail e ticks (inl none) = let both : ◌≡◌ {A = List Entry} (Fed input_of.NoTicks one ∷ Fed input_of.Tick two ∷ []) [] = e ∙ none in cc
 tick-behind one two [] tail e ticks (inr last) =
@@ -299,7 +299,7 @@ lines-length lane [] (i ∷ ins) lines = absurd lines
 lines-length lane (g ∷ gives) [] lines = absurd lines
 lines-length lane (g ∷ gives) (i ∷ ins) lines = ap suc (lines-length lane gives ins lines.1)
 
--- what an inlet told in a call that began with nothing
+-- the items that an inlet gave in a call that began with nothing
 abbrev gave_of : Option InletView → List Given
 gave_of None = []
 gave_of (Some view) = view.gave
@@ -318,7 +318,7 @@ gave-most log lane gives takes faults ran =
     let all : length gives ≡ length ran.fed + length ran.last = ap length same ∙ length-append ran.fed ran.last in
     omega (arith, heard, all, ran.one)
 
--- an input that was dropped since the bus was down
+-- an input that was dropped because the bus had shut down
 abbrev drops_by : Why → Bool
 drops_by why.Unasked = false
 drops_by why.NotLive = false
@@ -352,7 +352,7 @@ abbrev is_over : Option InletView → Bool
 is_over None = false
 is_over (Some view) = view.over
 
--- an inlet isn't over, and nothing of it was dropped since the bus was down
+-- an inlet isn't over, and nothing of it was dropped because the bus had shut down
 pub not-over : (log : List Entry) (lane : ℕ) (gives : List Given) (takes : List Taken) (faults : ℕ) → none_dropped log ≡ true →
     LaneRan log lane idle (record { gave = Some (record { gave = gives; over = false }); inlet_faults = 0; took = Some takes; outlet_faults = faults }) → ⊥
 not-over log lane gives takes faults none ran = elim ran.end [

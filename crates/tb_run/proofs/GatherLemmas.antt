@@ -1,4 +1,4 @@
--- Seats beside those of the workers, when all are gathered.
+-- The seats in addition to those of the workers, when all are gathered.
 use Rattle.std.proofs.Common.{◌≡◌, zero, suc, List, [], ◌∷◌, ◌++◌, map, arith}
 use Rattle.std.specs.List.{All}
 use Rattle.atomic_table.specs.Seated.{TableId}
@@ -10,7 +10,7 @@ all_two bus one two a b zero d h = a
 all_two bus one two a b (suc zero) d h = b
 all_two bus one two a b (suc (suc k)) d h = absurd (omega (arith, h))
 
--- what holds of each of these holds of each of those that f makes of them, and of those in front
+-- what holds of each of these holds of each of those that f makes of them, and of those before
 pub all_behind : {X Y : Type 0} (f : X → Y) (P : Y → Type 0) (front : List Y) (xs : List X) → All P front → All (λ (x : X). P (f x)) xs → All P (front ++ map f xs)
 all_behind f P [] [] a b k d h = absurd (omega (arith, h))
 all_behind f P [] (x ∷ xs) a b zero d h = b zero x (omega arith)

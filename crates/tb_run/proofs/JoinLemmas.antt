@@ -87,7 +87,7 @@ room_of_all seat last [] j = ap (λ (s : SeatView). s.room) (sym j)
 room_of_all seat last (other ∷ others) j =
     room_of_all j.0 last others j.2 ∙ ap (λ (r : ℕ). fold (λ a b. a + b) r (map (λ (s : SeatView). s.room) others)) (ap (λ (s : SeatView). s.room) j.1.seat)
 
--- who of all has called `stop`
+-- which of all has called `stop`
 abbrev pub SomeCalled : List SeatView → Type 0
 SomeCalled [] = ⊥
 SomeCalled (other ∷ others) = (other.called ≡ true) ⊎ SomeCalled others

@@ -1,4 +1,4 @@
--- A run whose call was refused since the log was full shows that the log is at its limit.
+-- A run whose call was refused because the log was full shows that the log is at its limit.
 use Rattle.std.proofs.Common.{◌≡◌, ◌≤◌, ◌+◌, ℕ, List, [], ◌∷◌, ◌++◌, length, true, sym, subst, inl, inr}
 use Rattle.tb_log.specs.declared.entry.Entry.{Entry}
 use Rattle.tb_log.specs.declared.entry.Input.TheVariants as input
@@ -12,7 +12,7 @@ use Rattle.tb_run.specs.Refusals.{HadNoRoom, LaneRefused, WasRefused}
 use Rattle.tb_run.specs.Views.{LaneView, OutsideView, SomeLane}
 use Rattle.tb_run.proofs.TraceLemmas.{trace_before}
 
--- at some place of a log there was no room for what some call would have logged
+-- at some place, a log had no capacity for the entry of some call
 abbrev pub WasFull : Origin → List Entry → Type 0
 WasFull origin log = (call : Call) × HadNoRoom call origin log
 
@@ -33,7 +33,7 @@ was_full most old new origin log (inr (inl r)) = (HandIn input.Tick, r.no_room)
 was_full most old new origin log (inr (inr (inl r))) = (HandIn input.NoTicks, r.no_room)
 was_full most old new origin log (inr (inr (inr r))) = (MakeStep, r)
 
--- the law of a core whose log was full
+-- the theorem on a core whose log was full
 abbrev pub LaterLaw : Type 0
 LaterLaw = (core : CoreState) (call : Call) (more : List Entry) → IsTrace (start core.origin) core.log → MayCall call → is_full core call ≡ true → length (core.log ++ more) ≤ core.origin.limit →
     IsAtLimit (largest_command core.origin) core.origin (core.log ++ more)

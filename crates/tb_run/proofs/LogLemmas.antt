@@ -1,4 +1,4 @@
--- What the job that writes the log comes to, piece by piece.
+-- The result of the job that writes the log, piece by piece.
 use Rattle.std.proofs.Common.{MatchOption, ◌≡◌, ◌+◌, ℕ, suc, List, [], ◌∷◌, ◌++◌, length, drop, take, Option, Some, None, refl, sym, ap, ◌∙◌, subst, append_assoc, append-nil, length-append, take-append-drop, inl, inr, arith}
 use Rattle.std.specs.Prelude.{Result, Err, IsErrOf, IfSome}
 use Rattle.tb_edge.specs.Faults.{Rose}
@@ -29,7 +29,7 @@ pub more_on : (put : Option (List ℕ)) (xs ys : List ℕ) → and_more (and_mor
 more_on None xs ys = refl
 more_on (Some taken) xs ys = ap Some (append_assoc taken xs ys)
 
--- nothing was put
+-- nothing was written
 pub prefix_none : (put : Option (List ℕ)) (all : List ℕ) → WritesPrefix put put all
 prefix_none put all = record { rest = all; owes = record { put = []; takes = sym (more_none put); is_all = refl } }
 
@@ -68,7 +68,7 @@ pub logged_none : (seat : SeatView) (put : Option (List ℕ)) (faults : ℕ) →
 logged_none seat put faults = record { adds = adds_none seat; written = []; rest = seat.seen; seen = refl; so_many = refl; held = refl; put = sym (more_none put); calm = refl; called = refl }
 
 module _ (a b c : SeatView) (from to : WriterView) (put_a put_b put_c : Option (List ℕ)) (faults_a faults_b faults_c : ℕ) (one : Logged a b from put_a put_b faults_a faults_b) where
-  -- what stands from the index on in a longer log
+  -- the entries from the index on in a longer log
   at_index : (mid : List Entry) (more : List Entry) → mid ≡ b.seen ++ more → drop from.written mid ≡ one.rest ++ more
   at_index mid more e =
       ap (drop from.written) (e ∙ (ap (λ (s : List Entry). s ++ more) one.seen ∙ append_assoc one.written one.rest more))
@@ -169,13 +169,13 @@ module _ (seen_law : SeenLaw) (old mid new : SeatView) (core : CoreState) (from 
 pub part_none : (old mid new : SeatView) (core : CoreState) (from : WriterView) (put : Option (List ℕ)) → Adds old mid [] → mid.seen ≡ core.log → Adds mid new [] → PutsPart old new from put put
 part_none old mid new core from put adds seen after = record { mid = core.log; more = adds.rest; grows = sym seen ∙ adds.seen; tail = after.rest; seen = after.seen ∙ ap (λ (s : List Entry). s ++ after.rest) seen; most = 0; piece = []; is = refl; prefix = prefix_none put (log_text_from (from.written + 1) []) }
 
--- a piece that wasn't put whole
+-- a piece that wasn't written whole
 pub puts_fault : (old new : SeatView) (piece : List Entry) (from to : WriterView) (put_old put_new : Option (List ℕ)) (faults_old faults_new : ℕ) (it : LogFault) → Stops old new → WritesPrefix put_old put_new (log_text_from (from.written + 1) piece)
     → ((let r : Result (Unit {0}) LogFault = Err it in IsErrOf r fault.Out) → Rose faults_old faults_new) → PutsLast old new piece from to put_old put_new faults_old faults_new (end_by it)
 puts_fault old new piece from to put_old put_new faults_old faults_new fault.Out stops prefix rose = (stops, prefix, rose refl)
 puts_fault old new piece from to put_old put_new faults_old faults_new fault.NoMemory stops prefix rose = (stops, prefix)
 
--- an empty piece is put by doing nothing, and the job ends over it as over alone
+-- an empty piece is written by doing nothing, and the job ends over it as over alone
 pub puts_nothing : (old : SeatView) (piece : List Entry) (writer : WriterView) (put : Option (List ℕ)) (faults : ℕ) → length piece ≡ 0 → writer.held ≡ [] → (answer : Option LogEnd) → IfSome answer (λ (it : LogEnd). it ≡ end.Over)
     → MatchOption answer (PutsSome old old piece writer writer put put faults faults) (PutsLast old old piece writer writer put put faults faults)
 puts_nothing old (entry ∷ piece) writer put faults none held answer over = absurd (omega (arith, none))

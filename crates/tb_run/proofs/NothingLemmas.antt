@@ -1,4 +1,4 @@
--- A run that didn't begin: nothing was logged, and the outside is as it was.
+-- A run that didn't begin: nothing was logged, and the environment is as it was.
 use Rattle.std.proofs.Common.{◌≡◌, ◌≤◌, ◌+◌, ℕ, List, [], ◌∷◌, ◌++◌, length, false, Option, refl, sym, ap, ◌∙◌, subst, inl, arith}
 use Rattle.std.specs.Prelude.{IsTrue}
 use Rattle.std.specs.List.{list_all}
@@ -77,7 +77,7 @@ nothing_stopped most old new lanes clock = record {
 pub nothing_put : (old new : OutsideView) → new.put ≡ old.put → WritesPrefix old.put new.put (log_text [])
 nothing_put old new e = subst (λ (o : Option (List ℕ)). WritesPrefix old.put o (log_text [])) (sym e) (prefix_none old.put (log_text []))
 
--- a core that is handed back as it was
+-- a core that is returned as it was
 pub unbegun : (most : ℕ) (outside : OutsideView) (core : CoreState) → core.log ≡ [] → Runs most outside outside core.origin core why.NoMemory
 unbegun most outside core none =
     let st = nothing_stopped most outside outside refl refl in
@@ -155,7 +155,7 @@ module _ (most : ℕ) (old new : OutsideView) (begun last tick log : SeatView) (
     first = λ core closes. first_reason w fails;
   }
 
--- the ends of the lanes stand in the works in order
+-- the ends of the lanes are in the works in order
 pub works_inlets : {I O : Type 0} (lane : ℕ) (is : List I) (rest : List (Work I O)) → inlets_of (readers lane is ++ rest) ≡ is ++ inlets_of rest
 works_inlets lane [] rest = refl
 works_inlets {I} lane (i ∷ is) rest = ap (λ (s : List I). i ∷ s) (works_inlets (lane + 1) is rest)

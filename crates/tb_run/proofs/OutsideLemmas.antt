@@ -1,4 +1,4 @@
--- What was to be seen of the outside, said in another way.
+-- The view of the environment, in another form.
 use Rattle.std.proofs.Common.{◌≡◌, ℕ, List, map, Option, sym, ap, ◌∙◌, subst}
 use Rattle.tb_edge.specs.Ends.{InletView}
 use Rattle.tb_edge.specs.declared.given.Taken.{Taken}

@@ -140,7 +140,7 @@ module _ (I O : Type 0) (bus : TableId) where
         fits_readers (kept_of (in_of bit) seat) (lane + 1) from ins outs inlets outlets e (omega arith) rest m g,
       )
 
-  -- the workers of lanes from a number on, whose bits these are, and the one that makes steps
+  -- the workers of lanes from a number on, whose bits these are, and the stepper
   pub lanes_fit : (seat : SeatView) (from : ℕ) (some : List ℕ) (inlets : List I) (outlets : List O) → seat.bus ≡ bus → length inlets ≡ length some → length outlets ≡ length some → ins_fit from some ≡ true → outs_fit from some ≡ true
       → let ws : List (Work I O) = readers from inlets ++ (writers from outlets ++ Steps ∷ []) in Fits bus (parted seat (map in_of some ++ (map out_of some ++ to_step ∷ []))) ws
   lanes_fit seat from some inlets outlets e n m f g = fits_readers seat from from some some inlets outlets e n f m g

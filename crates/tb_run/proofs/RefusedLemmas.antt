@@ -1,4 +1,4 @@
--- What a run shows of a worker of a lane that was refused a call since the log was full.
+-- What a run shows of a worker of a lane with a call that was refused because the log was full.
 use Rattle.std.proofs.Common.{◌≡◌, ◌⊎◌, ℕ, List, [], ◌∷◌, ◌++◌, true, false, sym, ap, ◌∙◌, subst, inl, inr, append_assoc}
 use Rattle.tb_edge.specs.Ends.{and_given}
 use Rattle.tb_edge.specs.Faults.{Rose}
@@ -21,7 +21,7 @@ use Rattle.tb_run.proofs.JoinLemmas.{Kept}
 use Rattle.tb_run.proofs.LaneLemmas.{own_is}
 use Rattle.tb_run.proofs.Projections.{inputs_own, sent_own}
 
--- the last seat has seen the place where a call of another found no room
+-- the last seat has seen the place at which the log had no capacity for a call of another
 pub no_room : (call : Call) (begun done last : SeatView) → done.origin ≡ last.origin → Kept last done → FoundFull call begun done → HadNoRoom call last.origin last.seen
 no_room call begun done last same kept full = record {
   core = full.core;

@@ -123,7 +123,7 @@ module _ {X I O : Type 0} (seat : X → SeatView) (ended : X → WorkEnd) (work 
   ends_worked first (x ∷ xs) [] z n = absurd z
   ends_worked first (x ∷ xs) (y ∷ ys) z n = ap (λ (es : List WorkEnd). ended y ∷ es) (ends_worked first xs ys z.1 n.1)
 
-  -- each of them tells why it ended
+  -- each of them reports why it ended
   pub quiet_worked : (first : SeatView) (xs ys : List X) (z : AllZip Done xs ys) (n : EachNew first (map seat xs)) → AreQuiet (worked_of first xs ys z n)
   quiet_worked first [] [] z n = tt
   quiet_worked first [] (y ∷ ys) z n = absurd z
@@ -137,7 +137,7 @@ module _ {X I O : Type 0} (seat : X → SeatView) (ended : X → WorkEnd) (work 
   came_each first (x ∷ xs) (y ∷ ys) z n c = (c.0, came_each first xs ys z.1 n.1 c.1)
 
   module _ (last first : SeatView) (P : WorkEnd → Type 0) where
-    -- one worker, from its seat as it was handed out to what that was left with
+    -- one worker, from its new seat to the seat that it left
     pub record Went (x y : X) : Type 0 where
       pub done : Done x y
       pub origin : (seat x).origin ≡ first.origin
@@ -262,7 +262,7 @@ module _ {X I O : Type 0} (seat : X → SeatView) (ended : X → WorkEnd) (work 
           stepper = c.0;
         }
 
-    -- where one was refused a call since the log was full
+    -- if a call of one was refused because the log was full
     module _ (at : first.origin ≡ last.origin) where
       abbrev pub Refused : ℕ → LaneView → LaneView → Type 0
       Refused = LaneRefused last.origin last.seen

@@ -148,7 +148,7 @@ let_in_on end.Full xs ys a b = let_in_both xs ys a b
 let_in_on end.Failed xs ys a b = let_in_both xs ys a b
 let_in_on end.NoMemory xs ys a b = let_in_both xs ys a b
 
--- an input that was handed in
+-- an input that was delivered
 module _ (seen_law : SeenLaw) (added_law : AddedLaw) (input : Input) (old new : SeatView) where
   pub hands_ok : (reply : Reply) → has old.rights (right_to (HandIn input)) ≡ true → Called (IsReply input) (HandIn input) old new (Ok reply) → Hands input old new (end_of reply)
   hands_ok reply right c = go reply all last
@@ -219,7 +219,7 @@ refused_by seen_law added_law finds call old mid new fault.Full it may right c e
 refused_by seen_law added_law finds call old mid new fault.NoMemory it may right c e =
     subst (Refused call old new) (sym e.0) (stops_on old mid new (adds_call seen_law added_law finds call old mid (Err fault.NoMemory) right c) e.1)
 
--- a refused worker as one that handed an input in
+-- a worker after a refused call, as one that delivered an input
 pub hands_err : (input : Input) (old new : SeatView) (it : WorkEnd) → Refused (HandIn input) old new it → Hands input old new (Some it)
 hands_err input old new end.Stopped r = r
 hands_err input old new end.Full r = r

@@ -1,4 +1,4 @@
--- What a tick worker comes to, tick by tick.
+-- The result of a tick worker, tick by tick.
 use Rattle.std.proofs.Common.{◌≡◌, ◌≤◌, ◌+◌, ◌⊎◌, ℕ, List, [], ◌∷◌, ◌++◌, length, Bool, true, false, true≢false, not, ◌||◌, Option, Some, None, MatchOption, refl, sym, ap, ◌∙◌, subst, inl, inr, append_assoc, length-append, arith}
 use Rattle.std.proofs.Math.Bool.{or-false}
 use Rattle.tb_edge.specs.Faults.{Rose}

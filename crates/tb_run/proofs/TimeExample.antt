@@ -1,4 +1,4 @@
--- What a run may say of time, worked out on small logs.
+-- What the log of a run may say of time, computed for small logs.
 use Rattle.std.proofs.Common.{◌≡◌, ℕ, List, [], ◌∷◌, ◌++◌, inl, inr, refl, ap, sym, ◌∙◌, subst, arith, false, true, Option, Some, None, Bool, ◌+◌}
 use Rattle.tb_edge.specs.Ends.{ClockView}
 use Rattle.tb_log.specs.declared.entry.Input.TheVariants.{Tick, NoTicks}
@@ -49,7 +49,7 @@ counted = record {
 none-asked : ClockRan (no_more ∷ []) 0 (gave 0 false) (gave 0 false) ⊥
 none-asked = record { ended = false; told = refl; within = omega arith; time = no-ticks (no_more ∷ []) Took refl; why = inr (inr (inr refl)); end = inl (inr (inr refl)); word = inl (Took, refl) }
 
--- a tick was dropped since the bus was down: nothing more is said
+-- a tick was dropped because the bus had shut down: nothing more is said
 dropped : ClockRan (tick ∷ last_tick ∷ []) 5 (gave 0 false) (gave 2 false) ⊥
 dropped = record {
   ended = false;
@@ -81,7 +81,7 @@ none-early ran = elim ran.why [
   | inr why ↦ no-cause (no_more ∷ []) 1 0 ran.ended refl (λ e. absurd (omega (arith, e))) (sym (ap ended_of ran.told)) why
 ]
 
--- a clock isn't read to its end, and the bus didn't go down
+-- a clock isn't read to its end, and the bus didn't shut down
 none-unread : ClockRan [] 5 (gave 0 false) (gave 0 false) ⊥ → ⊥
 none-unread ran = elim ran.end [
   | inl why ↦ no-cause [] 5 0 ran.ended refl (λ e. absurd (omega (arith, e))) (sym (ap ended_of ran.told)) why

@@ -1,4 +1,4 @@
--- Along a trace a bus that is down stays down, and a lane with nothing to hand out keeps nothing.
+-- Along a trace, a bus that has shut down stays so, and a lane with an empty queue keeps it empty.
 use Rattle.std.proofs.Common.{◌≡◌, ℕ, List, [], ◌∷◌, ◌++◌, true, None, refl, sym, ap, ◌∙◌, subst}
 use Rattle.tb_log.specs.Shapes.{IsLane}
 use Rattle.tb_log.specs.declared.entry.Entry.{Entry}

@@ -1,4 +1,4 @@
--- A run that is worked out: two tools are asked beside each other, and answer.
+-- A run that is computed: two tools are asked concurrently, and answer.
 use Rattle.std.proofs.Common.{◌≡◌, ℕ, ℤ, pos, List, [], ◌∷◌, inl, inr, replicate, refl, ap, sym, ◌∙◌, subst, arith, codes, false, true, rules, Option, Some, None, Bool}
 use Rattle.std.specs.Prelude.{map}
 use Rattle.std.specs.Fmt.{digits}
@@ -236,7 +236,7 @@ bus_of procs last down next one two = record {
 abbrev opened : Bus
 opened = bus_of (proc_a begins 0 ∷ proc_b begins 0 ∷ []) 0 false 1 unused unused
 
--- the lane of a tool with this number, asked so, where this is to be handed out
+-- the lane of a tool with this number, asked so, where this is queued for sending
 abbrev lane_of : List ℕ → ℕ → Eval → List Out → Lane
 lane_of name number asked outs = record { up = true; ended = false; tool = Some (record (new_tool name number stage.Live) { eval = asked }); outs = outs }
 
@@ -362,7 +362,7 @@ is-done = record { down = refl; empty = λ lane l. empty-lane (over [] []).bench
 pub asking-done : IsDone (replay (start asking) asking_log)
 asking-done = subst IsDone (sym asking-leads.is) is-done
 
--- what the tools put
+-- the lines of the tools
 abbrev answer : ℕ → Term
 answer number = term.Appl (codes "snd-value") (value number ∷ [])
 
@@ -551,7 +551,7 @@ none-other takes text runs =
     let same : line.Value (value 1) ≡ line.Value (value 2) = lines-same (codes "snd-value(2)") (line.Value (value 1)) (line.Value (value 2)) lines.0.1 two-put in
     one-no_two same
 
--- the first outlet wasn't told that the bus went down
+-- the first outlet didn't receive that the bus shut down
 pub none-undismissed : (gives : List Given) (text : List ℕ) → Runs 36000 before (afterwards (asked_lanes gives (taken.Start a ∷ taken.Line (codes "rec-eval(one)") ∷ taken.End ∷ [])) text) asking back Ended → ⊥
 none-undismissed gives text runs =
     let e : ◌≡◌ {A = Option (List Taken)} (Some (taken.Start a ∷ taken.Line (codes "rec-eval(one)") ∷ taken.End ∷ [])) (Some (taken_by a (codes "rec-eval(one)"))) =

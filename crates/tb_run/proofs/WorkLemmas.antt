@@ -99,7 +99,7 @@ module _ {X I O : Type 0} (seat : X → SeatView) (ended : X → WorkEnd) (work 
       go Steps (Reads lane' i') d e = absurd d
       go Steps (Writes lane' o') d e = absurd d
 
-  -- what gathering the workers of so many lanes needs, and the one that makes steps
+  -- what gathering the workers of so many lanes needs, and the stepper
   pub record CanGatherLanes (bus : TableId) (lanes : ℕ) (ys : List X) : Type 0 where
     pub buses : All (λ (x : X). (seat x).bus ≡ bus) ys
     pub count : length ys ≡ lanes + lanes + 1
@@ -132,7 +132,7 @@ module _ {X I O : Type 0} (seat : X → SeatView) (ended : X → WorkEnd) (work 
     pub lanes_same : ys ≡ xs → CanGatherLanes begun.bus lanes ys
     lanes_same e = subst (CanGatherLanes begun.bus lanes) (sym e) (record { buses = buses_new begun xs new_seats; count = so_many; inlets = inlets_there; outlets = outlets_there })
 
-  -- likewise, of a run, with the seats of the tick worker and of who writes the log
+  -- likewise, of a run, with the seats of the tick worker and of the job that writes the log
   pub record CanGather (bus : TableId) (ys : List X) (tick log : SeatView) : Type 0 where
     pub buses : All (λ (x : X). (seat x).bus ≡ bus) ys
     pub tick_bus : tick.bus ≡ bus

@@ -1,4 +1,4 @@
--- The seats that the first of a bus has handed on, from when each was new until it was given back, and what the seat has in which all have become one again.
+-- The seats that the first seat of a bus has passed on, from when each was new until it was given back, and the state of the seat in which all have become one again.
 use Rattle.std.proofs.Common.{◌≡◌, ◌+◌, ℕ, suc, List, [], ◌∷◌, ◌++◌, map, length, Bool, true, false, nat_lt, Option, None, MatchOption, if◌then◌else◌, refl, sym, ap, ◌∙◌, subst, arith}
 use Rattle.std.specs.Prelude.{⊤}
 use Rattle.std.specs.List.{fold}
@@ -17,7 +17,7 @@ use Rattle.tb_run.specs.Seats.{Adds, Marks, SeesTrace}
 use Rattle.tb_run.proofs.JoinLemmas.{AllKept, rights_of_all, room_of_all}
 use Rattle.tb_run.proofs.SeatLemmas.{adds_none}
 
--- a seat that was handed out by the first of a bus, and has not been used
+-- a seat that the first seat of a bus has passed on, and that has not been used
 pub record IsNew (first seat : SeatView) : Type 0 where
   pub bus : seat.bus ≡ first.bus
   pub origin : seat.origin ≡ first.origin
@@ -29,7 +29,7 @@ abbrev pub EachNew : SeatView → List SeatView → Type 0
 EachNew first [] = ⊤
 EachNew first (seat ∷ seats) = IsNew first seat × EachNew first seats
 
--- A seat that the first of a bus has handed on, when it was new and when it was given back; and why its worker ended, where it had one that tells.
+-- A seat that the first seat of a bus has passed on, when it was new and when it was given back; and why its worker ended, if it had one that reports.
 pub record Worked (first : SeatView) : Type 0 where
   pub begun : SeatView
   pub done : SeatView
@@ -70,7 +70,7 @@ pub new_append : (first : SeatView) (one other : List SeatView) → EachNew firs
 new_append first [] other a b = b
 new_append first (seat ∷ one) other a b = (a.0, new_append first one other a.1 b)
 
--- of those before and of those behind
+-- of those before and of those after
 pub seats_append : {first : SeatView} (one other : List (Worked first)) → seats_of (one ++ other) ≡ seats_of one ++ seats_of other
 seats_append [] other = refl
 seats_append (worked ∷ one) other = ap (λ (ss : List SeatView). worked.done ∷ ss) (seats_append one other)

@@ -1,4 +1,4 @@
--- What each of four workers may say of itself, worked out on the logs of two runs.
+-- What each of four workers may say of itself, computed on the logs of two runs.
 use Rattle.std.proofs.Common.{◌≡◌, ℕ, List, [], ◌∷◌, ◌++◌, inl, inr, refl, ap, sym, ◌∙◌, subst, arith, codes, false, true, Option, Some, None, Bool}
 use Rattle.tb_edge.specs.declared.given.Given.{Given}
 use Rattle.tb_edge.specs.declared.given.Taken.{Taken}
@@ -66,7 +66,7 @@ cut-adds rights more e = record {
 abbrev told_of : List Given → Bool → Option InletView
 told_of gives over = Some (record { gave = gives; over = over })
 
--- who reads the lane
+-- the reader of the lane
 abbrev Read : List Given → Bool → WorkEnd → Type 0
 Read gives over it = ReadsLane 1 (new_seat departing (reader_rights 1)) (departed (reader_rights 1)) (told_of [] false) (told_of gives over) it
 
@@ -104,7 +104,7 @@ last-is [] entry = refl
 last-is (one ∷ []) entry = refl
 last-is (one ∷ other ∷ front) entry = last-is (other ∷ front) entry
 
--- it says that the bus is down, and the last entry is no input of its lane
+-- it says that the bus has shut down, and the last entry is no input of its lane
 none-down : (gives : List Given) (over : Bool) → Read gives over end.Down → ⊥
 none-down gives over reads =
     let it : Input = reads.ends.0 in
@@ -116,7 +116,7 @@ none-down gives over reads =
 none-failed : (gives : List Given) (over : Bool) → Read gives over end.Failed → ⊥
 none-failed gives over reads = reads.ends
 
--- it says that the log was full or that there was no memory, and hasn't stopped the bus; or that it was stopped, and wasn't told so
+-- it says that the log was full or that there was no memory, and hasn't stopped the bus; or that the bus was stopped, though no call was answered `Stopped`
 none-full : (gives : List Given) (over : Bool) → Read gives over end.Full → ⊥
 none-full gives over reads = let e : ◌≡◌ {A = Bool} false true = reads.marks.0 in cc
 
@@ -130,7 +130,7 @@ none-stopped gives over reads = let e : ◌≡◌ {A = Bool} false true = reads.
 none-stops : ReadsLane 1 (new_seat departing (reader_rights 1)) (seat_of departing (reader_rights 1) departing_log true true) (told_of [] false) (told_of put_by_tool true) end.Over → ⊥
 none-stops reads = let e : ◌≡◌ {A = Bool} true false = reads.marks.0 in cc
 
--- who writes the lane
+-- the writer of the lane
 abbrev Write : List Taken → ℕ → WorkEnd → Type 0
 Write takes faults it = WritesLane 1 (new_seat cutting (writer_rights 1)) (cut_off (writer_rights 1)) (Some []) (Some takes) 0 faults it
 
@@ -158,7 +158,7 @@ written = record {
 none-over : (takes : List Taken) (faults : ℕ) → Write takes faults end.Over → ⊥
 none-over takes faults writes = writes.ends
 
--- who hands in ticks
+-- the ticker
 abbrev Tick : ℕ → Bool → ℕ → WorkEnd → Type 0
 Tick count ended faults it =
     TicksBus (λ n. n ≡ 5) 5 (new_seat departing ticker_rights) (departed ticker_rights) (Some (record { ticks = 0; ended = false })) (Some (record { ticks = count; ended = ended })) 0 faults it
@@ -214,7 +214,7 @@ none-unfailed count ended does = elim does.ends.1 [ inl less ↦ absurd (omega (
 none-hidden : (count : ℕ) (ended : Bool) → Tick count ended 1 end.Over → ⊥
 none-hidden count ended does = absurd (omega (arith, does.faults))
 
--- who makes steps
+-- the stepper
 stepped : StepsBus (new_seat departing stepper_rights) (departed stepper_rights) end.Down
 stepped = record {
   more = own stepper_rights departing_log;

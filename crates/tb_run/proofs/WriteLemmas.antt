@@ -1,4 +1,4 @@
--- What a writer comes to, item by item.
+-- The result of a writer, item by item.
 use Rattle.std.proofs.Common.{◌≡◌, ◌==◌, ◌≤◌, ◌<◌, ◌+◌, ◌^◌, ℕ, zero, suc, List, [], ◌∷◌, ◌++◌, map, Bool, true, false, not, ◌&&◌, Option, Some, None, Ok, MatchOption, if◌then◌else◌, refl, sym, ap, ◌∙◌, subst, inl, inr, ⊎_elim, append_assoc, append-nil, arith}
 use Rattle.std.specs.Prelude.{option_to_list, Result, Err, OnOk, OnErr}
 use Rattle.std.specs.List.{All}
@@ -86,7 +86,7 @@ counts_on a b c m n one two = record {
     go (inl p) (inr q) = inr q
     go (inr p) q = inr (let low = two.never_falls in let high = two.fits (omega arith) in omega arith)
 
--- one item: put, or handed out and cut off
+-- one item: written, or sent and cut off
 module _ (lane : ℕ) (out : Out) where
   pub sent_one : sent (Gave lane out ∷ []) lane ≡ out ∷ []
   sent_one = ap (λ (b : Bool). if b && true then out ∷ [] else []) (same_number lane)
@@ -179,7 +179,7 @@ takes_out seen_law added_law lane old new answer right c =
 pub called_same : (lane : ℕ) (old new : SeatView) (answer : TakeOut) → Called (IsTaken lane) (HandOut lane) old new (Ok answer) → SameMarks old new
 called_same lane old new answer c = same_marks (IsTaken lane) (HandOut lane) old new answer c
 
--- what was handed out is in shape, as all entries of a trace are
+-- what was sent is in shape, as all entries of a trace are
 abbrev pub ShapeLaw : Type 0
 ShapeLaw = (origin : Origin) (log : List Entry) → IsTrace (start origin) log → All InShape log
 
@@ -235,7 +235,7 @@ counts_less : (old new m n : ℕ) → m ≤ n → CountsTo old new n → CountsT
 counts_less old new m n low (inl c) = inl (omega arith)
 counts_less old new m n low (inr top) = inr top
 
--- an item that was handed out is put, or fails to be
+-- an item that was sent is written, or fails to be
 module _ (lane : ℕ) (out : Out) (old mid new : SeatView) (told_old told_new : Option (List Taken)) (faults_old faults_new : ℕ) (taken_out : Adds old mid (Gave lane out ∷ [])) (same : SameMarks old mid) where
   abbrev Answers : Option WorkEnd → Type 0
   Answers answer = MatchOption answer (Writes lane old new told_old told_new faults_old faults_new) (WritesLane lane old new told_old told_new faults_old faults_new)
@@ -250,7 +250,7 @@ module _ (lane : ℕ) (out : Out) (old mid new : SeatView) (told_old told_new : 
     marks = subst (SameMarks old) (sym p.same) same;
   })
 
-  -- the item is lost, and that wasn't handed in
+  -- the item is lost, and that wasn't reported
   lost : (it : WorkEnd) (answer : Option WorkEnd) → Fails lane mid new told_old told_new faults_old faults_new answer → Adds mid new [] → MayLack it 1 → Marks old new it → WriterEnds lane (out ∷ []) old new it → WritesLane lane old new told_old told_new faults_old faults_new it
   lost it answer f adds may marks ends = record {
     more = Gave lane out ∷ [];
@@ -287,7 +287,7 @@ module _ (lane : ℕ) (out : Out) (old mid new : SeatView) (told_old told_new : 
   writes_item answer (inl p) = puts_it answer p
   writes_item answer (inr f) = fails answer f f.cuts_off
 
--- what was put, or failed to be put and was cut off
+-- what was written, or failed to be written and was cut off
 pub puts_by : (lane : ℕ) (out : Out) (old new : SeatView) (took_old took_new : Option (List Taken)) (faults_old faults_new : ℕ) (put : Result (Unit {0}) SendFault) (answer : Option WorkEnd)
     → OnOk put (took_new ≡ and_taken took_old (taken_of out ∷ [])) → OnErr put (took_new ≡ took_old) → OnErr put (Rose faults_old faults_new) → faults_old ≤ faults_new → (faults_old < 2 ^ 64 → faults_new < 2 ^ 64)
     → OnOk put ((answer ≡ None) × (new ≡ old)) → OnErr put (CutsOff lane old new answer) → Puts lane out old new took_old took_new faults_old faults_new answer

@@ -12,7 +12,7 @@ use Rattle.tb_run.specs.declared.ends.LogEnd.TheVariants as end
 use Rattle.tb_write.specs.Writers.{WriterView}
 use Rattle.tb_run.specs.Seats.{Adds, Stops}
 
--- the job goes on: the entries from an index on were put
+-- the job goes on: the entries from an index on were written
 pub record LogsOn (old new : SeatView) (from to : WriterView) (put_old put_new : Option (List ℕ)) (faults_old faults_new : ℕ) : Type 0 where
   pub adds : Adds old new []
   pub most : ℕ
@@ -24,7 +24,7 @@ pub record LogsOn (old new : SeatView) (from to : WriterView) (put_old put_new :
   pub calm : faults_new ≡ faults_old
   pub called : new.called ≡ old.called
 
--- of the entries from an index on a part was put
+-- of the entries from an index on a part was written
 pub record PutsPart (old new : SeatView) (from : WriterView) (put_old put_new : Option (List ℕ)) : Type 0 where
   pub mid : List Entry
   pub more : List Entry
@@ -36,13 +36,13 @@ pub record PutsPart (old new : SeatView) (from : WriterView) (put_old put_new : 
   pub is : piece ≡ take most (drop from.written mid)
   pub prefix : WritesPrefix put_old put_new (log_text_from (from.written + 1) piece)
 
--- why the job ends, which has put so many entries before
+-- why the job ends, which has written so many entries before
 abbrev pub EndsLogging : SeatView → SeatView → WriterView → WriterView → Option (List ℕ) → Option (List ℕ) → ℕ → ℕ → LogEnd → Type 0
 EndsLogging old new from to put_old put_new faults_old faults_new end.Over = Adds old new [] × (to ≡ from) × (put_new ≡ put_old) × (faults_new ≡ faults_old) × (new.called ≡ old.called)
 EndsLogging old new from to put_old put_new faults_old faults_new end.Out = Stops old new × PutsPart old new from put_old put_new × Rose faults_old faults_new
 EndsLogging old new from to put_old put_new faults_old faults_new end.NoMemory = Stops old new × PutsPart old new from put_old put_new
 
--- what becomes of a piece of the log
+-- the effect of writing a piece of the log
 pub record PutsSome (old new : SeatView) (piece : List Entry) (from to : WriterView) (put_old put_new : Option (List ℕ)) (faults_old faults_new : ℕ) : Type 0 where
   pub same : new ≡ old
   pub so_many : to ≡ record { written = from.written + length piece; held = [] }
@@ -54,7 +54,7 @@ PutsLast old new piece from to put_old put_new faults_old faults_new end.Over = 
 PutsLast old new piece from to put_old put_new faults_old faults_new end.Out = Stops old new × WritesPrefix put_old put_new (log_text_from (from.written + 1) piece) × Rose faults_old faults_new
 PutsLast old new piece from to put_old put_new faults_old faults_new end.NoMemory = Stops old new × WritesPrefix put_old put_new (log_text_from (from.written + 1) piece)
 
--- so many entries of what the seat has seen were put, from the first on
+-- so many entries that the seat has seen were written, from the first on
 pub record Logged (old new : SeatView) (writer : WriterView) (put_old put_new : Option (List ℕ)) (faults_old faults_new : ℕ) : Type 0 where
   pub adds : Adds old new []
   pub written : List Entry
@@ -66,13 +66,13 @@ pub record Logged (old new : SeatView) (writer : WriterView) (put_old put_new : 
   pub calm : faults_new ≡ faults_old
   pub called : new.called ≡ old.called
 
--- what the whole job comes to
+-- the result of the whole job
 abbrev pub LogDone : SeatView → SeatView → WriterView → Option (List ℕ) → Option (List ℕ) → ℕ → ℕ → LogEnd → Type 0
 LogDone old new writer put_old put_new faults_old faults_new end.Over = Logged old new writer put_old put_new faults_old faults_new
 LogDone old new writer put_old put_new faults_old faults_new end.Out = Stops old new × WritesPrefix put_old put_new (log_text new.seen) × Rose faults_old faults_new
 LogDone old new writer put_old put_new faults_old faults_new end.NoMemory = Stops old new × WritesPrefix put_old put_new (log_text new.seen)
 
--- why the job ends where a piece wasn't put
+-- why the job ends if a piece wasn't written
 abbrev pub end_by : LogFault → LogEnd
 end_by fault.Out = end.Out
 end_by fault.NoMemory = end.NoMemory

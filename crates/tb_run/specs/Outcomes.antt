@@ -1,4 +1,4 @@
--- What a run has done once it ends: over the log of the core that it hands back, and what the outside gave and took in the call.
+-- What a run has done once it ends, by the log of the core that it returns, and by the items that the environment gave and took in the call.
 use Rattle.std.specs.Prelude.{◌≡◌, ◌≤◌, ◌⊎◌, ℕ, Bool, true, ◌||◌, List, [], ◌++◌, length, map, None, is_some, IsTrue, ⊤}
 use Rattle.std.specs.List.{list_all}
 use Rattle.tb_edge.specs.Faults.{Rose}
@@ -32,18 +32,18 @@ use Rattle.tb_run.specs.declared.ends.RunWhy.TheVariants.{Ended, Crew, Clock, Ou
 abbrev pub is_of : ℕ → Input → Bool
 is_of lane it = is_some (given_on lane it)
 
--- A lane after a run that went to its end: the log has just the lines and ends that the inlet gave, and the outlet took just what the log hands out and doesn't cut off.
+-- A lane after a run that went to its end: the log has exactly the lines and ends that the inlet gave, and the outlet took exactly the items that the log sends and doesn't cut off.
 pub record LaneRan (log : List Entry) (lane : ℕ) (old new : LaneView) : Type 0 where
   pub given : List Given
   pub over : Bool
   pub gave : new.gave ≡ and_given old.gave given over
   pub lines : AreLines lane given (inputs log lane)
-  -- it was read to the end, or the bus was down
+  -- it was read to the end, or the bus had shut down
   pub end : (over ≡ true) ⊎ HasDropped (is_of lane) log
   pub took : new.took ≡ and_taken old.took (map taken_of (sent log lane))
   pub cuts : CountsTo old.outlet_faults new.outlet_faults (cut_count lane log)
 
--- A lane after a run that was stopped: the log may lack the last item that the inlet gave, and the outlet the last that the log hands out, where that failed.
+-- A lane after a run that was stopped: the log may lack the last item of the inlet. The outlet may lack the last item that the log sends, if the outlet failed to take it.
 pub record LaneStopped (log : List Entry) (lane : ℕ) (old new : LaneView) : Type 0 where
   pub fed : List Given
   pub last : List Given
@@ -51,7 +51,7 @@ pub record LaneStopped (log : List Entry) (lane : ℕ) (old new : LaneView) : Ty
   pub gave : new.gave ≡ and_given old.gave (fed ++ last) over
   pub lines : AreLines lane fed (inputs log lane)
   pub one : length last ≤ 1
-  -- where it was read to the end, in the call or before, the log lacks nothing of it
+  -- if the inlet was read to the end, in the call or before, the log lacks nothing of it
   pub whole : (over || was_over old.gave) ≡ true → last ≡ []
   pub put : List Out
   pub lost : List Out
@@ -61,17 +61,17 @@ pub record LaneStopped (log : List Entry) (lane : ℕ) (old new : LaneView) : Ty
   pub failed : (lost ≡ []) ⊎ Rose old.outlet_faults new.outlet_faults
   pub cuts : CountsTo old.outlet_faults new.outlet_faults (cut_count lane log)
 
--- the bus is down, and nothing is left to be handed out
+-- the bus has shut down, and nothing is left in the queue
 pub record IsDone (bus : Bus) : Type 0 where
   pub down : bus.down ≡ true
   pub empty : (lane : ℕ) → IsLane lane → next_out lane bus.bench ≡ None
 
--- a trace of the origin, which says quiet once where nothing comes between
+-- a trace of the origin without two successive `quiet` entries
 pub record IsRunOf (origin : Origin) (log : List Entry) : Type 0 where
   pub trace : IsTrace (start origin) log
   pub sparse : IsSparse log
 
--- How a run ends, by its answer: the number of ticks that there may be, what was to be seen of the outside before and after, and the core that it hands back.
+-- How a run ends, by its answer: the limit of ticks, the view of the environment before and after, and the core that it returns.
 abbrev pub RunOutcome : ℕ → OutsideView → OutsideView → CoreState → RunWhy → Type 0
 -- to its end, and no failure of the clock is why its ticks ended
 RunOutcome most old new back Ended =
@@ -82,7 +82,7 @@ RunOutcome most old new back Clock =
     Writes old.put new.put (log_text back.log) × EachLane (LaneRan back.log) 1 old.lanes new.lanes
     × ClockRan back.log most old.clock new.clock (Rose old.clock_faults new.clock_faults) × IsDone (replay (start back.origin) back.log)
     × Rose old.clock_faults new.clock_faults
--- the log was full: a call was refused for that; and it has all entries that it may have, or it is so large that an entry might not fit
+-- the log was full, and a call was refused for that; the log has the greatest number of entries, or is so large that an entry might not fit
 RunOutcome most old new back Events =
     Writes old.put new.put (log_text back.log) × EachLane (LaneStopped back.log) 1 old.lanes new.lanes
     × ClockStopped back.log most old.clock new.clock (Rose old.clock_faults new.clock_faults) × IsAtLimit (largest_command back.origin) back.origin back.log
@@ -95,16 +95,16 @@ RunOutcome most old new back Sink =
 RunOutcome most old new back NoMemory =
     WritesPrefix old.put new.put (log_text back.log) × EachLane (LaneStopped back.log) 1 old.lanes new.lanes
     × ClockStopped back.log most old.clock new.clock (Rose old.clock_faults new.clock_faults)
--- there was no crew: nothing was logged, given, taken or put
+-- there was no crew: nothing was logged, given, taken or written
 RunOutcome most old new back Crew =
     (new.put ≡ old.put) × (new.lanes ≡ old.lanes) × (new.clock ≡ old.clock) × (back.log ≡ []) × Rose old.crew_faults new.crew_faults
 
--- What the counts of faults of the crew, the sink and the clock say of an answer. Of several reasons the first is told, in this order: memory, the crew, the
--- sink, the limit of the log, the clock. So the count of each that comes before the answer is as it was. Memory and the limit have no count: that the
--- limit hid nothing is said by the rest of the outcome.
+-- The counts of failures of the crew, the sink and the clock, by the answer. If several reasons apply, the first is reported, in this order: memory, the crew, the
+-- sink, the limit of the log, the clock. So the count of each that comes before the answer stays. Memory and the limit have no count: the rest of the outcome
+-- shows that the limit hid nothing.
 abbrev pub TellsFirst : OutsideView → OutsideView → RunWhy → Type 0
 TellsFirst old new NoMemory = ⊤
--- the counts of the sink and the clock are as they were too
+-- the counts of the sink and the clock stay too
 TellsFirst old new Crew = Rose old.crew_faults new.crew_faults × (new.out_faults ≡ old.out_faults) × (new.clock_faults ≡ old.clock_faults)
 TellsFirst old new Sink = (new.crew_faults ≡ old.crew_faults) × Rose old.out_faults new.out_faults
 TellsFirst old new Events = (new.crew_faults ≡ old.crew_faults) × (new.out_faults ≡ old.out_faults)
@@ -116,9 +116,9 @@ TellsFirst old new Ended = (new.crew_faults ≡ old.crew_faults) × (new.out_fau
 pub record Runs (most : ℕ) (old new : OutsideView) (origin : Origin) (back : CoreState) (it : RunWhy) : Type 0 where
   pub origin_is : back.origin ≡ origin
   pub history : IsRunOf back.origin back.log
-  -- its entries are proper: so it is the only log with its text
+  -- its entries are well-formed: so it is the only log with its text
   pub proper : IsTrue (list_all is_proper_entry back.log)
-  -- it has at most as many entries as it may have
+  -- it has no more entries than its limit
   pub within : length back.log ≤ back.origin.limit
   pub outcome : RunOutcome most old new back it
   pub first : TellsFirst old new it

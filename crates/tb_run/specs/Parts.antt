@@ -1,4 +1,4 @@
--- The rights of the workers, in the order of their jobs: the readers of the lanes, their writers, the one that makes steps; then the one that hands in ticks.
+-- The rights of the workers, in the order of their jobs: the readers of the lanes, their writers, the stepper; then the ticker.
 use Rattle.std.specs.Prelude.{ℕ, true, false, List, [], ◌∷◌, ◌++◌, map}
 use Rattle.std.specs.List.{fold}
 use Rattle.tb_lock.specs.declared.rights.Rights.{Rights}
@@ -23,6 +23,6 @@ to_tick = record { steps = false; ticks = true; ins = 0; outs = 0 }
 unfoldable pub job_rights : List Rights
 job_rights = map in_of bits ++ (map out_of bits ++ to_step ∷ [])
 
--- what is left once the workers have theirs
+-- the rest, once the workers have theirs
 abbrev pub rights_left : Rights
 rights_left = fold without all_rights job_rights

@@ -28,7 +28,7 @@ use Rattle.tb_run.specs.Workers.{bus_of}
 abbrev pub Fits : {I O : Type 0} → TableId → List SeatView → List (Work I O) → Type 0
 Fits bus seats works = AllZip (λ seat work. (seat.bus ≡ bus) × HasRight seat work) seats works
 
--- the log was put as far as the writer counts
+-- the log was written as far as the writer counts
 pub record IsPut (log : List Entry) (writer : WriterView) (put_old put_new : Option (List ℕ)) (faults_old faults_new : ℕ) : Type 0 where
   pub written : List Entry
   pub rest : List Entry
@@ -38,7 +38,7 @@ pub record IsPut (log : List Entry) (writer : WriterView) (put_old put_new : Opt
   pub put : Writes put_old put_new (log_text written)
   pub calm : faults_new ≡ faults_old
 
--- a prefix of the text was put
+-- a prefix of the text was written
 abbrev pub PutsPrefix : List Entry → OutsideView → OutsideView → Type 0
 PutsPrefix log old new = WritesPrefix old.put new.put (log_text log)
 
@@ -74,7 +74,7 @@ abbrev pub why_by : {J : Type 0} → CrewFault J → RunWhy
 why_by (fault.Failed jobs) = Crew
 why_by (fault.NoMemory jobs) = NoMemory
 
--- where the crew failed, its count rose
+-- if the crew failed, its count rose
 abbrev pub FailsFor : RunWhy → ℕ → ℕ → Type 0
 FailsFor Crew faults_old faults_new = Rose faults_old faults_new
 FailsFor NoMemory faults_old faults_new = ⊤
@@ -94,7 +94,7 @@ pub record HasCome (most : ℕ) (old new : OutsideView) (begun seat : SeatView) 
   -- once the seat has closed the bus
   pub first : (core : CoreState) → Closes seat core → TellsFirst old new it
 
--- what is left of a log may be put: as much was put as the writer counts
+-- the rest of a log may be written: as much was written as the writer counts
 abbrev pub GoesToRest : List Entry → WriterView → RunWhy → Type 0
 GoesToRest log writer Ended = (writer.held ≡ []) × (writer.written ≤ length log)
 GoesToRest log writer Clock = (writer.held ≡ []) × (writer.written ≤ length log)
@@ -103,18 +103,18 @@ GoesToRest log writer Sink = ⊤
 GoesToRest log writer NoMemory = ⊤
 GoesToRest log writer Crew = ⊤
 
--- the text of what is left of a log
+-- the text of the rest of a log
 abbrev pub rest_text : List Entry → WriterView → List ℕ
 rest_text log writer = log_text_from (writer.written + 1) (drop writer.written log)
 
--- it was put, or the sink failed, or memory ran out
+-- it was written, or the sink failed, or memory ran out
 abbrev pub PutsRest : List Entry → WriterView → RunWhy → RunWhy → Option (List ℕ) → Option (List ℕ) → ℕ → ℕ → Type 0
 PutsRest log writer why it put_old put_new faults_old faults_new =
     ((it ≡ why) × Writes put_old put_new (rest_text log writer) × (faults_new ≡ faults_old))
     ⊎ (((it ≡ Sink) × WritesPrefix put_old put_new (rest_text log writer) × Rose faults_old faults_new)
     ⊎ ((it ≡ NoMemory) × WritesPrefix put_old put_new (rest_text log writer)))
 
--- nothing is put where something failed before
+-- nothing is written if something failed before
 abbrev pub IsAfterRest : List Entry → WriterView → RunWhy → RunWhy → Option (List ℕ) → Option (List ℕ) → ℕ → ℕ → Type 0
 IsAfterRest log writer Ended it put_old put_new faults_old faults_new = PutsRest log writer Ended it put_old put_new faults_old faults_new
 IsAfterRest log writer Clock it put_old put_new faults_old faults_new = PutsRest log writer Clock it put_old put_new faults_old faults_new

@@ -1,4 +1,4 @@
--- How a seat of a run goes on, and what a worker that hands in an input comes to.
+-- How a seat of a run goes on, and the effect of an input that a worker delivers.
 use Rattle.std.specs.Prelude.{◌≡◌, true, false, List, [], ◌∷◌, ◌++◌, Option, Some, None}
 use Rattle.tb_log.specs.declared.entry.Input.{Input}
 use Rattle.tb_log.specs.declared.entry.Reply.{Reply}
@@ -19,12 +19,12 @@ use Rattle.tb_run.specs.declared.ends.WorkEnd.{WorkEnd}
 use Rattle.tb_run.specs.declared.ends.WorkEnd.TheVariants as end
 use Rattle.tb_run.specs.Dropping.{is_down}
 
--- what a seat has seen is a trace that says quiet once
+-- the entries that a seat has seen are a trace without two successive `quiet` entries
 pub record SeesTrace (seat : SeatView) : Type 0 where
   pub trace : IsTrace (start seat.origin) seat.seen
   pub sparse : IsSparse seat.seen
 
--- A seat goes on: the history has grown, and of the entries that need its rights these are new.
+-- A seat goes on: the history has grown, and these are the new entries that need its rights.
 pub record Adds (old new : SeatView) (more : List Entry) : Type 0 where
   pub bus : new.bus ≡ old.bus
   pub origin : new.origin ≡ old.origin
@@ -36,7 +36,7 @@ pub record Adds (old new : SeatView) (more : List Entry) : Type 0 where
   pub trace : SeesTrace old → SeesTrace new
   pub told : old.told ≡ true → new.told ≡ true
 
--- This call, which the seat may make, found no room in the log, at some place behind what the seat had seen before.
+-- The seat may make this call, and the log had no capacity for it, at some place after the part that the seat had seen before.
 pub record FoundFull (call : Call) (old new : SeatView) : Type 0 where
   pub core : CoreState
   pub may : MayCall call
@@ -58,12 +58,12 @@ pub record Stops (old new : SeatView) : Type 0 where
   pub called : new.called ≡ true
   pub told : new.told ≡ true
 
--- the marks of a seat stay: it hasn't called `stop`, and wasn't told that the bus was stopped
+-- the marks of a seat stay: whether it has called `stop`, and whether a call was answered `Stopped`
 abbrev pub SameMarks : SeatView → SeatView → Type 0
 SameMarks old new = (new.called ≡ old.called) × (new.told ≡ old.told)
 
--- What a worker's end says of the marks of its seat: it calls `stop` where it ends for want of room or of memory, and nowhere else,
--- and is told that the bus was stopped there and where it ends for that, and nowhere else.
+-- In its work, a worker calls `stop` if and only if it ends as `Full` or `NoMemory`. Its seat then has the mark that the bus was
+-- stopped. It also has this mark after the end `Stopped`. At any other end, the marks stay.
 abbrev pub Marks : SeatView → SeatView → WorkEnd → Type 0
 Marks old new end.Over = SameMarks old new
 Marks old new end.Down = SameMarks old new
@@ -72,17 +72,17 @@ Marks old new end.Full = (new.called ≡ true) × (new.told ≡ true)
 Marks old new end.Failed = SameMarks old new
 Marks old new end.NoMemory = (new.called ≡ true) × (new.told ≡ true)
 
--- what a worker that was refused a call comes to: it stops the bus, unless it was told that it was stopped
+-- the end of a worker after a refused call: it stops the bus, unless the answer was that the bus was stopped
 abbrev pub Ends : CoreFault → SeatView → SeatView → WorkEnd → Type 0
 Ends fault.Stopped old new it = (it ≡ end.Stopped) × (new ≡ old)
 Ends fault.Full old new it = (it ≡ end.Full) × Stops old new
 Ends fault.NoMemory old new it = (it ≡ end.NoMemory) × Stops old new
 
--- What becomes of an input that a worker hands in, and of the worker.
+-- The effect of an input that a worker delivers, on the log and on the worker.
 abbrev pub Hands : Input → SeatView → SeatView → Option WorkEnd → Type 0
--- it goes on, and the input wasn't dropped since the bus was down
+-- the worker goes on, and the input wasn't dropped because the bus had shut down
 Hands input old new None = (reply : Reply) × Adds old new (Fed input reply ∷ []) × SameMarks old new × (is_down reply ≡ false)
--- the bus is down, and dropped the input
+-- the bus has shut down, and dropped the input
 Hands input old new (Some end.Down) = Adds old new (Fed input (Dropped why.Down) ∷ []) × SameMarks old new × EndsWith new (Fed input (Dropped why.Down))
 -- it was refused
 Hands input old new (Some end.Stopped) = Adds old new [] × (new.called ≡ old.called) × (new.told ≡ true)

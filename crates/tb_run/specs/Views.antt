@@ -1,4 +1,4 @@
--- What is seen of the outside of a run, before the call and after it.
+-- What is seen of the environment of a run, before the call and after it.
 use Rattle.std.specs.Prelude.{◌≡◌, ◌+◌, ℕ, List, [], ◌∷◌, map, Option, Some, ◌⊎◌, ⊤}
 use Rattle.std.specs.declared.alloc.Global.{Global}
 use Rattle.std.specs.declared.dyn_box.DynBox.{DynBox}
@@ -11,14 +11,14 @@ use Rattle.tb_edge.specs.declared.clock.Clock.{Ghosts as ClockTells}
 use Rattle.tb_edge.specs.declared.crew.Crew.{Ghosts as CrewTells}
 use Rattle.tb_edge.specs.declared.sink.Sink.{Ghosts as SinkTells}
 
--- what a lane's ends show: what its inlet gave and how often it failed, what its outlet took and how often that failed
+-- the view of a lane's ends: the items that its inlet gave and its count of failures, the items that its outlet took and its count of failures
 pub record LaneView : Type 0 where
   pub gave : Option InletView
   pub inlet_faults : ℕ
   pub took : Option (List Taken)
   pub outlet_faults : ℕ
 
--- what is to be seen of a lane with these two ends
+-- the view of a lane with these two ends
 abbrev pub lane_view : {I O : Type 0} → (I → Option InletView) → (I → ℕ) → (O → Option (List Taken)) → (O → ℕ) → I → O → LaneView
 lane_view gave fails took faults inlet outlet = record { gave = gave inlet; inlet_faults = fails inlet; took = took outlet; outlet_faults = faults outlet }
 
@@ -28,7 +28,7 @@ views gave fails took faults [] outlets = []
 views gave fails took faults (inlet ∷ inlets) [] = []
 views gave fails took faults (inlet ∷ inlets) (outlet ∷ outlets) = lane_view gave fails took faults inlet outlet ∷ views gave fails took faults inlets outlets
 
--- what is to be seen of the outside, before the call or after it
+-- the view of the environment, before the call or after it
 pub record OutsideView : Type 0 where
   pub lanes : List LaneView
   pub clock : Option ClockView
@@ -40,13 +40,13 @@ pub record OutsideView : Type 0 where
 abbrev pub outside_of : List LaneView → Option ClockView → ℕ → ℕ → Option (List ℕ) → ℕ → OutsideView
 outside_of lanes clock clock_faults crew_faults put out_faults = record { lanes = lanes; clock = clock; clock_faults = clock_faults; crew_faults = crew_faults; put = put; out_faults = out_faults }
 
--- What is seen of a lane with two boxed ends, and of a clock, a crew and the sink of the log beside such lanes: each tells it by its trait.
+-- What is seen of a lane with two boxed ends, and of a clock, a crew and the sink of the log in addition to such lanes: each reports it through its trait.
 abbrev pub outside_seen : {X Y C P O : Type 0} {A : X → Type 0} {B : Y → Type 0} → InletTells (DynBox X Global A) → OutletTells (DynBox Y Global B) → ClockTells C → CrewTells P → SinkTells O →
     List (LanePair X Y A B) → C → P → O → OutsideView
 outside_seen inlet outlet clock crew sink lanes c p o =
     outside_of (map (λ pair. lane_view inlet.told inlet.faults outlet.told outlet.faults pair.inlet pair.outlet) lanes) (clock.told c) (clock.faults c) (crew.faults p) (sink.taken o) (sink.faults o)
 
--- the same where the ends of the lanes stand in two lists
+-- the same if the ends of the lanes are in two lists
 abbrev pub ends_seen : {I T C P O : Type 0} → InletTells I → OutletTells T → ClockTells C → CrewTells P → SinkTells O → List I → List T → C → P → O → OutsideView
 ends_seen inlet outlet clock crew sink inlets outlets c p o =
     outside_of (views inlet.told inlet.faults outlet.told outlet.faults inlets outlets) (clock.told c) (clock.faults c) (crew.faults p) (sink.taken o) (sink.faults o)
@@ -64,12 +64,12 @@ SomeLane P lane [] news = ⊥
 SomeLane P lane (old ∷ olds) [] = ⊥
 SomeLane P lane (old ∷ olds) (new ∷ news) = P lane old new ⊎ SomeLane P (lane + 1) olds news
 
--- each of these lanes tells what its inlet gave and what its outlet took
+-- each of these lanes reports the items that its inlet gave and its outlet took
 abbrev pub AllTell : List LaneView → Type 0
 AllTell [] = ⊤
 AllTell (lane ∷ lanes) = ((given : InletView) × (lane.gave ≡ Some given)) × ((taken : List Taken) × (lane.took ≡ Some taken)) × AllTell lanes
 
--- the lanes and the clock tell what they gave and took
+-- the lanes and the clock report what they gave and took
 pub record Tells (outside : OutsideView) : Type 0 where
   pub lanes : AllTell outside.lanes
   pub clock : (given : ClockView) × (outside.clock ≡ Some given)

@@ -1,4 +1,4 @@
--- What each of the four workers of a run has done once it ends, over what its seat has seen and what its end of the outside gave or took in the call.
+-- What each of the four workers of a run has done once it ends, by what its seat has seen, and by the items that its end of the environment gave or took in the call.
 use Rattle.std.specs.Prelude.{◌≡◌, ℕ, ◌+◌, ◌-◌, ◌≤◌, ◌<◌, ◌^◌, ◌⊎◌, Bool, true, false, List, [], ◌∷◌, ◌++◌, length, map, count_by, Option, Some, None}
 use Rattle.std.specs.List.{AllZip}
 use Rattle.tb_edge.specs.Faults.{Rose}
@@ -28,7 +28,7 @@ use Rattle.tb_run.specs.declared.ends.WorkEnd.TheVariants as end
 use Rattle.tb_run.specs.Dropping.{AreLetIn}
 use Rattle.tb_run.specs.Seats.{Adds, Marks, EndsWith, FoundFull}
 
--- the input that stands for what the inlet of a lane gave
+-- the input for an item of a lane's inlet
 abbrev pub IsInputFor : ℕ → Given → Input → Type 0
 IsInputFor lane (given.Line bytes) (input.Line at line) = (at ≡ lane) × IsToolLine bytes line
 IsInputFor lane given.Long (input.Line at line) = (at ≡ lane) × (line ≡ tool.Bad)
@@ -39,7 +39,7 @@ IsInputFor lane given it = ⊥
 abbrev pub AreLines : ℕ → List Given → List Input → Type 0
 AreLines lane given inputs = AllZip (IsInputFor lane) given inputs
 
--- what was got last, and not handed in: nothing where the worker came to the end of its work, one at most where it was stopped
+-- the items that were read last and not delivered: none if the worker came to the end of its work, one at most if it was stopped
 abbrev pub MayLack : WorkEnd → ℕ → Type 0
 MayLack end.Over count = count ≡ 0
 MayLack end.Down count = count ≡ 0
@@ -56,7 +56,7 @@ ends_over end.Full = false
 ends_over end.Failed = false
 ends_over end.NoMemory = false
 
--- of the entries of a worker none is an input that was dropped since the bus was down, but the last where it ends for that
+-- none of a worker's entries is an input that was dropped because the bus had shut down, except the last one if the worker ends for that
 abbrev pub LetIn : WorkEnd → List Entry → Type 0
 LetIn end.Over log = AreLetIn log
 LetIn end.Down log = (before : List Entry) × (last : Entry) × (log ≡ before ++ last ∷ []) × AreLetIn before
@@ -65,23 +65,23 @@ LetIn end.Full log = AreLetIn log
 LetIn end.Failed log = AreLetIn log
 LetIn end.NoMemory log = AreLetIn log
 
--- an inlet that tells that it is over
+-- an inlet that reports that it is over
 abbrev pub was_over : Option InletView → Bool
 was_over None = false
 was_over (Some view) = view.over
 
--- why a reader may end so, which may have got something last and not handed it in
+-- why a reader may end so, which may have read one last item without delivering it
 abbrev pub ReaderEnds : ℕ → List Given → SeatView → SeatView → WorkEnd → Type 0
 ReaderEnds lane last old new end.Over = Unit {0}
--- the last entry is an input of the lane that was dropped since the bus is down
+-- the last entry is an input of the lane that was dropped because the bus has shut down
 ReaderEnds lane last old new end.Down = (it : Input) × (given_on lane it ≡ Some it) × EndsWith new (Fed it (Dropped why.Down))
 ReaderEnds lane last old new end.Stopped = Unit {0}
--- what it got last is an input that found no room
+-- the log had no capacity for the item that was read last
 ReaderEnds lane last old new end.Full = (it : Given) × (found : Input) × (last ≡ it ∷ []) × IsInputFor lane it found × FoundFull (HandIn found) old new
 ReaderEnds lane last old new end.Failed = ⊥
 ReaderEnds lane last old new end.NoMemory = Unit {0}
 
--- `read_lane`: the inputs of the lane are what the inlet gave, but for the last item where it was stopped.
+-- `read_lane`: the inputs of the lane are the items of the inlet, except the last if the worker was stopped.
 pub record ReadsLane (lane : ℕ) (old new : SeatView) (gave_old gave_new : Option InletView) (it : WorkEnd) : Type 0 where
   pub more : List Entry
   pub adds : Adds old new more
@@ -96,7 +96,7 @@ pub record ReadsLane (lane : ℕ) (old new : SeatView) (gave_old gave_new : Opti
   pub marks : Marks old new it
   pub ends : ReaderEnds lane last old new it
 
--- so often a call failed at most, or the count stands at its last value
+-- at most so many calls failed, or the count is at its last value
 abbrev pub CountsTo : ℕ → ℕ → ℕ → Type 0
 CountsTo old new count = (old + count ≤ new) ⊎ (new ≡ 2 ^ 64 - 1)
 
@@ -106,7 +106,7 @@ is_cut lane Quiet = false
 is_cut lane (Fed it reply) = cuts lane it
 is_cut lane (Gave at out) = false
 
--- how often it was handed in that something couldn't be put
+-- how often the worker reported that an item couldn't be written
 abbrev pub cut_count : ℕ → List Entry → ℕ
 cut_count lane log = count_by (is_cut lane) log
 
@@ -123,15 +123,15 @@ bus_of seat = replay (start seat.origin) seat.seen
 -- why a writer may end so, whose outlet may have failed to take something last
 abbrev pub WriterEnds : ℕ → List Out → SeatView → SeatView → WorkEnd → Type 0
 WriterEnds lane last old new end.Over = ⊥
--- the bus is down, and nothing is left to be handed out
+-- the bus has shut down, and nothing is left in the queue
 WriterEnds lane last old new end.Down = (next_out lane (bus_of new).bench ≡ None) × ((bus_of new).down ≡ true)
 WriterEnds lane last old new end.Stopped = Unit {0}
--- what is to be handed out next found no room, or that the last failed to be taken
+-- the log had no capacity for the next queued item, or for the report that the last one failed to be taken
 WriterEnds lane last old new end.Full = ((last ≡ []) × FoundFull (HandOut lane) old new) ⊎ ((out : Out) × (last ≡ out ∷ []) × FoundFull (HandIn (input.Cut lane)) old new)
 WriterEnds lane last old new end.Failed = ⊥
 WriterEnds lane last old new end.NoMemory = Unit {0}
 
--- `write_lane`: the outlet took what was handed out and not cut off, but for the last where it was stopped.
+-- `write_lane`: the outlet took the items that were sent and not cut off, except the last if the worker was stopped.
 pub record WritesLane (lane : ℕ) (old new : SeatView) (took_old took_new : Option (List Taken)) (faults_old faults_new : ℕ) (it : WorkEnd) : Type 0 where
   pub more : List Entry
   pub adds : Adds old new more
@@ -141,19 +141,19 @@ pub record WritesLane (lane : ℕ) (old new : SeatView) (took_old took_new : Opt
   pub told : took_new ≡ and_taken took_old (map taken_of put)
   pub starts : is_cut_off more lane ≡ false
   pub lacks : MayLack it (length last)
-  -- what was not put, failed to be put
+  -- each item that was not written failed to be written
   pub rose : (last ≡ []) ⊎ Rose faults_old faults_new
   pub counts : Counts faults_old faults_new (cut_count lane more)
   pub marks : Marks old new it
   pub ends : WriterEnds lane last old new it
 
--- ticks alone, whatever became of them
+-- ticks alone, whatever their replies
 abbrev pub AreTicks : List Entry → Type 0
 AreTicks [] = Unit {0}
 AreTicks (Fed input.Tick reply ∷ log) = AreTicks log
 AreTicks (entry ∷ log) = ⊥
 
--- that no more ticks come, whatever became of it
+-- the notice that no more ticks come, whatever its reply
 abbrev pub IsNoTicks : List Entry → Type 0
 IsNoTicks tail = (reply : Reply) × (tail ≡ Fed input.NoTicks reply ∷ [])
 
@@ -165,24 +165,24 @@ pub record TickerCame : Type 0 where
   -- how often the clock had failed before and after
   pub faults_old : ℕ
   pub faults_new : ℕ
-  -- how many ticks were handed in
+  -- how many ticks were delivered
   pub count : ℕ
-  -- how many it got last and didn't hand in
+  -- how many were read last and not delivered
   pub last : ℕ
-  -- what stands after the ticks
+  -- the entries after the ticks
   pub tail : List Entry
   -- whether the clock has ended
   pub ended : Bool
 
--- why a tick worker may end so that came so far; `Enough` says which number of ticks is enough
+-- why a tick worker with this progress may end so; `Enough` says which number of ticks is enough
 abbrev pub TickerEnds : (ℕ → Type 0) → TickerCame → WorkEnd → Type 0
--- the clock has ended, or there were as many as there may be
+-- the clock has ended, or the limit of ticks is reached
 TickerEnds Enough came end.Over = IsNoTicks came.tail × ((came.ended ≡ true) ⊎ Enough came.count)
 -- the clock failed
 TickerEnds Enough came end.Failed = IsNoTicks came.tail × Rose came.faults_old came.faults_new
--- the last entry is a tick that was dropped since the bus is down
+-- the last entry is a tick that was dropped because the bus has shut down
 TickerEnds Enough came end.Down = (came.tail ≡ []) × EndsWith came.new (Fed input.Tick (Dropped why.Down))
--- a tick found no room, or the word that no more come, for one of its causes
+-- the log had no capacity for a tick, or for the notice that no more come, for one of its causes
 TickerEnds Enough came end.Full =
     (came.tail ≡ [])
     × (((came.last ≡ 1) × FoundFull (HandIn input.Tick) came.old came.new)
@@ -190,7 +190,7 @@ TickerEnds Enough came end.Full =
 TickerEnds Enough came end.Stopped = came.tail ≡ []
 TickerEnds Enough came end.NoMemory = came.tail ≡ []
 
--- A failure of the clock ends a tick worker as failed, unless it is refused the word that no more come: no call failed where it ends as over, or since the bus is down.
+-- After a failure of the clock, a tick worker ends as failed, unless the notice that no more come is refused. If it ends as over, or because the bus has shut down, no call of the clock failed.
 abbrev pub ClockFaults : ℕ → ℕ → WorkEnd → Type 0
 ClockFaults faults_old faults_new end.Over = faults_new ≡ faults_old
 ClockFaults faults_old faults_new end.Down = faults_new ≡ faults_old
@@ -199,7 +199,7 @@ ClockFaults faults_old faults_new end.Stopped = Unit {0}
 ClockFaults faults_old faults_new end.Full = Unit {0}
 ClockFaults faults_old faults_new end.NoMemory = Unit {0}
 
--- `tick_worker`: the ticks are those that the clock gave, but for the last where it was stopped; then perhaps that no more come.
+-- `tick_worker`: the ticks are those of the clock, except the last if the worker was stopped; then perhaps that no more come.
 pub record TicksBus (Enough : ℕ → Type 0) (most : ℕ) (old new : SeatView) (told_old told_new : Option ClockView) (faults_old faults_new : ℕ) (it : WorkEnd) : Type 0 where
   pub first : List Entry
   pub tail : List Entry
@@ -211,7 +211,7 @@ pub record TicksBus (Enough : ℕ → Type 0) (most : ℕ) (old new : SeatView) 
   pub told : told_new ≡ and_ticked told_old (length first + last) ended
   pub within : length first + last ≤ most
   pub lacks : MayLack it last
-  -- where the clock has ended, all that it gave was handed in
+  -- if the clock has ended, all its ticks were delivered
   pub whole : ended ≡ true → last ≡ 0
   -- a clock that had ended before gives nothing
   pub none : has_ended told_old → length first + last ≡ 0

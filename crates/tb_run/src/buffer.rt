@@ -5,7 +5,7 @@ use std::alloc::Global;
 use tb_lane::MOST_LINE_TEXT;
 use tb_terms::NoMemory;
 
-/// A buffer with room for the text of any line that is handed out.
+/// A buffer with capacity for the text of any line that is sent.
 #[derive(Drop)]
 pub struct Buffer {
     pub(crate) bytes: Vec<u8>,

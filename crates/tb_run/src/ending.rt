@@ -60,7 +60,7 @@ fn is_full_end(end: WorkEnd) -> bool
     matches!(end, WorkEnd::Full)
 }
 
-/// Returns whether one of the ends is for want of memory.
+/// Returns whether one of the ends is because memory ran out.
 pub fn any_no_memory(ends: &[WorkEnd]) -> bool
     ensures { result ≡ list_any is_no_memory ends.now }
 {
@@ -72,7 +72,7 @@ pub fn any_no_memory(ends: &[WorkEnd]) -> bool
     false
 }
 
-/// Returns whether one of the ends is for want of room in the log.
+/// Returns whether one of the ends is because the log was full.
 pub fn any_full(ends: &[WorkEnd]) -> bool
     ensures { result ≡ list_any is_full_end ends.now }
 {

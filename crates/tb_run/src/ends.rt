@@ -1,9 +1,9 @@
 /// Why a worker ended.
 #[derive(Clone, Copy, Debug, PartialEq, Eq)]
 pub enum WorkEnd {
-    /// Nothing more comes from outside.
+    /// The inlet or the clock gives no more.
     Over,
-    /// The bus is down.
+    /// The bus has shut down.
     Down,
     /// The bus was stopped.
     Stopped,
@@ -18,7 +18,7 @@ pub enum WorkEnd {
 /// Why a run ended.
 #[derive(Clone, Copy, Debug, PartialEq, Eq)]
 pub enum RunWhy {
-    /// The bus is down, and all was handed out.
+    /// The bus has shut down, and all queued items were sent.
     Ended,
     /// The crew failed.
     Crew,
@@ -32,7 +32,7 @@ pub enum RunWhy {
     NoMemory,
 }
 
-/// Why the job ended that writes the log.
+/// Why the job that writes the log ended.
 #[derive(Clone, Copy, Debug, PartialEq, Eq)]
 pub enum LogEnd {
     /// All workers have ended.

@@ -13,8 +13,8 @@ use tb_core::CoreFault;
 use tb_lock::{Seat, calls_add_their_own};
 use tb_log::{Input, Reply, Why};
 
-/// Hands an input in, and wakes those for whom it may leave something to do. Gives why the worker ends, if it ends: the bus is down,
-/// or the call was refused. A refused worker has stopped the bus, unless the bus was stopped before.
+/// Delivers an input, and wakes those for whom it may leave something to do. Returns why the worker ends, if it ends: the bus has shut
+/// down, or the call was refused. After a refused call, the worker has stopped the bus, unless the bus was stopped before.
 pub fn hand<W: Walker, R: Wait>(
     rt: &R,
     post: &Post<W>,
@@ -37,7 +37,7 @@ pub fn hand<W: Walker, R: Wait>(
     }
 }
 
-/// Whether a reply says that the bus is down.
+/// Whether a reply says that the bus has shut down.
 fn end_of(reply: Reply) -> Option<WorkEnd>
     ensures { result ≡ end_of reply }
 {
@@ -47,7 +47,7 @@ fn end_of(reply: Reply) -> Option<WorkEnd>
     }
 }
 
-/// Gives the end of a worker that was refused a call. It stops the bus, unless the bus was stopped before.
+/// Returns the end of a worker after a refused call. The worker stops the bus, unless the bus was stopped before.
 pub fn refused<W: Walker, R: Wait>(
     rt: &R,
     post: &Post<W>,

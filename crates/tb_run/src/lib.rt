@@ -1,4 +1,4 @@
-//! A run: the workers that share a bus, each between the bus and one end of the outside, and the run of all of them.
+//! A run: the workers that share a bus, each between the bus and one end of the environment, and the run of all of them.
 #![tactic(auto)]
 
 mod buffer;

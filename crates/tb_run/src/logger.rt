@@ -17,11 +17,11 @@ use tb_lock::{Seat, calls_add_their_own};
 use tb_log::Entry;
 use tb_write::{LogFault, LogWriter};
 
-/// How many entries are read in one turn.
+/// The number of entries that are read in one turn.
 const MOST: usize = 1_000;
 
-/// The caller's own job: the log is read by a seat without rights, and written. The writer's type is a parameter, so that
-/// contracts see what is left behind `out` once the job is taken apart.
+/// The caller's own job: a seat without rights reads the log, and the job writes it. The writer's type is a parameter, so that
+/// contracts see the state of `out` once the job is taken apart.
 #[derive(Drop)]
 pub struct LogJob<'a, W: Walker, O, L> {
     /// The bus whose log is written.
@@ -76,8 +76,8 @@ fn log_all<W: Walker, R: Wait, O: Sink>(
     unreachable!()
 }
 
-/// Writes some entries of the log, or waits where there are none; says why the job ends, where it does. All is
-/// written where no worker was left before nothing was found.
+/// Writes some entries of the log, or waits if there are none. Returns why the job ends, if it ends. The whole log is written if no
+/// worker was left before no entry was found.
 fn log_some<W: Walker, R: Wait, O: Sink>(
     rt: &R,
     post: &Post<W>,
@@ -114,7 +114,7 @@ fn log_some<W: Walker, R: Wait, O: Sink>(
     }
 }
 
-/// Waits for an entry, unless none comes any more.
+/// Waits for an entry, unless no more come.
 fn wait_for_more<W: Walker, R: Wait>(
     rt: &R,
     post: &Post<W>,
@@ -130,7 +130,7 @@ fn wait_for_more<W: Walker, R: Wait>(
     None
 }
 
-/// Puts what was read.
+/// Writes the entries that were read.
 fn put_some<W: Walker, R: Wait, O: Sink>(
     rt: &R,
     post: &Post<W>,
@@ -158,7 +158,7 @@ fn put_some<W: Walker, R: Wait, O: Sink>(
     }
 }
 
-/// Lets a time pass after a piece that has no further entry behind it.
+/// Waits for some time if no further entry follows a piece.
 fn gather<R: Wait>(rt: &R, bells: &Bells, piece: &[Entry]) {
     if piece.len() < MOST {
         bells.pause(rt);
@@ -174,7 +174,7 @@ fn end_of(fault: LogFault) -> LogEnd
     }
 }
 
-/// Puts the lines of the next entries.
+/// Writes the lines of the next entries.
 fn put_piece<O: Sink>(writer: &mut LogWriter, piece: &[Entry], out: &mut O) -> Result<(), LogFault>
     requires { writer.old.held ≡ [] }
     ensures ok { OnOk result (Writes (O.taken out.old) (O.taken out.new)

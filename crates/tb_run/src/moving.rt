@@ -9,7 +9,7 @@ use crate::worker::{Work, Worker};
 use tb_algebra::Walker;
 use tb_edge::{Inlet, LanePair, Outlet};
 
-/// Takes the ends out of the pairs. They come behind those that are there.
+/// Moves the ends out of the pairs, to the end of the lists.
 pub fn part_lanes(pairs: Vec<LanePair>, lanes: &mut Lanes<AnyInlet, AnyOutlet>)
     requires inlets { vec_len lanes.old.inlets + vec_len pairs ≤ vec_capacity lanes.old.inlets }
     requires outlets { vec_len lanes.old.outlets + vec_len pairs ≤ vec_capacity lanes.old.outlets }
@@ -25,7 +25,7 @@ pub fn part_lanes(pairs: Vec<LanePair>, lanes: &mut Lanes<AnyInlet, AnyOutlet>)
     }
 }
 
-/// Puts the ends together to pairs again. They come behind those that are there.
+/// Joins the ends to pairs again, at the end of the list.
 pub fn pair_lanes(lanes: Lanes<AnyInlet, AnyOutlet>, pairs: &mut Vec<LanePair>)
     requires room { vec_len pairs.old + vec_len lanes.inlets ≤ vec_capacity pairs.old }
     requires same { vec_len lanes.outlets ≡ vec_len lanes.inlets }
@@ -44,7 +44,7 @@ pub fn pair_lanes(lanes: Lanes<AnyInlet, AnyOutlet>, pairs: &mut Vec<LanePair>)
     }
 }
 
-/// Takes the seats, the ends of the lanes and why they ended out of the workers. All come behind what is there.
+/// Moves the seats, the ends of the lanes, and the reasons of their ends out of the workers, to the end of the lists.
 pub fn end_all<'a, W: Walker, I: Inlet, O: Outlet>(
     workers: Vec<Worker<'a, W, I, O>>,
     lanes: &mut Lanes<I, O>,
@@ -106,7 +106,7 @@ fn move_out<I: Inlet, O: Outlet>(work: Work<I, O>, lanes: &mut Lanes<I, O>)
     }
 }
 
-/// Makes the works of a bus over these lanes, which are numbered from `first` on: their readers, their writers, and the stepper.
+/// Makes the works of a bus over these lanes, whose numbers begin with `first`: their readers, their writers, and the stepper.
 pub fn works_of<I: Inlet, O: Outlet>(first: u8, lanes: Lanes<I, O>, works: &mut Vec<Work<I, O>>)
     requires inlets { first + vec_len lanes.inlets ≤ 17 }
     requires outlets { vec_len lanes.outlets ≡ vec_len lanes.inlets }

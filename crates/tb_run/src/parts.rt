@@ -1,4 +1,4 @@
-//! The rights that the first seat of a bus hands on.
+//! The rights that the first seat of a bus passes on.
 ghost use Rattle.std.specs.Prelude.{◌≡◌, [], ◌≤◌, vec_capacity};
 ghost use Rattle.tb_lock.specs.Rights.{no_rights};
 ghost use Rattle.tb_lock.specs.Seats.{first_seat, handed_on, kept_of};
@@ -9,7 +9,7 @@ use crate::seats::split_all;
 use tb_algebra::Walker;
 use tb_lock::{Rights, Seat, Shared};
 
-/// Hands on a seat to each worker, in the order of the jobs; then one to the tick worker, and one without rights to who
+/// Passes a seat to each worker, in the order of the jobs. Then passes one to the tick worker, and one without rights to the job that
 /// writes the log.
 pub(crate) fn hand_out<W: Walker>(
     shared: &Shared<W>,
@@ -74,7 +74,7 @@ fn job_rights() -> [Rights; 33]
     ]
 }
 
-/// The right to hand in what comes on the lane of this bit: 1 for lane 1, 2 for lane 2, 4 for lane 3, and so on.
+/// The right to deliver the input of the lane of this bit: 1 for lane 1, 2 for lane 2, 4 for lane 3, and so on.
 pub fn in_of(bit: u16) -> Rights
     ensures { result ≡ in_of bit }
 {
@@ -86,7 +86,7 @@ pub fn in_of(bit: u16) -> Rights
     }
 }
 
-/// The right to take out what is to be handed out on the lane of this bit.
+/// The right to take the queued items of the lane of this bit.
 pub fn out_of(bit: u16) -> Rights
     ensures { result ≡ out_of bit }
 {
@@ -110,7 +110,7 @@ pub fn to_step() -> Rights
     }
 }
 
-/// The right to hand in ticks.
+/// The right to deliver ticks.
 pub fn to_tick() -> Rights
     ensures { result ≡ to_tick }
 {

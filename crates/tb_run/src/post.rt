@@ -7,7 +7,7 @@ use tb_bells::{Bells, Sleeper};
 use tb_lock::Shared;
 use tb_log::{Input, Out};
 
-/// Holds what all workers of one bus share.
+/// Holds the parts that all workers of one bus share.
 #[derive(Drop)]
 pub struct Post<W: Walker> {
     /// The bus.
@@ -35,7 +35,7 @@ impl<W: Walker> Post<W> {
         }
     }
 
-    /// Counts one worker less, and wakes the job that writes the log.
+    /// Counts one worker fewer, and wakes the job that writes the log.
     pub fn count_down(&self) {
         self.left.fetch_sub(1, Ordering::SeqCst);
         self.bells.ring(Sleeper::Log);
@@ -47,7 +47,7 @@ impl<W: Walker> Post<W> {
     }
 
     /// Wakes those for whom the turn of an input may have left something: the job that writes the log, the stepper, and the writer of
-    /// the input's lane if something is to be handed out there. An input leaves nothing on another lane.
+    /// the input's lane if an item is queued there. An input leaves nothing on another lane.
     pub(crate) fn tell_input(&self, lane: Option<u8>) {
         self.bells.ring(Sleeper::Log);
         match lane {
@@ -57,8 +57,8 @@ impl<W: Walker> Post<W> {
         self.bells.ring(Sleeper::Stepper);
     }
 
-    /// Wakes those for whom steps may have left something: the job that writes the log, and the writer of each lane on which something
-    /// is to be handed out.
+    /// Wakes those for whom steps may have left something: the job that writes the log, and the writer of each lane on which an item is
+    /// queued.
     pub(crate) fn tell_steps(&self) {
         self.bells.ring(Sleeper::Log);
         for lane in 1..=16u8 {
@@ -66,8 +66,8 @@ impl<W: Walker> Post<W> {
         }
     }
 
-    /// Wakes those for whom there may be something after this was taken out: the job that writes the log, and after an end the stepper.
-    /// After an end the lane may be free, and a step may wait for just that.
+    /// Wakes those for whom there may be something after this item was taken: the job that writes the log, and after an end the stepper.
+    /// After an end the lane may be free, and a step may wait for exactly that.
     pub fn tell_taken(&self, out: &Out) {
         self.bells.ring(Sleeper::Log);
         match out {
@@ -84,7 +84,7 @@ impl<W: Walker> Post<W> {
     }
 }
 
-/// Returns the lane that an input is of. An input of the time is of none.
+/// Returns the lane of an input. An input of the time has no lane.
 pub(crate) fn lane_of(input: &Input) -> Option<u8> {
     match input {
         Input::Line(lane, _) | Input::Gone(lane) | Input::Cut(lane) => Some(*lane),

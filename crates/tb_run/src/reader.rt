@@ -14,7 +14,7 @@ use tb_lane::read_tool_line;
 use tb_lock::Seat;
 use tb_log::{Input, ToolLine};
 
-/// Hands in all that an inlet gives, until it is over or the bus is down. A failure of the inlet is the end of its tool.
+/// Delivers all items of an inlet, until the inlet is over or the bus has shut down. A failure of the inlet is the end of its tool.
 /// `line` is for the lines.
 pub fn read_lane<W: Walker, R: Wait, I: Inlet>(
     rt: &R,
@@ -38,7 +38,7 @@ pub fn read_lane<W: Walker, R: Wait, I: Inlet>(
     unreachable!()
 }
 
-/// Hands in what the inlet gives next, and says why the worker ends, where it does.
+/// Delivers the next item of the inlet, and returns why the worker ends, if it ends.
 fn read_one<W: Walker, R: Wait, I: Inlet>(
     rt: &R,
     post: &Post<W>,

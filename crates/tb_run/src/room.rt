@@ -1,4 +1,4 @@
-//! The memory of a run, which is taken before the first seat is handed on: a seat that is lost can't be closed.
+//! The memory of a run. It is taken before the first seat is passed on, because a lost seat can't be closed.
 ghost use Rattle.std.specs.Prelude.{◌≡◌, ◌≤◌, ◌+◌, [], IfOk, vec_len, vec_capacity};
 
 use crate::buffer::Buffer;
@@ -10,7 +10,7 @@ use tb_edge::LanePair;
 use tb_lock::Seat;
 use tb_terms::NoMemory;
 
-/// What workers that have ended leave, beside the ends of their lanes.
+/// The rest of workers that have ended, apart from the ends of their lanes.
 #[derive(Drop)]
 pub struct Ended {
     /// Their seats.
@@ -19,20 +19,20 @@ pub struct Ended {
     pub ends: Vec<WorkEnd>,
 }
 
-/// What the workers of some lanes, a reader and a writer for each, and the stepper of their bus take memory for.
+/// The memory for the workers of some lanes (a reader and a writer for each) and for the stepper of their bus.
 #[derive(Drop)]
 pub struct Room<I, O> {
-    /// How many lanes there is room for.
+    /// The number of lanes with capacity.
     pub count: usize,
-    /// For all that the workers work on.
+    /// For the works of all workers.
     pub works: Vec<Work<I, O>>,
-    /// For the seats that they begin with.
+    /// For the seats of the workers.
     pub seats: Vec<Seat>,
     /// One for each worker.
     pub buffers: Vec<Buffer>,
-    /// For the ends of the lanes once they come back.
+    /// For the ends of the lanes after the run.
     pub lanes: Lanes<I, O>,
-    /// For what the workers leave. Two further seats have room there.
+    /// For the rest of the workers, with capacity for two further seats.
     pub ended: Ended,
     ghost for_works: { (works.items ≡ []) × (count + count + 1 ≤ vec_capacity works) },
     ghost for_seats: { (seats.items ≡ []) × (count + count + 1 ≤ vec_capacity seats) },
@@ -77,12 +77,12 @@ fn make_buffers(alloc: Global, count: usize) -> Result<Vec<Buffer>, NoMemory>
     Ok(buffers)
 }
 
-/// What is taken memory for to take lanes apart, and to put them together again.
+/// The memory to take lanes apart, and to join them again.
 #[derive(Drop)]
 pub struct Boxes {
-    /// How many lanes there is room for.
+    /// The number of lanes with capacity.
     pub count: usize,
-    /// For the lanes once they are put together.
+    /// For the joined lanes.
     pub pairs: Vec<LanePair>,
     /// For the ends of the lanes.
     pub lanes: Lanes<AnyInlet, AnyOutlet>,

@@ -1,4 +1,4 @@
-//! The run of a bus: all its workers, and the log that is written meanwhile.
+//! The run of a bus: all its workers, and the log that is written at the same time.
 ghost use Rattle.std.specs.Prelude.{◌≡◌, ◌≤◌, ◌+◌, ◌∷◌, [], map, drop, length, vec_len, vec_capacity, false, IfSome, OnOk, OnErr, IsErrOf, IsTrue};
 ghost use Rattle.std.specs.List.{All, list_all};
 ghost use Rattle.tb_edge.specs.Faults.{Rose};
@@ -27,7 +27,7 @@ use tb_lock::{Seat, Shared};
 use tb_log::{Log, show_proper_log};
 use tb_write::{LogFault, LogWriter};
 
-/// Runs a bus over the two ends of sixteen lanes, which it hands back.
+/// Runs a bus over the two ends of sixteen lanes, which it returns.
 fn run_ends<
     W: Walker + Send,
     R: Threads + Wait + Sync,
@@ -117,7 +117,7 @@ where
     (why, core)
 }
 
-/// Writes what is left of a log, where nothing failed before. A log has proper entries alone.
+/// Writes the rest of a log, if nothing failed before. All entries of a log are well-formed.
 fn put_rest<S: Sink>(log: &Log, why: RunWhy, writer: LogWriter, out: &mut S) -> RunWhy
     requires held { GoesToRest log.now.entries writer why }
     ensures rest { IsAfterRest log.now.entries writer why result (S.taken out.old)
@@ -135,7 +135,7 @@ fn put_rest<S: Sink>(log: &Log, why: RunWhy, writer: LogWriter, out: &mut S) -> 
     }
 }
 
-/// Writes what stands in a log behind what was written.
+/// Writes the part of a log after the entries that were written.
 fn put_behind<S: Sink>(log: &Log, writer: LogWriter, out: &mut S) -> Result<(), LogFault>
     requires held { writer.held ≡ [] }
     requires within { writer.written ≤ length log.now.entries }
@@ -151,10 +151,10 @@ fn put_behind<S: Sink>(log: &Log, writer: LogWriter, out: &mut S) -> Result<(), 
     writer.put_behind_and_flush(log, written, out)
 }
 
-/// Runs a bus to its end: sixteen readers, sixteen writers, who makes steps and who hands in the ticks, `ticks` of them at
-/// most, each in a thread of its own, while this thread writes the log to `out`. A worker that finds the log full or no
-/// memory stops the bus, and so does this thread where the sink fails or it finds no memory. The core comes back with all
-/// that was logged, and the lanes in their order.
+/// Runs a bus to its end: sixteen readers, sixteen writers, a stepper, and a ticker, each in its own thread, while this thread writes
+/// the log to `out`. The ticker delivers at most `ticks` ticks. A worker that finds the log full or no memory stops the bus. This
+/// thread stops the bus if the sink fails or it finds no memory. The core comes back with the whole log, and the lanes in their
+/// order.
 pub fn run<W: Walker + Send, R: Threads + Wait + Sync, C: Clock + Send, P: Crew, S: Sink>(
     rt: &R,
     alloc: Global,

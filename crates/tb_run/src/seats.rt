@@ -6,7 +6,7 @@ ghost use Rattle.tb_run.specs.Parting.{CanPart, parted, left_after};
 use tb_algebra::Walker;
 use tb_lock::{Rights, Seat, Shared};
 
-/// Joins all seats to one, in order. Each is of the same bus.
+/// Joins all seats to one, in order. All are seats of the same bus.
 pub fn join_all<W: Walker>(shared: &Shared<W>, seat: &mut Seat, others: Vec<Seat>)
     requires own { seat.old.bus ≡ shared.now }
     requires others { All (λ it. it.bus ≡ shared.now) others.items }
@@ -17,7 +17,7 @@ pub fn join_all<W: Walker>(shared: &Shared<W>, seat: &mut Seat, others: Vec<Seat
     }
 }
 
-/// Hands on these rights to a new seat each, in order. The new seats come behind those that are there.
+/// Passes each of these rights to a new seat, in order. The new seats are added at the end of the list.
 pub fn split_all<W: Walker>(
     shared: &Shared<W>,
     seat: &mut Seat,

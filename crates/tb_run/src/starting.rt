@@ -1,4 +1,4 @@
-//! The workers are made.
+//! Making the workers.
 ghost use Rattle.std.specs.Prelude.{◌≡◌, ◌≤◌, ◌+◌, [], map, vec_len, vec_capacity};
 ghost use Rattle.std.specs.List.{All};
 ghost use Rattle.tb_run.specs.Jobs.{IsReady};
@@ -12,7 +12,7 @@ use tb_algebra::Walker;
 use tb_edge::{Inlet, Outlet};
 use tb_lock::Seat;
 
-/// Makes a worker of each work, with the seat at the same place and a buffer.
+/// Makes a worker for each work, with the seat at the same place and a buffer.
 pub fn begin_all<'a, W: Walker, I: Inlet, O: Outlet>(
     post: &'a Post<W>,
     seats: Vec<Seat>,

@@ -15,10 +15,10 @@ use tb_bells::Sleeper;
 use tb_core::{CoreFault, Stepped};
 use tb_lock::{Seat, calls_add_their_own};
 
-/// The largest number of turns that the stepper takes before it tells the others.
+/// The largest number of turns that the stepper takes before it wakes the others.
 const BURST: u32 = 8;
 
-/// Makes steps until the bus is down. Where there is none it waits until something comes.
+/// Makes steps until the bus has shut down. If no step is possible, it waits until something comes.
 pub fn step_worker<W: Walker, R: Wait>(rt: &R, post: &Post<W>, seat: &mut Seat) -> WorkEnd
     requires own { seat.old.bus ≡ post.now.shared }
     requires right { has seat.old.rights ToStep ≡ true }
@@ -34,7 +34,7 @@ pub fn step_worker<W: Walker, R: Wait>(rt: &R, post: &Post<W>, seat: &mut Seat) 
     unreachable!()
 }
 
-/// Makes some steps, and waits where there is no further one; says why the worker ends, where it does.
+/// Makes some steps, and waits if no further step is possible. Returns why the worker ends, if it ends.
 fn step_some<W: Walker, R: Wait>(
     rt: &R,
     post: &Post<W>,

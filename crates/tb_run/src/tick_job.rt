@@ -6,16 +6,16 @@ use tb_algebra::Walker;
 use tb_edge::{Clock, Job};
 use tb_lock::Seat;
 
-/// The tick worker. Its clock is lent, so it is no job of the list, but lent itself.
+/// The tick worker. Its clock is lent. So the worker isn't a job of the list, but is lent itself.
 #[derive(Drop)]
 pub struct TickJob<'a, W: Walker, C> {
-    /// The bus that gets the ticks.
+    /// The bus that receives the ticks.
     pub post: &'a Post<W>,
-    /// Has the right to hand in ticks.
+    /// Has the right to deliver ticks.
     pub seat: Seat,
     /// Gives the ticks.
     pub clock: &'a mut C,
-    /// How many ticks there may be at most.
+    /// The greatest number of ticks.
     pub ticks: u64,
     /// Why the worker ended, once it has.
     pub end: WorkEnd,

@@ -13,7 +13,7 @@ use tb_edge::{Beat, Clock};
 use tb_lock::Seat;
 use tb_log::Input;
 
-/// Hands in the ticks of a clock, `ticks` of them at most, and then that no more come.
+/// Delivers the ticks of a clock, at most `ticks` of them, and then reports that no more come.
 pub fn tick_worker<W: Walker, R: Wait, C: Clock>(
     rt: &R,
     post: &Post<W>,
@@ -35,7 +35,7 @@ pub fn tick_worker<W: Walker, R: Wait, C: Clock>(
     no_more(rt, post, seat, WorkEnd::Over)
 }
 
-/// Hands in the next tick, or that no more come; says why the worker ends, where it does.
+/// Delivers the next tick, or reports that no more come. Returns why the worker ends, if it ends.
 fn tick_one<W: Walker, R: Wait, C: Clock>(
     rt: &R,
     post: &Post<W>,
@@ -55,7 +55,7 @@ fn tick_one<W: Walker, R: Wait, C: Clock>(
     }
 }
 
-/// Hands in that no more ticks come.
+/// Reports that no more ticks come.
 fn no_more<W: Walker, R: Wait>(rt: &R, post: &Post<W>, seat: &mut Seat, end: WorkEnd) -> WorkEnd
     requires own { seat.old.bus ≡ post.now.shared }
     requires right { has seat.old.rights ToTick ≡ true }

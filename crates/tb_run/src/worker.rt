@@ -11,14 +11,14 @@ use tb_algebra::Walker;
 use tb_edge::{Inlet, Job, Outlet};
 use tb_lock::Seat;
 
-/// What a worker works on.
+/// The work of a worker.
 #[derive(Drop)]
 pub enum Work<I, O> {
-    /// What the inlet of a lane gives is handed in.
+    /// Delivering the items of a lane's inlet.
     Reads(u8, I),
-    /// What is handed out on a lane is put to its outlet.
+    /// Writing the items that are sent on a lane to its outlet.
     Writes(u8, O),
-    /// Steps are made.
+    /// Making steps.
     Steps,
 }
 
@@ -29,7 +29,7 @@ pub struct Worker<'a, W: Walker, I, O> {
     pub post: &'a Post<W>,
     /// Has the right for the work.
     pub seat: Seat,
-    /// Where lines are written before they go to an outlet.
+    /// Holds the text of a line before it goes to an outlet.
     pub buffer: Buffer,
     /// The work.
     pub work: Work<I, O>,

@@ -1,4 +1,4 @@
-//! All workers beside each other, from the first seat of a bus until their seats are one again.
+//! All workers at work concurrently, from the first seat of a bus until their seats are one again.
 ghost use Rattle.std.specs.Prelude.{◌≡◌, ◌≤◌, ◌++◌, [], ◌∷◌, List, map, length, vec_len, vec_capacity, None, Some, MatchOption, IfOk, IfErr, OnOk, true, ◌+◌};
 ghost use Rattle.std.specs.List.{All};
 ghost use Rattle.tb_edge.specs.Faults.{Rose};
@@ -45,7 +45,7 @@ struct Team<'a, W: Walker, I, O> {
     log_seat: Seat,
 }
 
-/// The workers after their work, and what the two others came to. Where there was no crew, `failed` says why.
+/// The workers after their work, and the results of the two others. If there was no crew, `failed` says why.
 #[derive(Drop)]
 struct Back<'a, W: Walker, I, O> {
     failed: Option<RunWhy>,
@@ -57,7 +57,7 @@ struct Back<'a, W: Walker, I, O> {
     writer: LogWriter,
 }
 
-/// Lets all work beside each other, and gives why they ended, and who has written the log.
+/// Lets all work concurrently, and returns why they ended, and the job that has written the log.
 pub(crate) fn run_workers<
     'a,
     W: Walker + Send,
@@ -124,7 +124,7 @@ fn why_of(failed: Option<RunWhy>, tick_end: WorkEnd, ends: &[WorkEnd], log_end: 
     }
 }
 
-/// Hands the seats on, and makes the workers.
+/// Passes the seats on, and makes the workers.
 fn begin<'a, W: Walker, I: Inlet, O: Outlet>(
     post: &'a Post<W>,
     seat: &mut Seat,
@@ -170,7 +170,7 @@ fn begin<'a, W: Walker, I: Inlet, O: Outlet>(
     (team, ended)
 }
 
-/// Lets all work beside each other.
+/// Lets all work concurrently.
 fn work<
     'a,
     W: Walker + Send,
@@ -209,7 +209,7 @@ where
         × (result.tick_seat ≡ team.entry.tick_seat) × (result.log_seat ≡ team.entry.log_seat)
         × (C.told clock.new ≡ C.told clock.old) × (S.taken out.new ≡ S.taken out.old)) }
 
-    // A crew that does the jobs hasn't failed; and where there was none, neither has anything else.
+    // A crew that does the jobs hasn't failed. If there was no crew, nothing else has failed either.
     ensures calm { MatchOption result.failed
         (P.faults crew.new ≡ P.faults crew.old)
         (λ why. (C.faults clock.new ≡ C.faults clock.old) × (S.faults out.new ≡ S.faults out.old)) }
@@ -247,8 +247,8 @@ where
     }
 }
 
-/// The crew does the jobs of all workers beside each other, that of the ticker and the log's among them. The two that were
-/// lent keep their clock and their sink.
+/// Lets the crew do the jobs of all workers concurrently, with those of the ticker and of the log's writer. These two are lent, and
+/// keep their clock and their sink.
 fn beside<
     'a,
     'b,
@@ -296,7 +296,7 @@ where
     crew.beside(rt, workers, ticker, logger)
 }
 
-/// The seat of the tick worker after its work, and why it ended. Its clock is left as it is.
+/// Returns the seat of the tick worker after its work, and why it ended. Its clock stays as it is.
 fn end_ticks<'b, W: Walker, C: Clock>(job: TickJob<'b, W, C>) -> (Seat, WorkEnd)
     ensures seat { result.0 ≡ job.entry.seat }
     ensures end { result.1 ≡ job.entry.end }
@@ -306,7 +306,7 @@ fn end_ticks<'b, W: Walker, C: Clock>(job: TickJob<'b, W, C>) -> (Seat, WorkEnd)
     (seat, end)
 }
 
-/// The seat of who has written the log, with the writer, and why it ended. Its sink is left as it is.
+/// Returns the seat of the job that has written the log, with the writer, and why it ended. Its sink stays as it is.
 fn end_log<'b, W: Walker, S: Sink, L: Drop>(job: LogJob<'b, W, S, L>) -> (Seat, L, LogEnd)
     ensures seat { result.0 ≡ job.entry.seat }
     ensures writer { result.1 ≡ job.entry.writer }
@@ -322,7 +322,7 @@ fn end_log<'b, W: Walker, S: Sink, L: Drop>(job: LogJob<'b, W, S, L>) -> (Seat, 
     (seat, writer, end)
 }
 
-/// Takes the jobs back, and why there was no crew, where there was none.
+/// Takes the jobs back, and the reason if there was no crew.
 pub fn taken_back<J: Drop>(answer: Result<Vec<J>, CrewFault<J>>) -> (Option<RunWhy>, Vec<J>)
     ensures ok { IfOk answer (λ jobs. (result.0 ≡ None) × (result.1.items ≡ jobs.items)) }
     ensures err { IfErr answer
@@ -335,7 +335,7 @@ pub fn taken_back<J: Drop>(answer: Result<Vec<J>, CrewFault<J>>) -> (Option<RunW
     }
 }
 
-/// Puts the seats of two further jobs to those of the workers that come.
+/// Puts the seats of two further jobs before those of the workers that follow.
 pub fn with_others(ended: Ended, one: Seat, other: Seat) -> Ended
     requires none { ended.seats.items ≡ [] }
     requires room { 2 ≤ vec_capacity ended.seats }
@@ -349,8 +349,8 @@ pub fn with_others(ended: Ended, one: Seat, other: Seat) -> Ended
     ended
 }
 
-/// Takes the ends of the lanes out of the workers, and makes all seats one again: first those that are there, then those of the
-/// workers. Gives why the workers ended, in their order.
+/// Moves the ends of the lanes out of the workers, and joins all seats to one again: first those in the list, then those of the
+/// workers. Returns why the workers ended, in their order.
 pub fn gather<'a, W: Walker, I: Inlet, O: Outlet>(
     shared: &Shared<W>,
     seat: &mut Seat,

@@ -18,8 +18,8 @@ use tb_lane::{SendFault, send_out};
 use tb_lock::{Seat, calls_add_their_own};
 use tb_log::Input;
 
-/// Puts all that is handed out on a lane to its outlet, until the bus is down and nothing is left; then it closes the
-/// outlet. What the outlet fails to take is handed in as cut off before the next is taken.
+/// Writes all items that are sent on a lane to its outlet, until the bus has shut down and nothing is left. Then it closes the outlet.
+/// If the outlet fails to take an item, the worker reports the item as cut off before it takes the next.
 pub fn write_lane<W: Walker, R: Wait, O: Outlet>(
     rt: &R,
     post: &Post<W>,
@@ -68,8 +68,8 @@ fn write_all<W: Walker, R: Wait, O: Outlet>(
     unreachable!()
 }
 
-/// Sleeps while there is nothing for the one that takes what is handed out on a lane, from 1 to 16. `heard` is the count of rings that it
-/// was told last, 0 at first: a ring that comes after that isn't slept past. That there is something is a hint.
+/// Sleeps while nothing is there for the writer of a lane from 1 to 16. `heard` is the last known count of rings, 0 at first: the
+/// sleep doesn't miss a ring that comes after that. Whether something is there is a hint.
 pub fn wait_for_call<W: Walker, R: Wait>(rt: &R, post: &Post<W>, lane: u8, heard: &mut u64) {
     for _ in rt.forever() {
         if post.shared.calls_for(lane) {
@@ -79,7 +79,7 @@ pub fn wait_for_call<W: Walker, R: Wait>(rt: &R, post: &Post<W>, lane: u8, heard
     }
 }
 
-/// Puts what is to be handed out next, where anything is; says why the worker ends, where it does.
+/// Writes the next queued item, if there is one. Returns why the worker ends, if it ends.
 fn write_one<W: Walker, R: Wait, O: Outlet>(
     rt: &R,
     post: &Post<W>,
@@ -113,7 +113,7 @@ fn write_one<W: Walker, R: Wait, O: Outlet>(
     }
 }
 
-/// Hands in that what was taken out failed to be put, if it did.
+/// Reports that a taken item failed to be written, if it did.
 fn cut_off<W: Walker, R: Wait>(
     rt: &R,
     post: &Post<W>,
@@ -133,7 +133,7 @@ fn cut_off<W: Walker, R: Wait>(
     }
 }
 
-/// A writer goes on where the bus is down, until nothing is left to be put.
+/// After the bus has shut down, a writer goes on until nothing is left in its queue.
 fn going_on(end: Option<WorkEnd>) -> Option<WorkEnd>
     ensures { result ≡ going_on end }
 {

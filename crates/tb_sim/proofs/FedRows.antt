@@ -67,7 +67,7 @@ pub delta_fed : IsSim (limits_of 1000000 stuck) (sim_start (start stuck) (Tick �
 delta_fed =
     subst (λ (term : Process). IsSim (limits_of 1000000 stuck) (fed_of (bus_at stuck.program (at 1 0 term ∷ []) 0 0 false) [] 0 (Tick ∷ [])) stuck_log Down) (sym fresh-one) stuck-fed
 
--- it ends where the log has no room for the tick
+-- it ends where the log has no capacity for the tick
 abbrev short : Origin
 short = record { program = stuck.program; connects = []; limit = 1 }
 
@@ -108,7 +108,7 @@ two_waits = record { program = record { bodies = waiting ∷ []; roots = root 0 
 fresh-waiting : fresh (tree.Par (tree.At 1) (tree.At 2)) ≡ Par (At 1 0) (At 2 0)
 fresh-waiting = search (rules, tree_lemmas)
 
--- where the one process stands when so many ticks have come
+-- the state of the one process after so many ticks
 abbrev waits_at : Process → ℕ → ℕ → Bus
 waits_at term last now = bus_at two_waits.program (at 1 0 term ∷ []) last now false
 

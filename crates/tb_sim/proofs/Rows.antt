@@ -52,7 +52,7 @@ plain a = record { act = a; times = [] }
 abbrev pub root : ℕ → Root
 root process = record { process = process; actuals = [] }
 
--- it stands at this term, and has no variables
+-- it is at this term, and has no variables
 abbrev pub at : ℕ → ℕ → Process → Proc
 at number body term = record { number = number; body = body; term = term; store = []; inbox = nothing }
 
@@ -77,7 +77,7 @@ sim_of bus log made = record { bus = bus; log = log; steps_made = made; quiet = 
 abbrev pub quiet_of : Bus → List Entry → ℕ → Sim
 quiet_of bus log made = record { bus = bus; log = log; steps_made = made; quiet = true; left = [] }
 
--- one whose bus went down
+-- one whose bus shut down
 abbrev pub down_of : Bus → List Entry → ℕ → Sim
 down_of bus log made = record { bus = record bus { down = true }; log = log; steps_made = made; quiet = false; left = [] }
 
@@ -207,7 +207,7 @@ forever-starts limits log end h = subst (λ (term : Process). IsSim limits (sim_
 abbrev pub five_taus : List Entry
 five_taus = tau_of 1 1 ∷ tau_of 1 1 ∷ tau_of 1 1 ∷ tau_of 1 1 ∷ tau_of 1 1 ∷ []
 
--- it ends where the log has no room for another entry
+-- it ends where the log has no capacity for another entry
 pub five_entries : IsSim (limits_of 1000000 forever) (sim_start (start forever) []) five_taus Events
 unfolding steps moves moves_of_all moves_of handshakes handshakes_with advance
 five_entries = forever-starts (limits_of 1000000 forever) five_taus Events (_, refl, (_, refl, (_, refl, (_, refl, (_, refl, refl)))))
@@ -327,7 +327,7 @@ hello-runs = (
   (down_of (bus_of hello.program [] 1 false) (shake 1 1 (words (codes "hello")) ∷ finish ∷ []) 2, simp word-size, refl),
 )
 
--- one process hands its terms to the other, and no process is left
+-- one process sends its terms to the other, and no process is left
 pub hello_once : IsSim (limits_of 1000000 hello) (sim_start (start hello) []) (shake 1 1 (words (codes "hello")) ∷ finish ∷ []) Down
 hello_once =
     subst (λ (term : Process). IsSim (limits_of 1000000 hello) (sim_of (bus_of hello.program (at 1 0 term ∷ at 2 1 term ∷ []) 0 false) [] 0) (shake 1 1 (words (codes "hello")) ∷ finish ∷ []) Down)

@@ -34,7 +34,7 @@ room-turns : (limits : Limits) (sim : Sim) (entry : Entry) (next : Sim) (room : 
 room-turns limits sim entry next true e = inr (entry, record next { log = sim.log ++ entry ∷ [] }, refl, fewer limits sim entry e)
 room-turns limits sim entry next false e = inl (end.Events, refl)
 
--- an entry is made where the log has room for it
+-- an entry is made where the log has capacity for it
 makes-turns : (limits : Limits) (sim : Sim) (entry : Entry) (next : Sim) → Turns limits sim (makes limits sim entry next)
 makes-turns limits sim entry next = room-turns limits sim entry next (has_room limits.entries sim.log entry) refl
 

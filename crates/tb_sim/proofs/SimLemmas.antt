@@ -46,14 +46,14 @@ stays-same old new same = let spare : new.spare ≡ old.spare = ap (λ (c : Core
   spare = omega arith;
 }
 
--- the simulation stands where it stood
+-- the state of the simulation remains unchanged
 stays-sim : (feed : List Input) (old new : CoreState) (so_far : Progress) → Stays old new → sim_of feed new so_far ≡ sim_of feed old so_far
 unfolding sim_of bus_now
 stays-sim feed old new so_far stays =
     ap (λ (o : Origin). let s : Sim = record { bus = replay (start o) new.log; log = new.log; steps_made = so_far.steps; quiet = ends_quiet new.log; left = drop so_far.inputs feed } in s) stays.origin
     ∙ ap (λ (log : List Entry). let s : Sim = record { bus = replay (start old.origin) log; log = log; steps_made = so_far.steps; quiet = ends_quiet log; left = drop so_far.inputs feed } in s) stays.log
 
--- what a step logs: the first of the steps, that nothing is possible, or nothing on a bus that is down
+-- what a step logs: the first of the steps, that nothing is possible, or nothing on a bus that has shut down
 did-by : (down quiet : Bool) (step : Step) (rest : List Step) → down ≡ false → step_entry down quiet (step ∷ rest) ≡ Some (Did step.label)
 did-by true quiet step rest e = cc
 did-by false true step rest e = refl
@@ -78,7 +78,7 @@ would-quiet core e f said =
 would-logs : (old new : CoreState) (o : Option Entry) (entry : Entry) → o ≡ Some entry → Logs old new (option_to_list o) → Logs old new (entry ∷ [])
 would-logs old new o entry e l = subst (Logs old new) (ap (λ (x : Option Entry). option_to_list x) e) l
 
--- the log had room for it, or it had none
+-- the log had capacity for it, or it had none
 would-room : (core : CoreState) (o : Option Entry) (entry : Entry) → o ≡ Some entry → lacks_room core o ≡ false → has_room core.origin.limit core.log entry ≡ true
 would-room core o entry e r = not-false (has_room core.origin.limit core.log entry) (sym (ap (λ (x : Option Entry). lacks_room core x) e) ∙ r)
 
@@ -89,7 +89,7 @@ down-by : (down quiet : Bool) (ss : List Step) → down ≡ true → option_to_l
 down-by true quiet ss e = refl
 down-by false quiet ss e = cc
 
--- a step on a bus that is down changed nothing
+-- a step on a bus that has shut down changed nothing
 pub down-nothing : (old new : CoreState) → (bus_now old).down ≡ true → Logs old new (entries_of old MakeStep) → Stays old new
 down-nothing old new e l = logs-nothing old new (subst (Logs old new) (down-by (bus_now old).down (ends_quiet old.log) (steps (bus_now old)) e) l)
 
@@ -188,7 +188,7 @@ left-fewer old new origin longer =
     let within = longer.within in
     omega (arith, limit, more, within)
 
--- One go: what was next on a lane was handed out.
+-- One iteration: the next item of a lane was sent.
 handed-on : (most : ℕ) (feed : List Input) (so_far : Progress) (old new : CoreState) (lane : ℕ) (out : Out) → IsWithin most feed so_far → first_out (bus_now old).bench ≡ Some lane → next_out lane (bus_now old).bench ≡ Some out →
     Logs old new (Gave lane out ∷ []) → has_room old.origin.limit old.log (Gave lane out) ≡ true → Goes most feed old so_far new (turned.On so_far)
 unfolding sim_of
@@ -214,7 +214,7 @@ handed-on most feed so_far old new lane out within first next l room =
       logs-longer old new (Gave lane out) l room,
     )
 
--- or the log had no room for it
+-- or the log had no capacity for it
 handed-full : (most : ℕ) (feed : List Input) (so_far : Progress) (old : CoreState) (lane : ℕ) (out : Out) → first_out (bus_now old).bench ≡ Some lane → next_out lane (bus_now old).bench ≡ Some out →
     has_room old.origin.limit old.log (Gave lane out) ≡ false → turn (limits_of most old.origin) (sim_of feed old so_far) ≡ Ends end.Events
 unfolding sim_of
@@ -288,12 +288,12 @@ led-said most feed so_far old mid idle said found logs room =
       logs-longer old mid Quiet l has,
     )
 
--- What comes next from outside is this input: the turn that hands it in leaves the rest of the feed.
+-- The next input is this one: the turn that delivers it leaves the rest of the feed.
 abbrev IsNextTurn : ℕ → List Input → CoreState → Progress → Input → Progress → Type 0
 IsNextTurn most feed mid so_far input next =
     outside_turn (limits_of most mid.origin) (sim_of feed mid so_far) (drop so_far.inputs feed) ≡ input_turn (limits_of most mid.origin) (sim_of feed mid so_far) input (drop next.inputs feed)
 
--- then the input was handed in
+-- then the input was delivered
 led-fed : (most : ℕ) (feed : List Input) (so_far next : Progress) (mid new : CoreState) (input : Input) → IsNextTurn most feed mid so_far input next → next.steps ≡ so_far.steps →
     IsIdle (bus_now mid) → ends_quiet mid.log ≡ true → steps (bus_now mid) ≡ [] → (bus_now mid).down ≡ false → Logs mid new (entries_of mid (HandIn input)) → is_full mid (HandIn input) ≡ false →
     LedOn most feed mid so_far new next × (ends_quiet new.log ≡ false) × IsLonger mid new
@@ -321,7 +321,7 @@ led-fed most feed so_far next mid new input is same idle quiet e f l room =
       logs-longer mid new entry l has,
     )
 
--- or the log had no room for it
+-- or the log had no capacity for it
 fed-full : (most : ℕ) (feed : List Input) (so_far next : Progress) (mid : CoreState) (input : Input) → IsNextTurn most feed mid so_far input next →
     IsIdle (bus_now mid) → ends_quiet mid.log ≡ true → steps (bus_now mid) ≡ [] → (bus_now mid).down ≡ false → is_full mid (HandIn input) ≡ true → turn (limits_of most mid.origin) (sim_of feed mid so_far) ≡ Ends end.Events
 unfolding sim_of
@@ -362,7 +362,7 @@ drop-at [] (suc i) input e = absurd cc
 drop-at (x ∷ feed) zero input e = let same : x ≡ input = cc in (feed, ap (λ (y : Input). y ∷ feed) same)
 drop-at (x ∷ feed) (suc i) input e = drop-at feed i input e
 
--- what is left of a feed behind the input that comes next
+-- what is left of a feed after the input that comes next
 drop-next : (feed : List Input) (i : ℕ) (input : Input) (left : List Input) → drop i feed ≡ input ∷ left → (drop (i + 1) feed ≡ left) × (i < length feed)
 drop-next [] zero input left e = cc
 drop-next [] (suc i) input left e = cc
@@ -403,7 +403,7 @@ pub goes-down : (most : ℕ) (feed : List Input) (so_far : Progress) (old new : 
 unfolding sim_of
 goes-down most feed so_far old new idle e logs = goes-end most feed so_far old new end.Down (down-nothing old new e logs) (turn-down (limits_of most old.origin) (sim_of feed old so_far) idle e)
 
--- where the log has no room for what the step would log
+-- where the log has no capacity for what the step would log
 full-up : (most : ℕ) (feed : List Input) (so_far : Progress) (core : CoreState) (at : Bool) (ss : List Step) → IsIdle (bus_now core) → ends_quiet core.log ≡ false → so_far.steps ≤ most → at ≡ (so_far.steps == most && has_any (steps (bus_now core))) → at ≡ false →
     steps (bus_now core) ≡ ss → (bus_now core).down ≡ false → is_full core MakeStep ≡ true → turn (limits_of most core.origin) (sim_of feed core so_far) ≡ Ends end.Events
 unfolding sim_of
@@ -444,7 +444,7 @@ left-after most feed so_far old mid new p stays = record {
 pub left-quiet : (most : ℕ) (feed : List Input) (so_far : Progress) (old mid new : CoreState) → IsIdle (bus_now old) → ends_quiet old.log ≡ false → IsStep old stepped.Quiet → Logs old mid (entries_of old MakeStep) → is_full old MakeStep ≡ false → Stays mid new → LeftWithin most feed old so_far new
 left-quiet most feed so_far old mid new idle said found logs room stays = left-after most feed so_far old mid new (led-said most feed so_far old mid idle said found logs room).0 stays
 
--- One go: what was next on a lane was handed out, or the log had no room for it.
+-- One iteration: the next item of a lane was sent, or the log had no capacity for it.
 hands-by : (most : ℕ) (feed : List Input) (so_far : Progress) (old new : CoreState) (lane : ℕ) (found : Option Out) → IsWithin most feed so_far → first_out (bus_now old).bench ≡ Some lane → next_out lane (bus_now old).bench ≡ found → IsSome found →
     (t : Turned) → HandsOut lane so_far old new t → Goes most feed old so_far new t
 hands-by most feed so_far old new lane None within first next some t h = absurd (let same : false ≡ true = some in cc)

@@ -66,7 +66,7 @@ up-leads : (limits : Limits) (sim : Sim) (down : Bool) → sim.bus.down ≡ down
 up-leads limits sim true d forms entry next e = absurd cc
 up-leads limits sim false d forms entry next e = steps-lead limits sim (steps sim.bus) refl d forms entry next e
 
--- what is handed out first is what comes next on a lane that is there
+-- the item that is sent first is the next one of an existing lane
 pub record IsHanding (bench : BenchState) (handing : Handing) : Type 0 where
   pub lane : IsLane handing.lane
   pub next : next_out handing.lane bench ≡ Some handing.out

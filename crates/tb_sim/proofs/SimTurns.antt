@@ -1,4 +1,4 @@
--- What a turn of a simulation does: on a bus that is down, at the limit of steps, where a step is possible, and where none is.
+-- What a turn of a simulation does: on a bus that has shut down, at the limit of steps, if a step is possible, and if none is.
 use Rattle.std.proofs.Common.{◌≡◌, ℕ, ◌+◌, ◌<◌, ◌≤◌, List, [], ◌∷◌, ◌++◌, map, refl, ap, sym, ◌∙◌, Bool, true, false, nat_le, if◌then◌else◌, Option, Some, None, option_map, option_and_then}
 use Rattle.std.proofs.lemmas.Bool.{le-leb, lt-leb, cond-true, cond-false}
 use Rattle.tb_bus.specs.Buses.{Bus}
@@ -21,7 +21,7 @@ pub steps-up : (bus : Bus) (step : Step) (rest : List Step) → steps bus ≡ st
 unfolding steps moves
 steps-up bus step rest e = up-by bus bus.down (moves_while_up bus bus.procs) step rest e
 
--- nothing is to be handed out
+-- nothing is queued for sending
 abbrev pub IsIdle : Bus → Type 0
 IsIdle bus = first_out bus.bench ≡ None
 
@@ -34,13 +34,13 @@ handing-is : (limits : Limits) (sim : Sim) (lane : ℕ) (out : Out) → next_out
 handing-is limits sim lane out e =
     ap (λ (found : Option Out). turn_by limits sim (option_map (λ (x : Out). let h : Handing = record { lane = lane; out = x } in h) found)) e
 
--- what is next on the lowest lane is handed out
+-- the next item of the lowest lane is sent
 pub turn-hands : (limits : Limits) (sim : Sim) (lane : ℕ) (out : Out) → first_out sim.bus.bench ≡ Some lane → next_out lane sim.bus.bench ≡ Some out →
     turn limits sim ≡ makes limits sim (Gave lane out) (record sim { bus = taken_out lane sim.bus; quiet = false })
 turn-hands limits sim lane out first next =
     ap (λ (found : Option ℕ). turn_by limits sim (option_and_then (handing_on sim.bus.bench) found)) first ∙ handing-is limits sim lane out next
 
--- a turn of a bus that is down ends the simulation
+-- a turn of a bus that has shut down ends the simulation
 pub turn-down : (limits : Limits) (sim : Sim) → IsIdle sim.bus → sim.bus.down ≡ true → turn limits sim ≡ Ends end.Down
 turn-down limits sim idle e = turn-idle limits sim idle ∙ cond-true sim.bus.down (Ends end.Down) (step_turn limits sim (steps sim.bus)) e
 
@@ -55,7 +55,7 @@ turn-first limits sim step rest idle e = turn-up limits sim idle (steps-up sim.b
 abbrev pub made_turn : Limits → Sim → Step → Turn
 made_turn limits sim step = makes limits sim (Did step.label) (record sim { bus = step.bus; steps_made = sim.steps_made + 1; quiet = false })
 
--- where the log has room, the entry is made, and else it ends
+-- if the log has capacity, the entry is made, and else it ends
 pub makes-room : (limits : Limits) (sim : Sim) (entry : Entry) (next : Sim) → has_room limits.entries sim.log entry ≡ true → makes limits sim entry next ≡ Makes entry (record next { log = sim.log ++ entry ∷ [] })
 makes-room limits sim entry next e = cond-true (has_room limits.entries sim.log entry) (Makes entry (record next { log = sim.log ++ entry ∷ [] })) (Ends end.Events) e
 
@@ -72,7 +72,7 @@ pub turn-made : (limits : Limits) (sim : Sim) (step : Step) (rest : List Step) �
 turn-made limits sim step rest idle less e =
     turn-first limits sim step rest idle e ∙ cond-false (nat_le limits.steps sim.steps_made) (Ends end.Steps) (made_turn limits sim step) (lt-leb limits.steps sim.steps_made less)
 
--- where no step is possible it says quiet, and then hands in what comes next from outside
+-- if no step is possible it logs `quiet`, and then delivers the next input
 pub turn-quiet : (limits : Limits) (sim : Sim) → IsIdle sim.bus → steps sim.bus ≡ [] → sim.bus.down ≡ false → turn limits sim ≡ quiet_turn limits sim
 turn-quiet limits sim idle e f = turn-up limits sim idle f ∙ ap (step_turn limits sim) e
 

@@ -1,4 +1,4 @@
--- The simulation of a bus and a feed, turn after turn: what is handed out first, then the first of the steps, then quiet and the next input; its limits, and how it ends.
+-- The simulation of a bus and a feed, turn after turn: first the queued items are sent, then the first step is made, then `quiet` and the next input are logged. Also its limits, and how it ends.
 use Rattle.std.specs.Prelude.{◌≡◌, ℕ, ◌+◌, nat_le, List, [], ◌∷◌, ◌++◌, Bool, true, false, if◌then◌else◌, Option, Some, None, option_map, option_and_then, ⊤}
 use Rattle.tb_bus.specs.declared.origin.Origin.{Origin}
 use Rattle.tb_bus.specs.Buses.{Bus}
@@ -15,16 +15,16 @@ use Rattle.tb_log.specs.declared.entry.Entry.TheVariants.{Did, Quiet, Fed, Gave}
 use Rattle.tb_sim.specs.declared.ends.SimEnd.{SimEnd}
 use Rattle.tb_sim.specs.declared.ends.SimEnd.TheVariants.{Down, Steps, Events}
 
--- how many steps a simulation may make, and how many entries its log may have
+-- the greatest number of steps of a simulation, and the greatest number of entries of its log
 pub record Limits : Type 0 where
   pub steps : ℕ
   pub entries : ℕ
 
--- the limits of a core's simulation: its origin says how many entries its log may have
+-- the limits of a core's simulation: its origin has the greatest number of entries
 abbrev pub limits_of : ℕ → Origin → Limits
 limits_of steps origin = record { steps = steps; entries = origin.limit }
 
--- where a simulation stands: its bus, its log, how many steps it has made, whether it has just said quiet, and what is left of its feed
+-- the state of a simulation: its bus, its log, the number of its steps, whether its last entry is `quiet`, and the rest of its feed
 pub record Sim : Type 0 where
   pub bus : Bus
   pub log : List Entry
@@ -37,28 +37,28 @@ pub data Turn : Type 0 where
   Ends : SimEnd → Turn
   Makes : Entry → Sim → Turn
 
--- it logs an entry and goes on, where the log has room for it; else it ends
+-- it logs an entry and goes on if the log has capacity for it; if not, it ends
 abbrev pub makes : Limits → Sim → Entry → Sim → Turn
 makes limits sim entry next = if has_room limits.entries sim.log entry then Makes entry (record next { log = sim.log ++ entry ∷ [] }) else Ends Events
 
--- it hands in an input, and this is left of the feed then
+-- it delivers an input, and this is the rest of the feed then
 abbrev pub input_turn : Limits → Sim → Input → List Input → Turn
 input_turn limits sim input left =
     makes limits sim (Fed input (fed sim.bus input).reply) (record sim { bus = (fed sim.bus input).bus; quiet = false; left = left })
 
--- it hands in the first that is left of the feed, or that no more ticks come where nothing is
+-- it delivers the first input of the rest of the feed; if there is none, it reports that no more ticks come
 abbrev pub outside_turn : Limits → Sim → List Input → Turn
 outside_turn limits sim [] = input_turn limits sim NoTicks []
 outside_turn limits sim (input ∷ left) = input_turn limits sim input left
 
--- where no step is possible, it says quiet, and then hands in what comes next from outside
+-- if no step is possible, it logs `quiet`, and then delivers the next input
 abbrev pub quiet_turn : Limits → Sim → Turn
 quiet_turn limits sim =
     if sim.quiet
     then outside_turn limits sim sim.left
     else makes limits sim Quiet (record sim { quiet = true })
 
--- where a step is possible, it ends where the limit of steps is reached, and else makes the first
+-- if a step is possible, it ends if the limit of steps is reached, and makes the first step if not
 abbrev pub step_turn : Limits → Sim → List Step → Turn
 step_turn limits sim [] = quiet_turn limits sim
 step_turn limits sim (step ∷ rest) =
@@ -66,11 +66,11 @@ step_turn limits sim (step ∷ rest) =
     then Ends Steps
     else makes limits sim (Did step.label) (record sim { bus = step.bus; steps_made = sim.steps_made + 1; quiet = false })
 
--- a bus that is down ends it
+-- a bus that has shut down ends it
 abbrev pub up_turn : Limits → Sim → Turn
 up_turn limits sim = if sim.bus.down then Ends Down else step_turn limits sim (steps sim.bus)
 
--- what is handed out on a lane
+-- the item that is sent on a lane
 pub record Handing : Type 0 where
   pub lane : ℕ
   pub out : Out
@@ -78,11 +78,11 @@ pub record Handing : Type 0 where
 abbrev pub handing_on : BenchState → ℕ → Option Handing
 handing_on bench lane = option_map (λ out. record { lane = lane; out = out }) (next_out lane bench)
 
--- what is to be handed out first: what comes next on the lowest lane that has something
+-- the item that is sent first: the next one of the lowest lane with a queued item
 abbrev pub first_handing : BenchState → Option Handing
 first_handing bench = option_and_then (handing_on bench) (first_out bench)
 
--- it hands that out; where nothing is to be handed out, it goes on
+-- it sends that item; if nothing is queued, it goes on
 abbrev pub turn_by : Limits → Sim → Option Handing → Turn
 turn_by limits sim None = up_turn limits sim
 turn_by limits sim (Some handing) =

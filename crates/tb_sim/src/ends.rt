@@ -1,25 +1,25 @@
 /// How a simulation ended.
 #[derive(Clone, Copy, Debug, PartialEq, Eq)]
 pub enum SimEnd {
-    /// The bus went down.
+    /// The bus shut down.
     Down,
     /// The limit of steps was reached, and another step was possible.
     Steps,
-    /// The log had no room for the next entry.
+    /// The log had no capacity for the next entry.
     Events,
 }
 
-/// How far a simulation has come: how many steps it has made, and how many inputs of its feed it has handed in.
+/// The progress of a simulation: the number of its steps, and the number of delivered inputs of its feed.
 #[derive(Clone, Copy)]
 pub struct Progress {
     pub steps: u64,
     pub inputs: usize,
 }
 
-/// What one go of a simulation did.
+/// The result of one iteration of a simulation.
 #[derive(Clone, Copy)]
 pub enum Turned {
-    /// It has come so far.
+    /// The simulation goes on, with this progress.
     On(Progress),
     End(SimEnd),
 }

@@ -10,8 +10,8 @@ ghost use Rattle.tb_sim.specs.Simulation.{IsSim, IsSimPrefix, Limits, sim_start}
 
 use crate::ends::SimEnd;
 
-/// What a simulation logs is a trace, at each of its turns and at its end, where the bus has 16 lanes and the inputs of its
-/// feed are in shape.
+/// If the bus has 16 lanes and the inputs of its feed are in shape, the log of a simulation is a trace, at each of its turns and at
+/// its end.
 pub fn simulations_log_traces()
     ensures on_the_way { (limits : Limits) (bus : Bus) (feed : List Input) (log : List Entry)
         → HasLanes bus.bench → All IsInputInShape feed
@@ -28,13 +28,13 @@ pub fn one_simulation()
         → IsSim limits (sim_start bus feed) other last → (log ≡ other) × (end ≡ last) }
 {}
 
-/// Each bus has a simulation, whatever the feed and the limits.
+/// Each bus has a simulation, for each feed and all limits.
 pub fn each_bus_has_a_simulation()
     ensures { (limits : Limits) (bus : Bus) (feed : List Input)
         → (log : List Entry) × ((end : SimEnd) × IsSim limits (sim_start bus feed) log end) }
 {}
 
-/// What a simulation logs on its way is a prefix of its log, and nothing else is.
+/// The logs that a simulation has on its way are the prefixes of its log, and no others.
 pub fn prefixes_have_an_end()
     ensures ends { (limits : Limits) (bus : Bus) (feed : List Input) (log : List Entry)
         → IsSimPrefix limits (sim_start bus feed) log

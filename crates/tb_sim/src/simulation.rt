@@ -14,7 +14,7 @@ use tb_feed::Feed;
 use tb_log::Input;
 use tb_terms::NoMemory;
 
-/// Whether no more steps may be made, though one is possible.
+/// Returns whether the limit of steps is reached, though a step is possible.
 fn is_at_limit<W: Walker>(core: &mut Core<W>, made: u64, steps: u64) -> Result<bool, NoMemory>
     ensures value { IfOk result
         (λ limit. limit ≡ (made == steps && has_any (steps_of (bus_now core.old)))) }
@@ -26,8 +26,7 @@ fn is_at_limit<W: Walker>(core: &mut Core<W>, made: u64, steps: u64) -> Result<b
     core.has_step()
 }
 
-/// Hands out what is next on a lane, or makes a step, or says quiet and hands in what comes next from outside, or sees the
-/// end.
+/// Sends the next item of a lane, makes a step, logs `quiet` and delivers the next input, or reaches the end.
 fn go<W: Walker>(
     core: &mut Core<W>,
     feed: &Feed,
@@ -46,7 +45,7 @@ fn go<W: Walker>(
     }
 }
 
-/// Hands out what is next on a lane.
+/// Sends the next item of a lane.
 fn hand_out<W: Walker>(core: &mut Core<W>, lane: u8, so_far: Progress) -> Result<Turned, NoMemory>
     requires lane { IsLane lane }
     requires some { IsSome (next_out lane (bus_now core.old).bench) }
@@ -62,8 +61,7 @@ fn hand_out<W: Walker>(core: &mut Core<W>, lane: u8, so_far: Progress) -> Result
     }
 }
 
-/// Where nothing is to be handed out, makes a step, or says quiet and hands in what comes next from outside, or sees the
-/// end.
+/// If nothing is queued for sending, makes a step, logs `quiet` and delivers the next input, or reaches the end.
 fn go_up<W: Walker>(
     core: &mut Core<W>,
     feed: &Feed,
@@ -92,7 +90,7 @@ fn go_up<W: Walker>(
     }
 }
 
-/// Hands in the next of the feed, or that no more ticks come where none is left.
+/// Delivers the next input of the feed. If none is left, it reports that no more ticks come.
 fn hand_in_next<W: Walker>(
     core: &mut Core<W>,
     feed: &Feed,
@@ -113,7 +111,7 @@ fn hand_in_next<W: Walker>(
     hand_in(core, input, next)
 }
 
-/// Hands in an input, and has come so far then.
+/// Delivers an input. `next` is the progress after it.
 fn hand_in<W: Walker>(core: &mut Core<W>, input: Input, next: Progress) -> Result<Turned, NoMemory>
     requires running { core.old.stopped ≡ false }
     requires in_form { IsInputInShape input }
@@ -127,9 +125,10 @@ fn hand_in<W: Walker>(core: &mut Core<W>, input: Input, next: Progress) -> Resul
     }
 }
 
-/// Runs a core to its end, always by the first of the steps, and makes at most this many. What is to be handed out on a
-/// lane comes before a step, the lowest lane first. Where no step is possible, the next of the feed is handed in, and behind its last that no more ticks come. The end is `Events` where its log has
-/// no room for the next entry. After an `Err` the log is a prefix of the one that the simulation makes.
+/// Runs a core to its end, always by the first of the steps, and makes at most `steps` of them. Before each step, it sends the items
+/// that are queued on the lanes, the lowest lane first. If no step is possible, it delivers the next input of the feed. After the
+/// feed's last input, it reports that no more ticks come. The end is `Events` if the log has no capacity for the next entry. After
+/// an `Err`, the log is a prefix of the one that the simulation makes.
 pub fn simulate<W: Walker>(core: &mut Core<W>, feed: &Feed, steps: u64) -> Result<SimEnd, NoMemory>
     requires fresh { core.old.log ≡ [] }
     requires running { core.old.stopped ≡ false }

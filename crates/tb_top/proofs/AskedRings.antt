@@ -1,4 +1,4 @@
--- Words ask for a ring within its ranges alone, so what holds of these rings holds of the words.
+-- Arguments request only rings within the ranges. So what holds for these rings holds for the arguments.
 use Rattle.std.proofs.Common.{◌≡◌, ℕ, ◌+◌, ◌*◌, List, [], ◌∷◌, ◌++◌, Option, Result, Ok, subst, ◌⊎◌, codes}
 use Rattle.std.specs.Fmt.{decimal}
 use Rattle.tb_cli.specs.declared.command.Command.{Command}

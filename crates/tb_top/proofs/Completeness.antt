@@ -1,4 +1,4 @@
--- Where nothing of the outside fails, and no limit is met, a command ends well, or memory ran out.
+-- If no part of the environment fails, and no limit is met, a command ends well, or memory ran out.
 use Rattle.std.proofs.Common.{◌≡◌, ◌≢◌, ℕ, ◌*◌, ◌<◌, ◌≤◌, Option, Some, None, List, [], ◌∷◌, Result, Ok, Err, refl, ap, sym, ◌∙◌, subst, length, inl, inr, ◌⊎◌, arith}
 use Rattle.tb_body.specs.declared.program.Program.{Program}
 use Rattle.tb_bus.specs.declared.origin.Origin.{Origin}
@@ -73,7 +73,7 @@ check-well bytes program old new (Err (Log wrong)) few found file out h = absurd
 check-well bytes program old new (Err Stranger) few found file out h = absurd h
 check-well bytes program old new (Err (Limit bound)) few found file out h = absurd h
 
--- a fault of a feed that reads
+-- an error of a feed that reads
 not-unread : (held : List ℕ → Option (List ℕ)) (feed : Option (List ℕ)) (inputs : List Input) (fault : FeedFault) → Reads held feed inputs → IsFeedRefused held feed fault → ⊥
 not-unread held None inputs fault reads h = h
 not-unread held (Some name) inputs (feed_fault.Line number) (bytes, told, few, is) (all, loaded, bad) =
@@ -136,7 +136,7 @@ reported-well (Err (Feed fault)) old new it well err h = absurd well
 reported-well (Err (Words fault)) old new it well err h = absurd well
 reported-well (Err (Limit bound)) old new it well err h = absurd well
 
--- nothing of the outside failed in the call
+-- no part of the environment failed in the call
 file-stays : {A : Type 0} (old new : Seen) (answer : Result A Fault) → (Rose old.file_faults new.file_faults → ⊥) → IsCaused old new answer → answer ≡ Err File → ⊥
 file-stays {A} old new answer stays caused e = stays (subst (λ (it : Result A Fault). IsCaused old new it) e caused)
 
@@ -160,7 +160,7 @@ sim-completes A request old new told more it must file out err (answer, comes, r
     (sim-well old.held request old.outside.put new.outside.put answer must (file-stays old new answer file comes.caused) (out-stays old new answer out comes.caused) comes.outcome.0)
     err reports
 
--- what `run` answers of a script that is accepted, where nothing of the outside fails
+-- the answer of `run` for a script that is accepted, if no part of the environment fails
 abbrev pub EndsLive : {A : Type 0} → (List ℕ → Option (List ℕ)) → RunRequest → OutsideView → OutsideView → Result A Fault → Type 0
 EndsLive held request old new (Ok done) = Unit {0}
 EndsLive held request old new (Err NoMemory) = Unit {0}
@@ -215,7 +215,7 @@ reported-so (Err fault) old new due it (inl same) err (inl h) = inl (h.0 ∙ sam
 reported-so (Err fault) old new due it (inr none) err (inl h) = inr (h.0 ∙ ap status_of none)
 reported-so (Err fault) old new due it says err (inr h) = absurd (err h.0)
 
--- what is said of the log of a request is said of the bytes that are told, as those of a log of the script's program
+-- the finding on the log of a request is the finding on the reported bytes, as those of a log of the script's program
 judged : (held : List ℕ → Option (List ℕ)) (request : VerifyRequest) (bytes log : List ℕ) (program : Program) (Says : Origin → List ℕ → Type 0) →
     held request.script ≡ Some bytes → IsFound bytes (Program' program) → held request.log ≡ Some log → IsJudged held request Says → (length log ≤ most_log_bytes) × Says (log_origin request program) log
 judged held request bytes log program Says told found told_log it =
@@ -223,13 +223,13 @@ judged held request bytes log program Says told found told_log it =
     let same = told-within most_log_bytes (held request.log) log it.bytes told_log it.loaded in
     (same.1, subst (λ (bs : List ℕ). Says (log_origin request program) bs) same.0 (subst (λ (p : Program). Says (log_origin request p) it.bytes) one it.says))
 
--- a log that is told to hold these bytes is as long as they are
+-- a log whose reported content is these bytes is as long as they are
 long : (file : Option (List ℕ)) (log : List ℕ) (len : ℕ) → file ≡ Some log → IsLongerThan most_log_bytes file len → (most_log_bytes < length log) × (len ≡ length log)
 long file log len told longer =
     let same : len ≡ length log = (subst (λ (it : Option (List ℕ)). IsLongerThan most_log_bytes it len) told longer).1 in
     (subst (λ (n : ℕ). most_log_bytes < n) same longer.0, same)
 
--- there is one thing to tell of bytes
+-- there is one finding on bytes
 one-due : (origin : Origin) (bytes : List ℕ) (one other : Due) → IsDue origin bytes one → IsDue origin bytes other → one ≡ other
 one-due origin bytes (Judged verdict) (Judged same) (few, (is, room)) (small, (alike, space)) = ap Judged (one_verdict origin bytes verdict same is alike)
 one-due origin bytes (Judged verdict) Crowd (few, (is, room)) (small, (number, crowded)) = absurd (room number crowded)
@@ -241,11 +241,11 @@ one-due origin bytes (Long len) (Judged verdict) (over, same) (few, told) = absu
 one-due origin bytes (Long len) Crowd (over, same) (few, crowded) = absurd (omega (arith, over, few))
 one-due origin bytes (Long len) (Long other) (over, same) (more, alike) = ap Long (same ∙ sym alike)
 
--- the status of what is to be told
+-- the status of the finding
 due-one : (origin : Origin) (bytes : List ℕ) (one due : Due) → IsDue origin bytes one → IsDue origin bytes due → due_status one ≡ due_status due
 due-one origin bytes one due h k = ap due_status (one-due origin bytes one due h k)
 
--- `verify` of a script that is accepted, and of a log that is told
+-- `verify` of a script that is accepted, and of a log whose content is reported
 verify-well : {A : Type 0} (held : List ℕ → Option (List ℕ)) (request : VerifyRequest) (due : Due) (old new : Option (List ℕ)) (answer : Result A Fault) → MustTell held request due →
     (answer ≡ Err File → ⊥) → (answer ≡ Err Out → ⊥) → VerifyOutcome held request old new answer → Says (due_status due) answer
 verify-well held request due old new (Ok done) must file out h =
@@ -307,7 +307,7 @@ iface-completes A script tool bytes program old new told more it holds few found
     (subst (λ (held : Option (List ℕ)). IfaceOutcome held tool old.outside.put new.outside.put answer) holds comes.outcome.0))
     err reports
 
--- a thing of the outside whose count stays isn't named
+-- a part of the environment whose count stays isn't named
 clock-stays : {A : Type 0} (old new : Seen) (answer : Result A Fault) → (Rose old.outside.clock_faults new.outside.clock_faults → ⊥) → IsCaused old new answer → answer ≡ Err Clock → ⊥
 clock-stays {A} old new answer stays caused e = stays (subst (λ (it : Result A Fault). IsCaused old new it) e caused)
 
@@ -325,7 +325,7 @@ run-completes A request bytes program old new told more it holds few found file 
     (clock-stays old new answer clock comes.caused) (crew-stays old new answer crew comes.caused) comes.outcome)
     err reports
 
--- the simulation of a ring that goes down is that one
+-- the simulation of a ring that shuts down is that one
 pub ring-ends : (n k : ℕ) (log : List Entry) (last : SimEnd) (down : GoesDown n k) → IsRingOf n k log last → (log ≡ down.log) × (last ≡ sim.Down)
 ring-ends n k log last down is =
     let same : Program' is.program ≡ Program' down.program = down.found.only (Program' is.program) is.found.holds in
@@ -334,7 +334,7 @@ ring-ends n k log last down is =
     subst (λ (q : Program). IsSim (limits_of most_of_ring (ring_origin q)) (sim_start (start (ring_origin q)) []) log last) one is.simulated in
     one-sim (limits_of most_of_ring (ring_origin down.program)) (sim_start (start (ring_origin down.program)) []) log down.log last sim.Down moved down.ends
 
--- `ring` of a ring that goes down
+-- `ring` of a ring that shuts down
 ring-well : {A : Type 0} (n k : ℕ) (old new : Option (List ℕ)) (answer : Result A Fault) → GoesDown n k → (answer ≡ Err Out → ⊥) → RingOutcome n k old new answer → IsWell answer
 ring-well n k old new (Ok done) down out h = tt
 ring-well n k old new (Err NoMemory) down out h = tt

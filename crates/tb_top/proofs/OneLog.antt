@@ -1,4 +1,4 @@
--- The bytes that were put determine the log.
+-- The written bytes determine the log.
 use Rattle.std.proofs.Common.{◌≡◌, ◌≤◌, ◌<◌, ◌^◌, ℕ, Option, Some, None, List, [], ◌++◌, length, ap, sym, ◌∙◌, subst, arith}
 use Rattle.std.specs.Prelude.{IsTrue}
 use Rattle.std.specs.List.{list_all}
@@ -27,7 +27,7 @@ abbrev taken-in : Option (List ℕ) → List ℕ
 taken-in None = []
 taken-in (Some taken) = taken
 
--- the text that was put is the bytes that were
+-- the written text is the written bytes
 text-put : (bytes text : List ℕ) (old new : Option (List ℕ)) → HasPut bytes old new → Writes old new text → bytes ≡ text
 text-put bytes text None new has writes = absurd has
 text-put bytes text (Some taken) new has writes =

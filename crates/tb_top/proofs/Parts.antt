@@ -1,4 +1,4 @@
--- How the parts of the top call come to the outcome of their command.
+-- How the parts of the top call reach the outcome of their command.
 use Rattle.std.proofs.Common.{◌≡◌, ℕ, Option, Some, None, List, [], ◌∷◌, ◌++◌, Result, Ok, Err, refl, ap, sym, ◌∙◌, subst, append_assoc, append-nil, inl, inr, option_to_list, ◌⊎◌, IfErr, IsOk, Bool, false, true}
 use Rattle.tb_edge.specs.Sinks.{Writes, WritesPrefix}
 use Rattle.tb_body.specs.declared.program.Program.{Program}
@@ -57,7 +57,7 @@ simulated : (steps : ℕ) (origin : Origin) (inputs : List Input) (held : List �
     IsSimOf held (request_of script name steps origin) log last
 simulated steps origin inputs held script name log last is trace proper within fed has = record { program = origin.program; has = has; inputs = inputs; fed = fed; simulated = is; trace = trace; proper = proper; within = within }
 
--- the log was put, or a front of its text
+-- the log was written, or a prefix of its text
 pub log-written : {A : Type 0} (steps : ℕ) (origin : Origin) (inputs : List Input) (log : List Entry) (last : SimEnd) (old new : Option (List ℕ)) (answer : Result A Fault) →
     IsSim (limits_of steps origin) (sim_start (start origin) inputs) log last → IsTrace (start origin) log → IsTrue (list_all is_proper_entry log) → length log ≤ origin.limit → PutsText (log_text log) last old new answer →
     IsSimulated steps origin inputs old new answer
@@ -111,7 +111,7 @@ log-unread A held request program put (Feed fault) h has = absurd h
 log-unread A held request program put (Words fault) h has = absurd h
 log-unread A held request program put (Limit bound) h has = absurd h
 
--- where there is a verdict, there was room
+-- where there is a verdict, there was capacity
 pub has-room : (origin : Origin) (bytes : List ℕ) (verdict : Verdict) →
     ((number : ℕ) → IsCrowdedAt origin bytes number → (◌≡◌ {A = Result Verdict VerifyFault} (Ok verdict) (Err verify.Full)) ⊎ (◌≡◌ {A = Result Verdict VerifyFault} (Ok verdict) (Err verify.NoMemory))) → HasRoom origin bytes
 has-room origin bytes verdict full number crowded = no (full number crowded) where
@@ -134,7 +134,7 @@ no-interface A told tool program put (Words fault) h has = absurd h
 no-interface A told tool program put (Limit bound) h has = absurd h
 no-interface A told tool program put (Log wrong) h has = absurd h
 
--- the summary of a ring was put, or a front of it
+-- the summary of a ring was written, or a prefix of it
 ring-put : {A : Type 0} (n k : ℕ) (log : List Entry) (last : SimEnd) (old new : Option (List ℕ)) (answer : Result A Fault) → IsRingOf n k log last → PutsWhole (summary n log) last old new answer → RingOutcome n k old new answer
 ring-put n k log last old new (Ok done) is put = (log, subst (IsRingOf n k log) put.0 is, put.1)
 ring-put n k log last old new (Err (Limit bound.Steps)) is put = (log, subst (IsRingOf n k log) put.0 is, put.1)
@@ -164,9 +164,9 @@ pub summary-written : {A : Type 0} (n : ℕ) (origin : Origin) (log : List Entry
     IsRingSimulated origin.program n old new answer
 summary-written n origin log last old new answer e is trace put k found = ring-put n k log last old new answer (ring-of n k origin log last found e is trace) put
 
--- Which names were asked for.
+-- Which files were requested.
 
--- behind the script's name the others were asked for
+-- after the script's file the others were requested
 then-others : (told : Option (List ℕ)) (script : List ℕ) (others old mid new : List (List ℕ)) → IsAccepted told → mid ≡ old ++ script ∷ [] → new ≡ mid ++ others → AsksAll told script others old new
 then-others told script others old mid new accepted e h =
     (accepted, h ∙ ap (λ (names : List (List ℕ)). names ++ others) e ∙ append_assoc old (script ∷ []) others)
@@ -187,7 +187,7 @@ asks-others told script others old mid new (Err (Limit bound)) accepted e behind
 asks-others told script others old mid new (Err NoMemory) accepted e behind (inl h) = inr (inl (h ∙ e))
 asks-others told script others old mid new (Err NoMemory) accepted e behind (inr h) = inr (inr (then-others told script others old mid new accepted e h))
 
--- a command with a script alone asks for nothing more
+-- a command with a script alone requests nothing more
 pub asks-alone : {A : Type 0} (told : Option (List ℕ)) (script : List ℕ) (old new : List (List ℕ)) (answer : Result A Fault) → IsAccepted told →
     new ≡ old ++ script ∷ [] → IfErr answer IsBehindScript → AsksBeside told script [] old new answer
 asks-alone told script old new (Ok done) accepted e behind = (accepted, e)
@@ -203,7 +203,7 @@ asks-alone told script old new (Err Stranger) accepted e behind = (accepted, e)
 asks-alone told script old new (Err (Limit bound)) accepted e behind = (accepted, e)
 asks-alone told script old new (Err NoMemory) accepted e behind = inr (inr (accepted, e))
 
--- whatever the answer, some of the names were asked for, in order
+-- with any answer, some of the files were requested, in order
 
 asks-none : (names old new : List (List ℕ)) → new ≡ old → AsksSome names old new
 asks-none names old new e = record { asked = []; others = names; first = refl; is = e ∙ sym (append-nil old) }
@@ -235,7 +235,7 @@ pub asks-some : {A : Type 0} (held : List ℕ → Option (List ℕ)) (names old 
 asks-some held [] old new answer h = asks-none [] old new h
 asks-some held (script ∷ others) old new answer h = asks-some-of (held script) script others old new answer h
 
--- a ring whose script is refused
+-- a ring whose script is rejected
 pub ring-refused : (A : Type 0) (n k : ℕ) (bytes : List ℕ) (told : Option (List ℕ)) (fault : Fault) → bytes ≡ ring_text n k → IsRefusedBy bytes fault → RingOutcome {A = A} n k told told (Err fault)
 ring-refused A n k bytes told (Script fault) e h = (subst (λ (bs : List ℕ). IsRefused bs fault) e h, refl)
 ring-refused A n k bytes told NoMemory e h = refl
@@ -283,7 +283,7 @@ run-ended ticks origin old new back it (Err File) runs e held script has = absur
 run-ended ticks origin old new back it (Err (Log wrong)) runs e held script has = absurd e
 run-ended ticks origin old new back it (Err Stranger) runs e held script has = absurd e
 
--- what rose where a thing of the outside is named
+-- the count that rose if a part of the environment is named
 pub out-rose : {A : Type 0} (ticks : ℕ) (origin : Origin) (old new : OutsideView) (back : CoreState) (it : RunWhy) (answer : Result A Fault) → Runs ticks old new origin back it → EndsRun it answer → answer ≡ Err Out → Rose old.out_faults new.out_faults
 out-rose {A} ticks origin old new back it answer runs e named =
     let ended : it ≡ why.Out = subst (λ (a : Result A Fault). EndsRun it a) named e in

@@ -1,4 +1,4 @@
--- What is put of a ring: so many steps, and the word of the last.
+-- The written summary of a ring: so many steps, and the word of the last.
 use Rattle.std.proofs.Common.{◌≡◌, ℕ, zero, suc, ◌+◌, ◌*◌, ◌≤◌, List, [], ◌∷◌, ◌++◌, map, fold, Some, refl, ap, ◌∙◌, arith, codes}
 use Rattle.std.specs.Prelude.{sum_by}
 use Rattle.std.specs.Fmt.{decimal}

@@ -1,4 +1,4 @@
--- How `check` ends, and what was put then.
+-- How `check` ends, and the bytes written then.
 use Rattle.std.specs.Prelude.{◌≡◌, ℕ, List, Option, Result, Ok, Err, codes}
 use Rattle.tb_edge.specs.Sinks.{Writes, WritesPrefix}
 use Rattle.tb_load.specs.Loading.{IsAccepted}
@@ -9,13 +9,13 @@ use Rattle.tb_top.specs.declared.fault.Fault.TheVariants.{Script, File, Out, NoM
 abbrev pub ok_line : List ℕ
 ok_line = codes "ok\n"
 
--- by what the script's name is told to hold, and what was put
+-- by the reported content of the script's file, and the written bytes
 abbrev pub CheckOutcome : {A : Type 0} → Option (List ℕ) → Option (List ℕ) → Option (List ℕ) → Result A Fault → Type 0
 -- the script is accepted
 CheckOutcome told old new (Ok done) = IsAccepted told × Writes old new ok_line
--- it is so, and the sink failed
+-- it is accepted, and the sink failed
 CheckOutcome told old new (Err Out) = IsAccepted told × WritesPrefix old new ok_line
--- it was refused
+-- it was rejected
 CheckOutcome told old new (Err (Script fault)) = IsUnloaded told (Script fault) × (new ≡ old)
 -- its file could not be read
 CheckOutcome told old new (Err File) = new ≡ old

@@ -1,4 +1,4 @@
--- What files must hold so that one status alone can come, unless something of the outside fails or memory runs out.
+-- What files must contain so that only one status can come, unless some part of the environment fails or memory runs out.
 use Rattle.std.specs.Prelude.{◌≡◌, ◌<◌, ◌≤◌, ℕ, List, [], Option, Some, None, length}
 use Rattle.tb_body.specs.declared.program.Program.{Program}
 use Rattle.tb_bus.specs.Buses.{start}
@@ -20,12 +20,12 @@ use Rattle.tb_top.specs.declared.status.LogWrong.TheVariants as log_wrong
 use Rattle.tb_verify.specs.declared.verdict.Verdict.{Verdict}
 use Rattle.tb_verify.specs.declared.verdict.Verdict.TheVariants as verdict
 
--- The feed reads as these inputs: its file is told to hold few bytes, which are a feed; or no file is named, and there are none.
+-- The feed reads as these inputs: the reported content of its file is short and is a feed; or no file is named, and there are no inputs.
 abbrev pub Reads : (List ℕ → Option (List ℕ)) → Option (List ℕ) → List Input → Type 0
 Reads held None inputs = inputs ≡ []
 Reads held (Some name) inputs = (bytes : List ℕ) × (held name ≡ Some bytes) × (length bytes ≤ most_bytes) × IsFeedOf bytes inputs
 
--- The script's file is told to hold few bytes, which have a program; the feed reads; and their simulation ends with the bus down.
+-- The reported content of the script's file is short and has a program; the feed reads; and their simulation ends because the bus has shut down.
 pub record MustEnd (held : List ℕ → Option (List ℕ)) (request : Request) : Type 0 where
   pub bytes : List ℕ
   pub told : held request.script ≡ Some bytes
@@ -37,29 +37,29 @@ pub record MustEnd (held : List ℕ → Option (List ℕ)) (request : Request) :
   pub log : List Entry
   pub ends : IsSim (limits_of request.steps (origin_for request program)) (sim_start (start (origin_for request program)) inputs) log sim.Down
 
--- What there is to tell of the file of a log.
+-- The finding on the file of a log.
 pub data Due : Type 0 where
   -- the verdict on it
   Judged : Verdict → Due
-  -- that there is no room for one of its entries
+  -- no capacity for one of its entries
   Crowd : Due
-  -- that it has so many bytes, too many
+  -- so many bytes, which are too many
   Long : ℕ → Due
 
--- the status that tells it
+-- the status that reports it
 abbrev pub due_status : Due → Status
 due_status (Judged verdict.Trace) = status.Ended
 due_status (Judged (verdict.Line number)) = status.Log (log_wrong.Line number)
 due_status Crowd = status.Limit bound.Events
 due_status (Long len) = status.Log (log_wrong.TooLong len)
 
--- whether it is so of these bytes, as those of a log that has this origin
+-- whether it is the finding on these bytes, as those of a log that has this origin
 abbrev pub IsDue : Origin → List ℕ → Due → Type 0
 IsDue origin bytes (Judged verdict) = (length bytes ≤ most_log_bytes) × HasVerdict verdict origin bytes
 IsDue origin bytes Crowd = (length bytes ≤ most_log_bytes) × IsCrowded origin bytes
 IsDue origin bytes (Long len) = (most_log_bytes < length bytes) × (len ≡ length bytes)
 
--- The script's file is told to hold few bytes, which have a program; and the log's file is told to hold bytes of which this is to be told.
+-- The reported content of the script's file is short and has a program; and this is the finding on the reported content of the log's file.
 pub record MustTell (held : List ℕ → Option (List ℕ)) (request : VerifyRequest) (due : Due) : Type 0 where
   pub bytes : List ℕ
   pub told : held request.script ≡ Some bytes
@@ -70,7 +70,7 @@ pub record MustTell (held : List ℕ → Option (List ℕ)) (request : VerifyReq
   pub told_log : held request.log ≡ Some log
   pub is_due : IsDue (log_origin request program) log due
 
--- the status that a tool with this interface calls for, or none
+-- the status for a tool with this interface, or for no tool
 abbrev pub tool_status : Option Interface → Status
 tool_status None = status.Stranger
 tool_status (Some interface) = status.Ended

@@ -1,4 +1,4 @@
--- The line that is put of each fault.
+-- The line that is written for each error.
 use Rattle.std.specs.Prelude.{ℕ, List, [], ◌∷◌, ◌++◌, codes}
 use Rattle.std.specs.Fmt.{decimal}
 use Rattle.tb_script.specs.Lines.{script_line}
@@ -32,6 +32,6 @@ fault_words NoMemory = codes "no memory"
 fault_words (Log wrong) = log_words wrong
 fault_words Stranger = codes "tool: stranger"
 
--- the program's name, the words of the fault, and the end of the line
+-- the program's name, the words of the error, and the end of the line
 abbrev pub fault_line : Fault → List ℕ
 fault_line fault = codes "toolbus: " ++ fault_words fault ++ 10 ∷ []

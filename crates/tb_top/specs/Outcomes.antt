@@ -1,4 +1,4 @@
--- How a call of the program ends, by what its words ask for: what was put, which files were asked for, and what was made of lanes and clock.
+-- How a call of the program ends, by the command that its arguments request: the written bytes, the requested files, and the effects on lanes and clock.
 use Rattle.std.specs.Prelude.{◌≡◌, ◌≢◌, ℕ, List, [], ◌∷◌, Option, option_to_list, Result, Ok, Err}
 use Rattle.tb_cli.specs.declared.command.Command.{Command}
 use Rattle.tb_cli.specs.declared.command.Command.TheVariants as command
@@ -16,7 +16,7 @@ use Rattle.tb_top.specs.Views.{IsLeft, Seen}
 use Rattle.tb_top.specs.declared.fault.Fault.{Fault}
 use Rattle.tb_top.specs.declared.fault.Fault.TheVariants.{Words}
 
--- by what the words ask for, or which fault they have
+-- by the command that the arguments request, or by their error
 abbrev pub CommandOutcome : {A : Type 0} → Result Command WordFault → Seen → Seen → Result A Fault → Type 0
 CommandOutcome (Err fault) old new answer = (answer ≡ Err (Words fault)) × (fault ≢ word.NoMemory) × IsUntouched old.outside new.outside
 CommandOutcome (Ok (command.Check script)) old new answer = CheckOutcome (old.held script) old.outside.put new.outside.put answer × IsLeft old.outside new.outside
@@ -29,7 +29,7 @@ CommandOutcome (Ok (command.Verify script log connects)) old new answer =
     VerifyOutcome old.held (record { script = script; log = log; connects = connects }) old.outside.put new.outside.put answer × IsLeft old.outside new.outside
 CommandOutcome (Ok (command.Iface script tool)) old new answer = IfaceOutcome (old.held script) tool old.outside.put new.outside.put answer × IsLeft old.outside new.outside
 
--- the names of the files that are asked for, in order
+-- the names of the requested files, in order
 abbrev pub files_of : Result Command WordFault → List (List ℕ)
 files_of (Err fault) = []
 files_of (Ok (command.Check script)) = script ∷ []
@@ -39,7 +39,7 @@ files_of (Ok (command.Run script connects ticks events)) = script ∷ []
 files_of (Ok (command.Verify script log connects)) = script ∷ log ∷ []
 files_of (Ok (command.Iface script tool)) = script ∷ []
 
--- An answer may come: by what was put, by the counts of faults, and by the names that were asked for.
+-- An answer may come: by the written bytes, the counts of failures, and the names of the requested files.
 pub record Comes {A : Type 0} (asked : Result Command WordFault) (old new : Seen) (answer : Result A Fault) : Type 0 where
   pub outcome : CommandOutcome asked old new answer
   pub caused : IsCaused old new answer

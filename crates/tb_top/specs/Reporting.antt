@@ -1,4 +1,4 @@
--- What is put of an answer to standard error, and the status that the program ends with.
+-- The line on standard error for an answer, and the status that the program ends with.
 use Rattle.std.specs.Prelude.{◌≡◌, ◌⊎◌, ℕ, List, Option, Result, Ok, Err}
 use Rattle.tb_edge.specs.Sinks.{Writes, WritesPrefix}
 use Rattle.tb_top.specs.Lines.{fault_line}
@@ -8,7 +8,7 @@ use Rattle.tb_top.specs.declared.status.Status.{Status}
 use Rattle.tb_top.specs.declared.status.Status.TheVariants.{Ended, Outside}
 use Rattle.tb_top.specs.declared.status.Edge.TheVariants as edge
 
--- nothing where all ended well; else the fault's line, or a prefix of it where standard error failed
+-- nothing if all ended well; if not, the error's line, or a prefix of it if standard error failed
 abbrev pub Reports : {A : Type 0} → Result A Fault → Option (List ℕ) → Option (List ℕ) → Status → Type 0
 Reports (Ok done) old new status = (status ≡ Ended) × (new ≡ old)
 Reports (Err fault) old new status =

@@ -1,4 +1,4 @@
--- How `ring` ends, and what was put then.
+-- How `ring` ends, and the bytes written then.
 use Rattle.std.specs.Prelude.{◌≡◌, ℕ, List, [], ◌∷◌, ◌++◌, Option, Result, Ok, Err, codes, sum_by, fold}
 use Rattle.std.specs.Fmt.{decimal}
 use Rattle.tb_edge.specs.Sinks.{Writes, WritesPrefix}
@@ -19,7 +19,7 @@ use Rattle.tb_top.specs.declared.fault.Fault.{Fault}
 use Rattle.tb_top.specs.declared.fault.Fault.TheVariants.{Script, Out, Limit, NoMemory}
 use Rattle.tb_top.specs.declared.status.Bound.TheVariants as bound
 
--- how many steps it may make, and how many entries its log may have
+-- the greatest number of its steps, and of its log's entries
 abbrev pub most_of_ring : ℕ
 most_of_ring = 4000000
 
@@ -43,7 +43,7 @@ abbrev pub word_after : List ℕ → Entry → List ℕ
 word_after word (Did label) = kind_word label.kind
 word_after word _ = word
 
--- the word of the last step of a log, or nothing where there is none
+-- the word of the last step of a log, or nothing if there is none
 abbrev pub last_word : List Entry → List ℕ
 last_word log = fold word_after [] log
 
@@ -51,25 +51,25 @@ last_word log = fold word_after [] log
 abbrev pub summary : ℕ → List Entry → List ℕ
 summary n log = codes "processes " ++ decimal n ++ codes " steps " ++ decimal (sum_by steps_in log) ++ codes " end " ++ last_word log ++ 10 ∷ []
 
--- the summary of the simulation was put, which ends so
+-- the summary of the simulation was written, which ends so
 abbrev pub PutsSummary : ℕ → ℕ → Option (List ℕ) → Option (List ℕ) → SimEnd → Type 0
 PutsSummary n k old new last = (log : List Entry) × IsRingOf n k log last × Writes old new (summary n log)
 
--- a prefix of it was put
+-- a prefix of it was written
 abbrev pub PutsSome : ℕ → ℕ → Option (List ℕ) → Option (List ℕ) → Type 0
 PutsSome n k old new = (log : List Entry) × (last : SimEnd) × IsRingOf n k log last × WritesPrefix old new (summary n log)
 
--- by how many processes hand a message on how often, and what was put
+-- by how many processes pass a message on how often, and the written bytes
 abbrev pub RingOutcome : {A : Type 0} → ℕ → ℕ → Option (List ℕ) → Option (List ℕ) → Result A Fault → Type 0
--- the bus went down
+-- the bus shut down
 RingOutcome n k old new (Ok done) = PutsSummary n k old new sim.Down
 -- the limit of steps was reached, and another step was possible
 RingOutcome n k old new (Err (Limit bound.Steps)) = PutsSummary n k old new sim.Steps
--- the log had no room for the next entry
+-- the log had no capacity for the next entry
 RingOutcome n k old new (Err (Limit bound.Events)) = PutsSummary n k old new sim.Events
 -- the sink failed
 RingOutcome n k old new (Err Out) = PutsSome n k old new
--- the ring's script was refused
+-- the ring's script was rejected
 RingOutcome n k old new (Err (Script fault)) = IsRefused (ring_text n k) fault × (new ≡ old)
 -- memory ran out
 RingOutcome n k old new (Err NoMemory) = new ≡ old

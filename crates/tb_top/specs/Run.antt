@@ -1,4 +1,4 @@
--- How `run` ends, and what was given, taken and put then.
+-- How `run` ends, and what lanes and clock gave and took and the sink received then.
 use Rattle.std.specs.Prelude.{◌≡◌, ◌⊎◌, ℕ, List, Option, Result, Ok, Err}
 use Rattle.tb_body.specs.declared.program.Program.{Program}
 use Rattle.tb_bus.specs.Buses.{origin_of}
@@ -14,29 +14,29 @@ use Rattle.tb_top.specs.declared.fault.Fault.{Fault}
 use Rattle.tb_top.specs.declared.fault.Fault.TheVariants.{Script, File, Out, Clock, Crew, Limit, NoMemory}
 use Rattle.tb_top.specs.declared.status.Bound.TheVariants as bound
 
--- What is to be run: the name of the script's file; the commands that are connected; and how many ticks and entries there may be.
+-- The arguments of a run: the name of the script's file, the commands that are connected, and the greatest numbers of ticks and of entries.
 pub record RunRequest : Type 0 where
   pub script : List ℕ
   pub connects : List (List ℕ)
   pub ticks : ℕ
   pub events : ℕ
 
--- The script has a program, and a bus that began with it was run, which ended so: `Runs` says of its log and of the outside what each end says.
+-- The script has a program, and a bus that began with it was run, which ended so: `Runs` says what each end claims of the log and of the environment.
 pub record IsRun (held : List ℕ → Option (List ℕ)) (request : RunRequest) (old new : OutsideView) (it : RunWhy) : Type 0 where
   pub program : Program
   pub has : HasProgram (held request.script) program
   pub back : CoreState
   pub runs : Runs request.ticks old new (origin_of program request.connects request.events) back it
 
--- nothing was put, and nothing of the rest was touched
+-- nothing was written, and nothing else was touched
 abbrev pub IsUntouched : OutsideView → OutsideView → Type 0
 IsUntouched old new = (new.put ≡ old.put) × IsLeft old new
 
--- by what names are told to hold, what is to be run, and what is seen of the outside
+-- by the reported content of the files, the arguments of the run, and what is seen of the environment
 abbrev pub LiveOutcome : {A : Type 0} → (List ℕ → Option (List ℕ)) → RunRequest → OutsideView → OutsideView → Result A Fault → Type 0
--- the bus went down, and all was handed out
+-- the bus shut down, and all queued items were sent
 LiveOutcome held request old new (Ok done) = IsRun held request old new why.Ended
--- so it did, and the clock failed
+-- the same, and the clock failed
 LiveOutcome held request old new (Err Clock) = IsRun held request old new why.Clock
 -- the log was full
 LiveOutcome held request old new (Err (Limit bound.Events)) = IsRun held request old new why.Events
@@ -46,7 +46,7 @@ LiveOutcome held request old new (Err Out) = IsRun held request old new why.Out
 LiveOutcome held request old new (Err Crew) = IsRun held request old new why.Crew
 -- memory ran out, before the bus was run or while it was
 LiveOutcome held request old new (Err NoMemory) = IsUntouched old new ⊎ IsRun held request old new why.NoMemory
--- the script was refused
+-- the script was rejected
 LiveOutcome held request old new (Err (Script fault)) = IsUnloaded (held request.script) (Script fault) × IsUntouched old new
 -- its file could not be read
 LiveOutcome held request old new (Err File) = IsUntouched old new

@@ -1,4 +1,4 @@
--- How `sim` ends, and what was put then.
+-- How `sim` ends, and the bytes written then.
 use Rattle.std.specs.Prelude.{◌≡◌, ◌≤◌, ◌⊎◌, ℕ, List, [], Option, Some, None, IsTrue, Result, Ok, Err, length}
 use Rattle.std.specs.List.{list_all}
 use Rattle.tb_edge.specs.Sinks.{Writes, WritesPrefix}
@@ -22,7 +22,7 @@ use Rattle.tb_top.specs.declared.fault.Fault.{Fault}
 use Rattle.tb_top.specs.declared.fault.Fault.TheVariants.{Script, Feed, File, Out, Limit, NoMemory}
 use Rattle.tb_top.specs.declared.status.Bound.TheVariants as bound
 
--- What is to be simulated: the names of the script's file and of the feed's, where there is one; the commands that are connected; and how many steps and entries there may be.
+-- The arguments of a simulation: the names of the script's file and of the feed's, if there is one; the commands that are connected; and the greatest numbers of steps and of entries.
 pub record Request : Type 0 where
   pub script : List ℕ
   pub feed : Option (List ℕ)
@@ -30,26 +30,26 @@ pub record Request : Type 0 where
   pub steps : ℕ
   pub events : ℕ
 
--- These inputs are fed: those of the file, or none where no file is named.
+-- These are the inputs of the feed: those of the file, or none if no file is named.
 abbrev pub IsFed : (List ℕ → Option (List ℕ)) → Option (List ℕ) → List Input → Type 0
 IsFed held None inputs = inputs ≡ []
 IsFed held (Some name) inputs = (bytes : List ℕ) × IsLoaded (held name) bytes × IsFeedOf bytes inputs
 
--- What a fault of a feed says of its file.
+-- What an error of a feed claims of its file.
 abbrev pub IsFeedRefused : (List ℕ → Option (List ℕ)) → Option (List ℕ) → FeedFault → Type 0
 IsFeedRefused held None fault = ⊥
 -- the line of this number is its first bad one
 IsFeedRefused held (Some name) (feed_fault.Line number) = (bytes : List ℕ) × IsLoaded (held name) bytes × IsFirstBad bytes number
 -- it has so many bytes, too many
 IsFeedRefused held (Some name) (feed_fault.TooLong len) = IsTooLong (held name) len
--- running out of memory is no fault of the feed
+-- out of memory is no error of the feed
 IsFeedRefused held (Some name) feed_fault.NoMemory = ⊥
 
--- where the simulation of a program begins
+-- the start of the simulation of a program
 abbrev pub origin_for : Request → Program → Origin
 origin_for request program = origin_of program request.connects request.events
 
--- The script has a program, these inputs are fed, and this log is that of its simulation, which ends so. It is a trace of the program, of proper entries:
+-- The script has a program, these are the inputs, and this log is that of the program's simulation, which ends so. It is a trace of the program, of well-formed entries:
 -- so it is the only log with its text.
 pub record IsSimOf (held : List ℕ → Option (List ℕ)) (request : Request) (log : List Entry) (last : SimEnd) : Type 0 where
   pub program : Program
@@ -62,31 +62,31 @@ pub record IsSimOf (held : List ℕ → Option (List ℕ)) (request : Request) (
   -- it has at most as many entries as it may have
   pub within : length log ≤ request.events
 
--- the whole text of the log of the simulation was put, which ends so
+-- the whole text of the log of the simulation was written, which ends so
 abbrev pub PutsLog : (List ℕ → Option (List ℕ)) → Request → Option (List ℕ) → Option (List ℕ) → SimEnd → Type 0
 PutsLog held request old new last = (log : List Entry) × IsSimOf held request log last × Writes old new (log_text log)
 
--- a prefix of that text was put
+-- a prefix of that text was written
 abbrev pub PutsPrefix : (List ℕ → Option (List ℕ)) → Request → Option (List ℕ) → Option (List ℕ) → Type 0
 PutsPrefix held request old new = (log : List Entry) × (last : SimEnd) × IsSimOf held request log last × WritesPrefix old new (log_text log)
 
--- by what names are told to hold, what is to be simulated, and what was put
+-- by the reported content of the files, the arguments, and the written bytes
 abbrev pub SimOutcome : {A : Type 0} → (List ℕ → Option (List ℕ)) → Request → Option (List ℕ) → Option (List ℕ) → Result A Fault → Type 0
--- the bus went down
+-- the bus shut down
 SimOutcome held request old new (Ok done) = PutsLog held request old new sim.Down
 -- the limit of steps was reached, and another step was possible
 SimOutcome held request old new (Err (Limit bound.Steps)) = PutsLog held request old new sim.Steps
--- the log had no room for the next entry
+-- the log had no capacity for the next entry
 SimOutcome held request old new (Err (Limit bound.Events)) = PutsLog held request old new sim.Events
 -- the sink failed
 SimOutcome held request old new (Err Out) = PutsPrefix held request old new
--- the script was refused
+-- the script was rejected
 SimOutcome held request old new (Err (Script fault)) = IsUnloaded (held request.script) (Script fault) × (new ≡ old)
--- it is accepted, and the feed was refused
+-- the script is accepted, and the feed was rejected
 SimOutcome held request old new (Err (Feed fault)) = IsAccepted (held request.script) × IsFeedRefused held request.feed fault × (new ≡ old)
 -- a file could not be read
 SimOutcome held request old new (Err File) = new ≡ old
--- memory ran out, before the log was put or within it
+-- memory ran out, before the log was written or while it was
 SimOutcome held request old new (Err NoMemory) = (new ≡ old) ⊎ PutsPrefix held request old new
 -- no other answer comes
 SimOutcome held request old new _ = ⊥

@@ -1,4 +1,4 @@
--- The status that the program ends with at each fault, and the number with which it exits at each status.
+-- The status that the program ends with for each error, and the exit status for each status.
 use Rattle.std.specs.Prelude.{ℕ, List, [], ◌∷◌, ◌++◌, codes}
 use Rattle.tb_top.specs.declared.status.Status.{Status}
 use Rattle.tb_top.specs.declared.status.Status.TheVariants as status

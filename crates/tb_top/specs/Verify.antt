@@ -1,4 +1,4 @@
--- How `verify` ends, and what was put then.
+-- How `verify` ends, and the bytes written then.
 use Rattle.std.specs.Prelude.{◌≡◌, ℕ, List, Option, Result, Ok, Err, codes}
 use Rattle.tb_edge.specs.Sinks.{Writes, WritesPrefix}
 use Rattle.tb_body.specs.declared.program.Program.{Program}
@@ -22,29 +22,29 @@ most_log_bytes = 67108864
 abbrev pub trace_line : List ℕ
 trace_line = codes "trace\n"
 
--- What is to be verified: the names of the script's file and of the log's, and the commands that are connected.
+-- The arguments of a verification: the names of the script's file and of the log's, and the commands that are connected.
 pub record VerifyRequest : Type 0 where
   pub script : List ℕ
   pub log : List ℕ
   pub connects : List (List ℕ)
 
--- where a log of the program begins
+-- the origin of a log of the program
 abbrev pub log_origin : VerifyRequest → Program → Origin
 log_origin request program = origin_of program request.connects most_entries
 
--- no line is that of an entry that may come there, but for which a log has no room
+-- no line is that of a legal entry for which a log has no capacity
 abbrev pub HasRoom : Origin → List ℕ → Type 0
 HasRoom origin bytes = (number : ℕ) → IsCrowdedAt origin bytes number → ⊥
 
--- What is said of the bytes of a log that has this origin: this is the verdict on them,
+-- The finding on the bytes of a log that has this origin: this is the verdict on them,
 abbrev pub HasVerdict : Verdict → Origin → List ℕ → Type 0
 HasVerdict verdict origin bytes = IsVerdict origin bytes verdict × HasRoom origin bytes
 
--- or a log has no room for one of its entries.
+-- or a log has no capacity for one of its entries.
 abbrev pub IsCrowded : Origin → List ℕ → Type 0
 IsCrowded origin bytes = (number : ℕ) × IsCrowdedAt origin bytes number
 
--- The script has a program, the bytes of the log's file are loaded, and this is said of them.
+-- The script has a program, the bytes of the log's file are loaded, and this is the finding on them.
 pub record IsJudged (held : List ℕ → Option (List ℕ)) (request : VerifyRequest) (Says : Origin → List ℕ → Type 0) : Type 0 where
   pub program : Program
   pub has : HasProgram (held request.script) program
@@ -52,19 +52,19 @@ pub record IsJudged (held : List ℕ → Option (List ℕ)) (request : VerifyReq
   pub loaded : IsLoadedWithin most_log_bytes (held request.log) bytes
   pub says : Says (log_origin request program) bytes
 
--- by what names are told to hold, what is to be verified, and what was put
+-- by the reported content of the files, the arguments, and the written bytes
 abbrev pub VerifyOutcome : {A : Type 0} → (List ℕ → Option (List ℕ)) → VerifyRequest → Option (List ℕ) → Option (List ℕ) → Result A Fault → Type 0
 -- the log is a trace
 VerifyOutcome held request old new (Ok done) = IsJudged held request (HasVerdict verdict.Trace) × Writes old new trace_line
--- it is so, and the sink failed
+-- it is a trace, and the sink failed
 VerifyOutcome held request old new (Err Out) = IsJudged held request (HasVerdict verdict.Trace) × WritesPrefix old new trace_line
--- it is none from this line on
+-- it is no trace from this line on
 VerifyOutcome held request old new (Err (Log (log_wrong.Line number))) = IsJudged held request (HasVerdict (verdict.Line number)) × (new ≡ old)
 -- the script is accepted, and the log's file has so many bytes, too many
 VerifyOutcome held request old new (Err (Log (log_wrong.TooLong len))) = IsAccepted (held request.script) × IsLongerThan most_log_bytes (held request.log) len × (new ≡ old)
--- there is no room for an entry of the log
+-- there is no capacity for an entry of the log
 VerifyOutcome held request old new (Err (Limit bound.Events)) = IsJudged held request IsCrowded × (new ≡ old)
--- the script was refused
+-- the script was rejected
 VerifyOutcome held request old new (Err (Script fault)) = IsUnloaded (held request.script) (Script fault) × (new ≡ old)
 -- a file could not be read
 VerifyOutcome held request old new (Err File) = new ≡ old

@@ -1,4 +1,4 @@
--- What is seen of the outside, before a call and after it.
+-- What is seen of the environment, before a call and after it.
 use Rattle.std.specs.Prelude.{◌≡◌, ℕ, List, Option}
 use Rattle.std.specs.declared.alloc.Global.{Global}
 use Rattle.std.specs.declared.dyn_box.DynBox.{DynBox}
@@ -12,15 +12,15 @@ use Rattle.tb_edge.specs.declared.lane_pair.LanePair.{LanePair}
 use Rattle.tb_run.specs.Views.{OutsideView, outside_seen}
 
 pub record Seen : Type 0 where
-  -- what names hold, where the files tell it
+  -- the content of the files, as far as they report it
   pub held : List ℕ → Option (List ℕ)
-  -- the names that were asked for
+  -- the names of the requested files
   pub asked : List (List ℕ)
   pub file_faults : ℕ
   -- the lanes, the clock, the crew and the sink of the log
   pub outside : OutsideView
 
--- What is seen of files, lanes with boxed ends, a clock, a crew and the sink of the log: each tells it by its trait.
+-- What is seen of files, lanes with boxed ends, a clock, a crew and the sink of the log: each reports it through its trait.
 abbrev pub all_seen : {F X Y C P O : Type 0} {A : X → Type 0} {B : Y → Type 0} → FilesTell F → InletTells (DynBox X Global A) → OutletTells (DynBox Y Global B) → ClockTells C → CrewTells P → SinkTells O →
     F → List (LanePair X Y A B) → C → P → O → Seen
 all_seen files inlet outlet clock crew sink f lanes c p o =

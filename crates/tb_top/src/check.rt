@@ -11,7 +11,7 @@ use crate::fault::Fault;
 use std::alloc::Global;
 use tb_edge::{Failed, Files, Sink};
 
-/// Puts `ok` where the script in the file of this name is accepted.
+/// Writes `ok` if the script in the file of this name is accepted.
 pub fn check<F: Files, O: Sink>(
     alloc: Global,
     script: &str,
@@ -32,7 +32,7 @@ pub fn check<F: Files, O: Sink>(
     }
 }
 
-/// Says that a script is accepted.
+/// Writes `ok` and a newline.
 fn put_ok<O: Sink>(out: &mut O) -> Result<(), Fault>
     ensures outcome { (told : Option (List ℕ)) → IsAccepted told
         → CheckOutcome told (O.taken out.old) (O.taken out.new) result }

@@ -10,26 +10,26 @@ use tb_line::Line;
 use tb_script::ScriptFault;
 use tb_sim::SimEnd;
 
-/// Why what the words ask for did not end well. That this could not be said is a `Status` of its own.
+/// Why the command that the arguments request didn't end well. If this couldn't be written, that is a `Status` of its own.
 #[derive(Drop)]
 pub enum Fault {
-    /// The script was refused; never because memory ran out.
+    /// The script was rejected. Out of memory is never a reason for this.
     Script(ScriptFault),
-    /// The feed was refused; never because memory ran out.
+    /// The feed was rejected. Out of memory is never a reason for this.
     Feed(FeedFault),
-    /// The words were refused; never because memory ran out.
+    /// The arguments were rejected. Out of memory is never a reason for this.
     Words(WordFault),
     /// A file could not be read.
     File,
-    /// What was to be put could not be written.
+    /// The output could not be written.
     Out,
-    /// The clock failed; all else went on to its end.
+    /// The clock failed. All else went on to its end.
     Clock,
     /// There are too few threads.
     Crew,
     Limit(Bound),
     NoMemory,
-    /// The log was refused.
+    /// The log was rejected.
     Log(LogWrong),
     /// The script has no such tool.
     Stranger,
@@ -98,7 +98,7 @@ fn log_line(wrong: LogWrong) -> Line<'static>
     }
 }
 
-/// What a simulation ended so comes to, where all was put.
+/// The result of a simulation that ended so, after all was written.
 pub fn after_end(end: SimEnd) -> Result<(), Fault>
     ensures { EndsAs end result }
 {

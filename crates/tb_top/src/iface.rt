@@ -17,7 +17,7 @@ use tb_edge::{Failed, Files, Sink};
 use tb_iface::{IfaceFault, Interface, interface, write_interface};
 use tb_terms::{Name, NoMemory};
 
-/// Puts the interface of the tool of this name in the script in the file of the other name.
+/// Writes the interface of the tool of this name in the script in the other file.
 pub fn iface<F: Files, O: Sink>(
     alloc: Global,
     script: &str,
@@ -39,7 +39,7 @@ pub fn iface<F: Files, O: Sink>(
     }
 }
 
-/// The same of the program of some script.
+/// The same for the program of some script.
 fn iface_program<O: Sink>(
     alloc: Global,
     program: &Program,
@@ -59,7 +59,7 @@ fn iface_program<O: Sink>(
     }
 }
 
-/// The text of the interface of the tool of this name. A word that is no name is that of no tool.
+/// The text of the interface of the tool of this name. An argument that isn't a name is no tool's.
 fn interface_of(alloc: Global, program: &Program, tool: &str) -> Result<Vec<u8>, Fault>
     ensures ok { IfOk result (λ text. IsInterfaceText program.now tool.now text.items) }
     ensures err { IfErr result (HasNoInterface program.now tool.now) }
@@ -106,7 +106,7 @@ fn text_of(alloc: Global, tool: &Name, found: &Interface) -> Result<Vec<u8>, Fau
     }
 }
 
-/// Puts the text of an interface.
+/// Writes the text of an interface.
 fn put_interface<O: Sink>(text: &[u8], out: &mut O) -> Result<(), Fault>
     ensures outcome { (told : Option (List ℕ)) (tool : List ℕ) (found : Interface)
         → HasInterface told tool found → text.now ≡ interface_text tool found

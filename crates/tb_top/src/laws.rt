@@ -27,7 +27,7 @@ ghost use Rattle.tb_top.specs.Views.{Seen};
 
 use crate::status::{Bound, Edge, Status};
 
-/// What must end well ends well, unless something of the outside fails or memory runs out: `check` of a script that is accepted.
+/// Unless some part of the environment fails or memory runs out, a command ends well if it can: `check` of a script that is accepted.
 pub fn an_accepted_script_is_told()
     ensures { (script bytes : List ℕ) (program : Program) (old new : Seen)
         (told more : Option (List ℕ)) (status : Status) → old.held script ≡ Some bytes
@@ -39,7 +39,7 @@ pub fn an_accepted_script_is_told()
         → (status ≡ Status.Ended) ⊎ (status ≡ Status.NoMemory) }
 {}
 
-/// The same of `sim`, where the simulation ends with the bus down.
+/// The same for `sim`, if the simulation ends because the bus has shut down.
 pub fn a_simulation_that_ends_is_put()
     ensures { (request : Request) (old new : Seen) (told more : Option (List ℕ)) (status : Status)
         → MustEnd old.held request → (Rose old.file_faults new.file_faults → ⊥)
@@ -50,7 +50,7 @@ pub fn a_simulation_that_ends_is_put()
         → (status ≡ Status.Ended) ⊎ (status ≡ Status.NoMemory) }
 {}
 
-/// What there is to tell of a log is told by `verify`: whether it is a trace, at which line it is none, or that there is no room for it.
+/// `verify` reports the finding on a log: whether it is a trace, at which line it is none, or that there is no capacity for it.
 pub fn a_log_is_judged()
     ensures { (request : VerifyRequest) (due : Due) (old new : Seen) (told more : Option (List ℕ))
         (status : Status) → MustTell old.held request due
@@ -62,7 +62,7 @@ pub fn a_log_is_judged()
         → (status ≡ due_status due) ⊎ (status ≡ Status.NoMemory) }
 {}
 
-/// The same of `iface` of a script that is accepted: the interface is put of a tool of the script, and of no other word.
+/// The same for `iface` of a script that is accepted: the interface is written for a tool of the script, and for no other argument.
 pub fn a_tool_of_a_script_has_its_interface_put()
     ensures { (script tool bytes : List ℕ) (program : Program) (old new : Seen)
         (told more : Option (List ℕ)) (status : Status) → old.held script ≡ Some bytes
@@ -74,7 +74,7 @@ pub fn a_tool_of_a_script_has_its_interface_put()
         → (status ≡ tool_status (interface_of program tool)) ⊎ (status ≡ Status.NoMemory) }
 {}
 
-/// The same of `ring`, whatever the words ask for: its script is accepted, and its simulation ends by its own.
+/// The same for `ring` with any arguments: its script is accepted, and its simulation ends by itself.
 pub fn a_ring_is_put()
     ensures words { (words : List (List ℕ)) (n k : ℕ) (old new : Seen)
         (told more : Option (List ℕ)) (status : Status) → asked words ≡ Ok (Ring n k)
@@ -83,7 +83,7 @@ pub fn a_ring_is_put()
         → Reported {A = Unit {0}} (Comes (asked words) old new) told more status
         → (status ≡ Status.Ended) ⊎ (status ≡ Status.NoMemory) }
 
-    // The words ask for no other numbers than these.
+    // The arguments request no other numbers than these.
     ensures numbers { (n k : ℕ) (old new : Seen) (told more : Option (List ℕ)) (status : Status) → 2 ≤ n
         → n ≤ 10000 → 1 ≤ k → n * k ≤ 1000000
         → (Rose old.outside.out_faults new.outside.out_faults → ⊥)
@@ -92,8 +92,8 @@ pub fn a_ring_is_put()
         → (status ≡ Status.Ended) ⊎ (status ≡ Status.NoMemory) }
 {}
 
-/// The bytes that a run put are the text of one log alone: two runs whose whole text was put have the same log where they put
-/// the same bytes, whatever their scripts were.
+/// The written bytes of a run are the text of one log alone: if two runs wrote their whole texts, and wrote the same bytes, they have
+/// the same log, whatever their scripts were.
 pub fn a_run_has_one_log()
     ensures { (held other_held : List ℕ → Option (List ℕ)) (request other_request : RunRequest)
         (old new other_old other_new : OutsideView) (it other_it : RunWhy) (bytes : List ℕ)
@@ -104,7 +104,7 @@ pub fn a_run_has_one_log()
         → run.back.log ≡ other.back.log }
 {}
 
-/// The same of two simulations.
+/// The same for two simulations.
 pub fn a_simulation_has_one_log()
     ensures { (held other_held : List ℕ → Option (List ℕ)) (request other_request : Request)
         (log other : List Entry) (last other_last : SimEnd)
@@ -115,7 +115,7 @@ pub fn a_simulation_has_one_log()
         → HasPut bytes old new → HasPut bytes other_old other_new → log ≡ other }
 {}
 
-/// What `ring` puts of a ring: one step more than there are messages, the last of which is the shutdown.
+/// The summary that `ring` writes of a ring: one step more than there are messages, and the last one is the shutdown.
 pub fn a_ring_has_one_summary()
     ensures words { (words : List (List ℕ)) (n k : ℕ) (log : List Entry) (last : SimEnd)
         → asked words ≡ Ok (Ring n k) → IsRingOf n k log last
@@ -127,8 +127,8 @@ pub fn a_ring_has_one_summary()
         ++ decimal (n * k + 1) ++ codes " end " ++ codes "shutdown" ++ 10 ∷ []) }
 {}
 
-/// The same of `run` of a script that is accepted, where neither the clock nor the crew fails, unless the log is full: then
-/// the run ended for that.
+/// The same for `run` of a script that is accepted, if neither the clock nor the crew fails, unless the log is full: then the run ended
+/// for that.
 pub fn a_run_of_an_accepted_script_ends()
     ensures { (request : RunRequest) (bytes : List ℕ) (program : Program) (old new : Seen)
         (told more : Option (List ℕ)) (status : Status)

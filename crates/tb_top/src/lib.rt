@@ -1,4 +1,4 @@
-//! The whole ToolBus, from the words of the command line on.
+//! The whole ToolBus, from the arguments of the command line on.
 #![tactic(auto)]
 
 mod accepting;

@@ -1,4 +1,4 @@
-//! How the files that a command asks for are loaded.
+//! How the files of a command are loaded.
 ghost use Rattle.std.specs.Prelude.{◌≡◌, ◌≤◌, [], ◌∷◌, Some, IfOk, IfErr, Err};
 ghost use Rattle.tb_edge.specs.Faults.{Rose};
 ghost use Rattle.tb_feed.specs.Feeds.{IsFeedOf};
@@ -19,7 +19,7 @@ use tb_load::{LoadFault, MOST_BYTES};
 use tb_script::{ScriptFault, load};
 use tb_terms::Text;
 
-/// A longer file of a log is refused.
+/// A longer file of a log is rejected.
 const MOST_LOG_BYTES: usize = 67_108_864;
 
 /// The program of the script in the file of this name.
@@ -51,7 +51,7 @@ pub fn load_bytes(alloc: Global, bytes: &[u8]) -> Result<Program, Fault>
     }
 }
 
-/// The feed in the file of this name, or an empty one where there is no name.
+/// The feed in the file of this name, or an empty one if there is no name.
 pub fn load_feed<F: Files>(alloc: Global, name: &Option<Text>, files: &mut F) -> Result<Feed, Fault>
     ensures ok { IfOk result (IsFed (F.held files.old) name.now) }
     ensures err { IfErr result (IsUnread (F.held files.old) name.now) }

@@ -1,4 +1,4 @@
-//! What is said of an answer on standard error.
+//! The line on standard error for an answer.
 ghost use Rattle.std.specs.Prelude.{◌≡◌};
 ghost use Rattle.tb_edge.specs.Faults.{Rose};
 ghost use Rattle.tb_top.specs.Reporting.{Reports};
@@ -8,7 +8,7 @@ use crate::status::{Edge, Status};
 use tb_edge::{Failed, Sink};
 use tb_write::put_line;
 
-/// Puts the line of a fault, where there is one.
+/// Writes the line of an error, if there is one.
 pub fn report<E: Sink>(answer: Result<(), Fault>, err: &mut E) -> Status
     ensures reports { Reports answer (E.taken err.old) (E.taken err.new) result }
     ensures rose { result ≡ Status.Outside Edge.Err → Rose (E.faults err.old) (E.faults err.new) }

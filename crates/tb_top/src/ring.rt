@@ -1,4 +1,4 @@
-//! `ring`: a summary of the simulation of processes in a ring that hand on messages.
+//! `ring`: a summary of the simulation of processes in a ring that pass messages on.
 ghost use Rattle.std.specs.Prelude.{◌≡◌, ◌≤◌, ◌*◌, ◌++◌, [], false, Err, IfOk, IfErr, OnOk, OnErr, sum_by, length, decimal};
 ghost use Rattle.tb_edge.specs.Faults.{Rose};
 ghost use Rattle.tb_edge.specs.Sinks.{Writes, WritesPrefix};
@@ -28,7 +28,7 @@ const MOST_STEPS: u64 = 4_000_000;
 /// How many entries its log may have.
 const MOST_EVENTS: u32 = 4_000_000;
 
-/// Puts a summary of the simulation of `n` processes in a ring, round which a message goes `k` times.
+/// Writes a summary of the simulation of `n` processes in a ring, round which a message goes `k` times.
 pub fn ring<O: Sink>(alloc: Global, n: u32, k: u32, out: &mut O) -> Result<(), Fault>
     requires few { 2 ≤ n }
     requires many { n ≤ 10000 }
@@ -47,7 +47,7 @@ pub fn ring<O: Sink>(alloc: Global, n: u32, k: u32, out: &mut O) -> Result<(), F
     }
 }
 
-/// The same of the program of the ring's script.
+/// The same for the program of the ring's script.
 fn ring_program<O: Sink>(alloc: Global, program: Program, n: u32, out: &mut O) -> Result<(), Fault>
     ensures outcome { IsRingSimulated program n (O.taken out.old) (O.taken out.new) result }
     ensures behind { IfErr result IsBehindFeed }
@@ -87,7 +87,7 @@ fn ring_core<O: Sink>(
     }
 }
 
-/// Puts the summary of a simulation that ended so.
+/// Writes the summary of a simulation that ended so.
 fn put_summary<O: Sink>(
     alloc: Global,
     n: u32,

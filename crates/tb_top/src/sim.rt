@@ -25,8 +25,8 @@ use tb_terms::{NoMemory, Text, Texts};
 use tb_walk::Walk;
 use tb_write::{LogFault, put_log};
 
-/// Puts the log of the simulation of the script in the file of this name, which begins with each command connected, hands in
-/// what the feed says, makes so many steps and logs so many entries at most.
+/// Writes the log of the simulation of the script in the file of this name. The simulation begins with each command connected, delivers
+/// the inputs of the feed, and makes at most so many steps and entries of the log.
 pub fn sim<F: Files, O: Sink>(
     alloc: Global,
     script: &str,
@@ -54,7 +54,7 @@ pub fn sim<F: Files, O: Sink>(
     }
 }
 
-/// The same of the program of some script.
+/// The same for the program of some script.
 fn sim_program<F: Files, O: Sink>(
     alloc: Global,
     program: Program,
@@ -134,7 +134,7 @@ fn sim_core<O: Sink>(
     }
 }
 
-/// Puts the log of a simulation that ended so. A log has proper entries alone.
+/// Writes the log of a simulation that ended so. All entries of the log are well-formed.
 fn put_simulation<O: Sink>(alloc: Global, log: &Log, end: SimEnd, out: &mut O) -> Result<(), Fault>
     ensures outcome { PutsText (log_text log.now.entries) end
         (O.taken out.old) (O.taken out.new) result }

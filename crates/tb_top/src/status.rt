@@ -2,7 +2,7 @@ use tb_cli::WordFault;
 use tb_feed::FeedFault;
 use tb_script::ScriptFault;
 
-/// Which part of the outside failed.
+/// The part of the environment that failed.
 #[derive(Clone, Copy, Debug, PartialEq, Eq)]
 pub enum Edge {
     File,
@@ -12,39 +12,39 @@ pub enum Edge {
     Crew,
 }
 
-/// Which limit was reached.
+/// The limit that was reached.
 #[derive(Clone, Copy, Debug, PartialEq, Eq)]
 pub enum Bound {
     Steps,
-    /// The log had no room for the next entry.
+    /// The log had no capacity for the next entry.
     Events,
 }
 
-/// Why a log was refused.
+/// Why a log was rejected.
 #[derive(Clone, Copy, Debug, PartialEq, Eq)]
 pub enum LogWrong {
     /// The lines before the line of this number, from 1, are a trace. With this line they aren't.
     Line(u64),
-    /// The file of the log has so many bytes, too many.
+    /// The file of the log has so many bytes, which are too many.
     TooLong(usize),
 }
 
-/// How a call of the program ended. Running out of memory is `NoMemory` alone, whichever part met it.
+/// How a call of the program ended. Out of memory is `NoMemory` alone, in whichever part it occurs.
 #[derive(Debug, Drop)]
 pub enum Status {
     Ended,
-    /// The script was refused; never because memory ran out.
+    /// The script was rejected. Out of memory is never a reason for this.
     Script(ScriptFault),
-    /// The feed was refused; never because memory ran out.
+    /// The feed was rejected. Out of memory is never a reason for this.
     Feed(FeedFault),
-    /// The words were refused; never because memory ran out.
+    /// The arguments were rejected. Out of memory is never a reason for this.
     Words(WordFault),
     Outside(Edge),
     Limit(Bound),
     NoMemory,
     /// The log isn't a trace of the script, or is too long to be checked.
     Log(LogWrong),
-    /// The script has no tool of the name that was asked for.
+    /// The script has no tool of the requested name.
     Stranger,
 }
 

@@ -22,15 +22,15 @@ use std::thread::Threads;
 use tb_cli::{Command, WordFault, read_words};
 use tb_edge::{Clock, Crew, Files, Inlet, LanePair, Outlet, Sink};
 
-/// Does what the words of the command line ask for. `check SCRIPT` puts `ok` and a newline to `out`
-/// where the script in that file is accepted; `sim SCRIPT [--feed FILE] [--connect COMMAND] [--steps N] [--events N]`
-/// puts the log of its simulation, which begins with each command connected, hands in what the feed in that file says,
-/// makes so many steps and logs so many entries at most; `run SCRIPT [--connect COMMAND] [--ticks N] [--events N]` runs it
-/// over the tools of the lanes and puts its log while it runs; `ring N K` puts a summary of the simulation of N processes in a
-/// ring, round which a message goes K times. `verify SCRIPT LOG [--connect COMMAND]` puts `trace` and a newline where the log in
-/// the second file is a trace of the script, which begins with each command connected; `iface SCRIPT TOOL` puts the interface of
-/// the tool of this name: the lines that it may receive, and those of it that a process may take.
-/// Each status but `Ended` puts its one line to `err`, and where `err` fails at that, the status is `Outside(Err)`.
+/// Does what the arguments of the command line request. `check SCRIPT` writes `ok` and a newline to `out` if the script in that file
+/// is accepted. `sim SCRIPT [--feed FILE] [--connect COMMAND] [--steps N] [--events N]` writes the log of the script's simulation.
+/// The simulation begins with each command connected, delivers the inputs of the feed in that file, and makes at most so many
+/// steps and entries of its log. `run SCRIPT [--connect COMMAND] [--ticks N] [--events N]` runs the script over the tools of the
+/// lanes, and writes its log while it runs. `ring N K` writes a summary of the simulation of N processes in a ring that a message
+/// goes round K times. `verify SCRIPT LOG [--connect COMMAND]` writes `trace` and a newline if the log in the second file is a
+/// trace of the script, which begins with each command connected. `iface SCRIPT TOOL` writes the interface of the tool of this
+/// name: the lines that it may receive, and the lines of it that a process may take. Each status except `Ended` writes its one
+/// line to `err`. If `err` fails at that, the status is `Outside(Err)`.
 pub fn toolbus<R: Threads + Wait + Sync, F: Files, O: Sink, E: Sink, C: Clock + Send, P: Crew>(
     rt: &R,
     alloc: Global,
@@ -43,7 +43,7 @@ pub fn toolbus<R: Threads + Wait + Sync, F: Files, O: Sink, E: Sink, C: Clock + 
     crew: &mut P,
 ) -> Status
     requires { vec_len lanes.old ≡ 16 }
-    // Which status comes when, and what was put and asked for then.
+    // Which status comes when, and the bytes written and the files requested then.
     ensures outcome { let seen = all_seen F.Files ⟦<Box<dyn Inlet + Send> as Inlet>⟧
         ⟦<Box<dyn Outlet + Send> as Outlet>⟧ C.Clock P.Crew O.Sink in
         Reported {A = Unit {0}}
@@ -52,11 +52,11 @@ pub fn toolbus<R: Threads + Wait + Sync, F: Files, O: Sink, E: Sink, C: Clock + 
         (seen files.new lanes.new.items clock.new crew.new out.new))
         (E.taken err.old) (E.taken err.new) result }
 
-    // Whatever the status, only files that the words name are asked for, in their order.
+    // With any status, only files that the arguments name are requested, in their order.
     ensures asks { AsksSome (files_of (asked (map string_bytes words.now.items)))
         (F.asked files.old) (F.asked files.new) }
 
-    // A thing of the outside is named only where it failed in this call.
+    // A part of the environment is named only if it failed in this call.
     ensures file_rose { result ≡ Status.Outside Edge.File
         → Rose (F.faults files.old) (F.faults files.new) }
     ensures out_rose { result ≡ Status.Outside Edge.Out
@@ -73,7 +73,7 @@ pub fn toolbus<R: Threads + Wait + Sync, F: Files, O: Sink, E: Sink, C: Clock + 
     report(answer, err)
 }
 
-/// Does what the words ask for.
+/// Does what the arguments request.
 fn answer<R: Threads + Wait + Sync, F: Files, O: Sink, C: Clock + Send, P: Crew>(
     rt: &R,
     alloc: Global,

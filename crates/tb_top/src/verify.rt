@@ -17,8 +17,8 @@ use tb_terms::Texts;
 use tb_verify::{Verdict, VerifyFault, verify};
 use tb_walk::Walk;
 
-/// Puts `trace` where the log in the file of this name is a trace of the script in the other file, which begins with each command
-/// connected.
+/// Writes `trace` if the log in the file of this name is a trace of the script in the other file. The trace's bus begins with each
+/// command connected.
 pub fn verify_log<F: Files, O: Sink>(
     alloc: Global,
     script: &str,
@@ -43,7 +43,7 @@ pub fn verify_log<F: Files, O: Sink>(
     }
 }
 
-/// The same of the program of some script.
+/// The same for the program of some script.
 fn verify_program<F: Files, O: Sink>(
     alloc: Global,
     program: Program,
@@ -69,7 +69,7 @@ fn verify_program<F: Files, O: Sink>(
     }
 }
 
-/// The same of these bytes of the log.
+/// The same for these bytes of the log.
 fn verify_bytes<O: Sink>(
     alloc: Global,
     program: Program,
@@ -93,7 +93,7 @@ fn verify_bytes<O: Sink>(
     }
 }
 
-/// Says that a log is a trace.
+/// Writes `trace` and a newline.
 fn put_trace<O: Sink>(out: &mut O) -> Result<(), Fault>
     ensures outcome { (held : List ℕ → Option (List ℕ)) (request : VerifyRequest)
         → IsJudged held request (HasVerdict Verdict.Trace)

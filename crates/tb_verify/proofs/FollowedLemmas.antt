@@ -1,4 +1,4 @@
--- A core that follows a log line by line, and what it comes to.
+-- A core that follows a log line by line, and its result.
 use Rattle.std.proofs.Common.{◌≡◌, ◌⊎◌, ◌+◌, ◌<◌, ◌≤◌, ℕ, suc, nat_eq, nat_le, not, Bool, true, false, List, [], ◌∷◌, ◌++◌, length, map, Some, Result, Ok, Err, refl, ap, sym, ◌∙◌, subst, inl, inr, arith, append-nil, length-append}
 use Rattle.std.specs.Prelude.{IfOk}
 use Rattle.std.proofs.lemmas.Bool.{and_from, and_parts, eqb-true, false≢true, le-leb, leb-true}
@@ -37,7 +37,7 @@ log-append (entry ∷ one) other =
 one-entry : (entry : Entry) (more : List Entry) → log_size (entry ∷ more) ≡ entry_size entry + log_size more
 one-entry entry more = sum_by-cons (λ (n : ℕ). n) (entry_size entry) (map entry_size more)
 
--- a log within its limits had room for each of its entries
+-- a log within its limits had capacity for each of its entries
 had_room : (limit : ℕ) (log more whole : List Entry) (entry : Entry) → IsWithin limit whole → whole ≡ log ++ entry ∷ more → has_room limit log entry ≡ true
 had_room limit log more whole entry w is =
     let long : length whole ≡ length log + suc (length more) = ap (λ (l : List Entry). length l) is ∙ length-append log (entry ∷ more) in
@@ -49,7 +49,7 @@ had_room limit log more whole entry w is =
     let b : log_size log + entry_size entry ≤ most_size = omega arith in
     and_from (nat_le (length log + 1) limit) (nat_le (log_size log + entry_size entry) most_size) (le-leb (length log + 1) limit a) (le-leb (log_size log + entry_size entry) most_size b)
 
--- and a log that had room for an entry is within its limits with it
+-- and a log that had capacity for an entry is within its limits with it
 stays_within : (limit : ℕ) (log whole : List Entry) (entry : Entry) → has_room limit log entry ≡ true → whole ≡ log ++ entry ∷ [] → IsWithin limit whole
 stays_within limit log whole entry h is =
     let p = and_parts (nat_le (length log + 1) limit) (nat_le (log_size log + entry_size entry) most_size) h in
@@ -81,7 +81,7 @@ there : (b : Bool) → not b ≡ false → b ≡ true
 there true h = refl
 there false h = absurd (false≢true (sym h))
 
--- what becomes of the entry of a line becomes of the line
+-- the effect of a line's entry is the effect of the line
 pub follows-line : (old new : CoreState) (number : ℕ) (line : List ℕ) (entry : Entry) (legal : Bool) → IsLine number entry line → Follows old entry legal new → (legal ≡ true → lacks_room old (Some entry) ≡ false) → FollowsLine old number line legal new
 follows-line old new number line entry true is f room = (entry, is, f, there (has_room old.origin.limit old.log entry) (room refl))
 follows-line old new number line entry false is f room = λ other next it legal.
@@ -114,7 +114,7 @@ not_crowded origin bytes rest core f number c less =
     let room : has_room origin.limit c.log past.entry ≡ true = had_room origin.limit c.log past.more core.log past.entry f.within past.is in
     false≢true (sym c.full ∙ ap (λ (e : Entry). has_room origin.limit c.log e) (sym same) ∙ room)
 
--- What it comes to.
+-- Its result.
 
 -- to the end
 pub settles-trace : (origin : Origin) (bytes rest : List ℕ) (core : CoreState) → IsFollowed origin bytes rest core → rest ≡ [] → Settles origin bytes (Ok verdict.Trace)
@@ -150,7 +150,7 @@ lacking : (b : Bool) → not b ≡ true → b ≡ false
 lacking true h = absurd (false≢true h)
 lacking false h = refl
 
--- to a line for which there is no room
+-- to a line for which there is no capacity
 settles-full : (origin : Origin) (bytes rest : List ℕ) (number : ℕ) (core : CoreState) → IsFollowed origin bytes rest core → (rest ≡ [] → ⊥) → number ≡ length core.log + 1 → IsCrowdedLine core number (first_line rest) → Settles origin bytes (Err fault.Full)
 settles-full origin bytes rest number core f some count h =
     let entry = h.0 in
@@ -169,7 +169,7 @@ settles-full origin bytes rest number core f some count h =
       },
     )
 
--- or to a fault
+-- or an error
 pub settles-fault : (origin : Origin) (bytes rest line : List ℕ) (number : ℕ) (core : CoreState) (it : VerifyFault) → IsFollowed origin bytes rest core → (rest ≡ [] → ⊥) → line ≡ first_line rest → number ≡ length core.log + 1 → (it ≡ fault.Full → IsCrowdedLine core number line) → Settles origin bytes (Err it)
 settles-fault origin bytes rest line number core fault.Full f some first count h =
     settles-full origin bytes rest number core f some count (subst (λ (l : List ℕ). IsCrowdedLine core number l) first (h refl))

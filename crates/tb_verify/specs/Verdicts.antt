@@ -1,4 +1,4 @@
--- Whether bytes are the text of a trace, at which line they stop being one, and for the entry of which line a log has no room.
+-- Whether bytes are the text of a trace, at which line they stop being one, and for which line's entry a log has no capacity.
 use Rattle.std.specs.Prelude.{◌≡◌, ◌≢◌, ℕ, ◌+◌, List, [], ◌++◌, length, false}
 use Rattle.tb_bus.specs.Buses.{Bus, start}
 use Rattle.tb_bus.specs.Traces.{IsLegal, IsTrace, replay}
@@ -25,7 +25,7 @@ pub record IsTraceBefore (origin : Origin) (bytes : List ℕ) (number : ℕ) (lo
   pub is_there : rest ≢ []
   pub trace : IsTrace (start origin) log
 
--- This line is the line of no entry with its number that is legal after the entries before it.
+-- No entry that is legal after the entries before it has this line and this number.
 pub record LeavesAt (origin : Origin) (bytes : List ℕ) (number : ℕ) : Type 0 where
   pub log : List Entry
   pub rest : List ℕ
@@ -33,7 +33,7 @@ pub record LeavesAt (origin : Origin) (bytes : List ℕ) (number : ℕ) : Type 0
   pub is_none : (entry : Entry) (next : Bus) → IsLine number entry (first_line rest)
       → IsLegal (replay (start origin) log) entry next → ⊥
 
--- This line is that of an entry that is legal after the entries before it, and a log of the origin has no room for it.
+-- This line is that of an entry that is legal after the entries before it, and a log of the origin has no capacity for it.
 pub record IsCrowdedAt (origin : Origin) (bytes : List ℕ) (number : ℕ) : Type 0 where
   pub log : List Entry
   pub rest : List ℕ
@@ -44,7 +44,7 @@ pub record IsCrowdedAt (origin : Origin) (bytes : List ℕ) (number : ℕ) : Typ
   pub legal : IsLegal (replay (start origin) log) entry next
   pub full : has_room origin.limit log entry ≡ false
 
--- what a verdict says of the bytes
+-- what a verdict claims of the bytes
 abbrev pub IsVerdict : Origin → List ℕ → Verdict → Type 0
 IsVerdict origin bytes verdict.Trace = IsTraceText origin bytes
 IsVerdict origin bytes (verdict.Line number) = LeavesAt origin bytes number

@@ -1,6 +1,6 @@
 use tb_terms::NoMemory;
 
-/// What a log is, as a log of a program.
+/// The verdict on a log of a program.
 #[derive(Clone, Copy, Debug, PartialEq, Eq)]
 pub enum Verdict {
     /// The log is a trace of the program.
@@ -14,7 +14,7 @@ pub enum Verdict {
 pub enum VerifyFault {
     /// The log goes on past the limits of a log.
     Full,
-    /// There wasn't memory enough; it says nothing of the log.
+    /// Out of memory. This says nothing of the log.
     NoMemory,
 }
 

@@ -19,10 +19,10 @@ use tb_terms::Texts;
 /// How many entries a log has at most.
 const MOST_ENTRIES: u32 = 4_000_000;
 
-/// Returns whether the bytes are the text of a trace of the program, of which the first lanes are started with these commands, or
-/// else the first line at which they aren't. The call reads line by line, and keeps one core. A log has at most 4,000,000 entries
-/// and the sizes that a core allows; if a legal entry passes these limits, the call returns `Full`. The memory of the core stays
-/// taken until the program ends.
+/// Returns whether the bytes are the text of a trace of the program, or the first line at which they aren't. The first lanes of the
+/// trace's bus are started with these commands. The call reads line by line, and keeps one core. A log has at most 4,000,000
+/// entries and the sizes that a core allows. If a legal entry passes these limits, the call returns `Full`. The memory of the core
+/// stays taken until the program ends.
 pub fn verify<W: Walker>(
     alloc: Global,
     program: Program,
@@ -33,14 +33,14 @@ pub fn verify<W: Walker>(
     ensures verdict { IfOk result
         (IsVerdict (origin_of program connects.now most_entries) log.now) }
 
-    // Nothing else keeps the verdict from being told.
+    // If the bytes have a verdict, the call returns it, or one of these errors.
     ensures only { (verdict : Verdict)
         → IsVerdict (origin_of program connects.now most_entries) log.now verdict
         → (result ≡ Ok verdict) ⊎ ((result ≡ Err VerifyFault.Full) ⊎ (result ≡ Err VerifyFault.NoMemory)) }
     ensures full { result ≡ Err VerifyFault.Full → (number : ℕ)
         × IsCrowdedAt (origin_of program connects.now most_entries) log.now number }
 
-    // A legal entry for which there is no room is told.
+    // If a log has no capacity for a legal entry, the call returns an error.
     ensures crowded { (number : ℕ)
         → IsCrowdedAt (origin_of program connects.now most_entries) log.now number
         → (result ≡ Err VerifyFault.Full) ⊎ (result ≡ Err VerifyFault.NoMemory) }
@@ -53,7 +53,7 @@ pub fn verify<W: Walker>(
     verdict
 }
 
-/// Follows a log on a core that was just started.
+/// Follows a log with a core that was just started.
 fn verify_lines<W: Walker>(
     alloc: Global,
     core: &mut Core<W>,
@@ -78,7 +78,7 @@ fn verify_lines<W: Walker>(
     Ok(Verdict::Trace)
 }
 
-/// Follows the entry whose line this is, with this number. Returns `false` where it is the line of none that may come next.
+/// Follows the entry of this line, which has this number. Returns `false` if no entry that may come next has this line.
 fn follow_line<W: Walker>(
     alloc: Global,
     core: &mut Core<W>,

@@ -1,4 +1,4 @@
--- What values are that have no fault.
+-- The values of arguments without an error.
 use Rattle.std.specs.Prelude.{◌≡◌, ℕ, ◌*◌, ◌≤◌, ◌<◌, ◌^◌, List, [], ◌∷◌, ◌++◌, length, take, get_or, slice_get, Some, IsTrue, ⊤}
 use Rattle.tb_terms.specs.Names.{is_text}
 use Rattle.tb_read.specs.Spelling.{digits_value}
@@ -19,7 +19,7 @@ row_by verb.Verify = verify
 row_by verb.Iface = iface
 row_by verb.Ring = ring
 
--- a value behind those that were given before under the same name
+-- a value after those that were given before under the same name
 abbrev pub Fits : Kind → List (List ℕ) → List ℕ → Type 0
 Fits File before value = IsTrue (is_text value)
 Fits kind.Command before value = IsTrue (is_text value)
@@ -47,7 +47,7 @@ pub record OperandFits (place : ℕ) (kind : Kind) (parts : List Part) : Type 0 
   pub there : place < length (operands_of parts)
   pub fits : Fits kind (take place (operands_of parts)) (operand place parts)
 
--- for all options that words may have, and all their operands
+-- for all options that arguments may have, and all their operands
 pub record FormFits (form : Form) (parts : List Part) : Type 0 where
   pub option : (option : Setting) → option_named form.options option.name ≡ Some option → OptionFits option parts
   pub operand : (place : ℕ) (kind : Kind) → slice_get form.operands place ≡ Some kind → OperandFits place kind parts

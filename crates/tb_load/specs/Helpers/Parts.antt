@@ -1,10 +1,10 @@
--- What the parts of a load say to each other and to the calls that use them.
+-- What the parts of a load guarantee to each other and to the calls that use them.
 use Rattle.std.specs.Prelude.{◌≡◌, ◌⊎◌, ℕ, List, ◌++◌, Result, Err}
 use Rattle.tb_load.specs.Loading.{IsRefused}
 use Rattle.tb_load.specs.declared.fault.LoadFault.{LoadFault}
 use Rattle.tb_load.specs.declared.fault.LoadFault.TheVariants.{Script, File, NoMemory}
 
--- these names were asked for, or perhaps none where memory ran out
+-- these files were requested, or perhaps none if memory ran out
 abbrev pub AsksFor : {A : Type 0} → List (List ℕ) → List (List ℕ) → List (List ℕ) → Result A LoadFault → Type 0
 AsksFor names old new (Err NoMemory) = (new ≡ old) ⊎ (new ≡ old ++ names)
 AsksFor names old new _ = new ≡ old ++ names

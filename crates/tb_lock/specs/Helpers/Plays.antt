@@ -1,4 +1,4 @@
--- What each kind of atomic step tells the seat that makes it, and what the parts of a turn leave behind.
+-- What a seat learns from each kind of atomic step that it makes, and the state after each part of a turn.
 use Rattle.std.specs.Prelude.{◌≡◌, ◌≢◌, ℕ, ◌%◌, ◌^◌, ◌<◌, List, [], ◌∷◌, ◌++◌, length, Bool, true, false, ◌||◌, Option, Some, None, option_to_list, Result, IfOk, OnErr, IsErrOf, IsTrue, ◌↔◌}
 use Rattle.atomic_table.specs.Table.{Me}
 use Rattle.atomic_table.specs.Seated.{TableId}
@@ -22,7 +22,7 @@ HolderState = Me (Option CoreState) SeatView
 abbrev pub IsBoard : TableId → Type 0
 IsBoard id = (id.words ≡ 2) × (id.slots ≡ 1)
 
--- Draw a turn: the word is the ticket, as far as 64 bits hold it.
+-- Draw a turn: the word is the ticket modulo 2 to the 64th.
 abbrev pub Draws : HolderState → ℕ → HolderState → Type 0
 Draws me found after = (ticket : ℕ) × (found ≡ ticket % 2 ^ 64) × (after ≡ (record me.0 { stage = Waiting ticket }, me.1))
 
@@ -30,7 +30,7 @@ Draws me found after = (ticket : ℕ) × (found ≡ ticket % 2 ^ 64) × (after �
 abbrev pub TakesSlot : ℕ → HolderState → HolderState → Type 0
 TakesSlot ticket me after = (core : CoreState) × (after ≡ (record me.0 { seen = core.log; stage = Serving ticket core.stopped }, (0, Some core) ∷ me.1)) × Meets me.0 core
 
--- Read whose turn it is: where it is this seat's, the slot is taken, and else nothing changes.
+-- Read whose turn it is: if it is this seat's, the slot is taken; if not, nothing changes.
 abbrev pub Reads : HolderState → ℕ → HolderState → Type 0
 Reads me found after = (ticket : ℕ) → me.0.stage ≡ Waiting ticket → (found ≡ ticket % 2 ^ 64 → TakesSlot ticket me after) × (found ≢ ticket % 2 ^ 64 → after ≡ me)
 
@@ -51,16 +51,16 @@ noting seat logged stopped = record seat {
   told = seat.told || stopped;
 }
 
--- Note a call: the core in hand has logged one entry at most since it was taken, which is seen, and is the seat's own.
+-- Note a call: since the core was taken, it has logged one entry at most. The seat has seen this entry, and the entry is the seat's own.
 abbrev pub Notes : HolderState → ℕ → HolderState → Type 0
 Notes me found after =
     (core : CoreState) × (logged : Option Entry) × (in_hand me.1 ≡ Some core) × (core.log ≡ me.0.seen ++ option_to_list logged) × (after ≡ (noting me.0 logged core.stopped, me.1))
 
--- a seat that has stopped the core in hand
+-- a seat that has stopped the taken core
 abbrev pub stopping : ℕ → SeatView → SeatView
 stopping ticket seat = record seat { called = true; told = true; stage = Serving ticket true }
 
--- Note that the core in hand was stopped.
+-- Note that the taken core was stopped.
 abbrev pub Stops : HolderState → ℕ → HolderState → Type 0
 Stops me found after = (ticket : ℕ) (mark : Bool) → me.0.stage ≡ Serving ticket mark → after ≡ (stopping ticket me.0, me.1)
 
@@ -78,11 +78,11 @@ Looks me found after =
     (one : List Entry) (rights : Rights) (other : List Entry) (more : Rights) → me.0.stage ≡ Joined one rights other more
     → (after ≡ (record me.0 { stage = Idle }, me.1)) × Grows rights one me.0.seen × Grows more other me.0.seen
 
--- What a turn leaves behind: the seat has seen the history as far as the core in hand goes, and holds the empty slot.
+-- The state after a turn: the seat has seen the history as far as the log of the taken core, and holds the empty slot.
 abbrev pub HasTurn : SeatView → CoreState → HolderState → Type 0
 HasTurn seat core me = (ticket : ℕ) × (me ≡ (record seat { seen = core.log; stage = Serving ticket core.stopped }, (0, None) ∷ []))
 
--- What a call that may log an entry has made of the core in hand, and how it was answered.
+-- The effect of a call that may log an entry on the taken core, and its answer.
 pub record Answers {A : Type 0} (Finds : CoreState → A → Type 0) (call : Call) (old new : CoreState) (result : Result A CoreFault) : Type 0 where
   pub finds : IfOk result (Finds old)
   pub logs : IfOk result (λ _. Logs old new (entries_of old call))
@@ -91,7 +91,7 @@ pub record Answers {A : Type 0} (Finds : CoreState → A → Type 0) (call : Cal
   pub room : IfOk result (λ _. is_full old call ≡ false)
   pub stays : OnErr result (Stays old new)
 
--- A seat whose turn is open may note this entry, or none, which the core in hand has logged since it was taken.
+-- A seat whose turn is open may note this entry, or none. The taken core has logged it since it was taken.
 pub record Adds (seat : SeatView) (core : CoreState) (logged : Option Entry) : Type 0 where
   pub origin : core.origin ≡ seat.origin
   pub log : core.log ≡ seat.seen ++ option_to_list logged

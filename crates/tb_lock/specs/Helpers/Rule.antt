@@ -1,4 +1,4 @@
--- The rule that every atomic step keeps: of the two words, where the core is and all seats.
+-- The rule that every atomic step keeps: for the two words, the place of the core, and all seats.
 use Rattle.std.specs.Prelude.{◌≡◌, ◌≢◌, ◌⊎◌, ◌≤◌, ◌<◌, ◌+◌, ◌%◌, ◌^◌, ℕ, List, [], ◌∷◌, Bool, true, false, Option, Some, None, sum_by, ⊤}
 use mathlib.Core.Option.{some, none}
 use lib.ListN.{get_elem?}
@@ -17,7 +17,7 @@ use Rattle.tb_lock.specs.Seats.{SeatView, Stage, Opening, Idle, Waiting, Serving
 abbrev pub BoardState : Type 0
 BoardState = State (Option CoreState) SeatView
 
--- the ticket of a seat that waits for its turn, or has it
+-- the ticket of a seat that waits for its turn, or whose turn is open
 abbrev pub ticket_of : Stage → Option ℕ
 ticket_of Opening = Some 0
 ticket_of Idle = None
@@ -25,7 +25,7 @@ ticket_of (Waiting ticket) = Some ticket
 ticket_of (Serving ticket mark) = Some ticket
 ticket_of (Joined one rights other more) = None
 
--- one for a seat that has a ticket
+-- 1 for a seat that has a ticket
 abbrev pub tickets : Stage → ℕ
 tickets Opening = 1
 tickets Idle = 0
@@ -41,7 +41,7 @@ has_turn (Waiting ticket) = false
 has_turn (Serving ticket mark) = true
 has_turn (Joined one rights other more) = false
 
--- What holds of a seat by how far it has come, where so many tickets were drawn and turns passed on.
+-- What holds for a seat at its stage, after so many tickets were drawn and turns were passed on.
 abbrev pub FitsStage : List Entry → Bool → ℕ → ℕ → SeatView → Stage → Type 0
 FitsStage log stopped served drawn seat Opening = ⊥
 FitsStage log stopped served drawn seat Idle = ⊤
@@ -49,7 +49,7 @@ FitsStage log stopped served drawn seat Idle = ⊤
 FitsStage log stopped served drawn seat (Waiting ticket) = (served ≤ ticket) × (ticket < drawn)
 -- it is served, has seen the whole history, and knows whether the core is stopped
 FitsStage log stopped served drawn seat (Serving ticket mark) = (ticket ≡ served) × (ticket < drawn) × (seat.seen ≡ log) × (mark ≡ stopped)
--- it has the rights of both, and has seen the longer of what they had seen, of which each had the entries of its rights
+-- it has the rights of both seats, and has seen the longer of their two logs; each had seen the entries of its rights
 FitsStage log stopped served drawn seat (Joined one rights other more) =
     (seat.seen ≡ longer one other) × Grows rights one log × Grows more other log × AreAmong rights seat.rights × AreAmong more seat.rights
 
@@ -62,7 +62,7 @@ pub record Fits (origin : Origin) (log : List Entry) (stopped : Bool) (served dr
   pub grows : Grows seat.rights seat.seen log
   pub mine : AreIn seat.seen 0 seat.mine
   pub stage : FitsStage log stopped served drawn seat seat.stage
-  -- who has stopped the bus or was told so has some reason
+  -- if the seat has stopped the bus, or one of its calls was answered `Stopped`, the bus is stopped
   pub called : seat.called ≡ true → stopped ≡ true
   pub told : seat.told ≡ true → stopped ≡ true
 
@@ -99,22 +99,22 @@ pub record Running (origin : Origin) (board : BoardState) : Type 0 where
   -- the one history, and whether the core is stopped
   pub log : List Entry
   pub stopped : Bool
-  -- how many tickets were drawn and how many turns passed on, of which the words are what 64 bits hold
+  -- how many tickets were drawn, and how many turns were passed on; the words are these numbers modulo 2 to the 64th
   pub drawn : ℕ
   pub served : ℕ
   pub words : board.words ≡ drawn % 2 ^ 64 ∷ served % 2 ^ 64 ∷ []
-  -- the tickets that are out follow on from those that were served; and there are so many seats at most
+  -- the tickets in use follow on those that were served, and there are at most so many seats
   pub waiting : served + sum_by (λ seat. tickets seat.stage) board.views ≡ drawn
   pub rooms : sum_by (λ seat. seat.room) board.views ≡ most_seats
   pub fits : (id : ℕ) (seat : SeatView) → get_elem? board.views id ≡ some seat → Fits origin log stopped served drawn seat
   pub apart : (id by : ℕ) (seat other : SeatView) → id ≢ by → get_elem? board.views id ≡ some seat → get_elem? board.views by ≡ some other → Apart seat other
   pub slot : AtHome origin log stopped board ⊎ Away board
-  -- the history is a trace that says quiet once where nothing came between, each entry by some right, and some seat has seen it
+  -- the history is a trace without two successive `quiet` entries, each entry needs some right, and some seat has seen it all
   pub trace : IsTrace (start origin) log
   pub sparse : IsSparse log
   pub owned : own all_rights log ≡ log
   pub seen : Somewhere (λ seat. seat.seen ≡ log) board.views
-  -- it is stopped only where some seat has called
+  -- it is stopped only if some seat has called `stop`
   pub reason : stopped ≡ true → Somewhere (λ seat. seat.called ≡ true) board.views
 
 -- the one seat of a bus that is being made

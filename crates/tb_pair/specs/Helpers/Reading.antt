@@ -30,7 +30,7 @@ abbrev pub says_last : Piece → Bool
 says_last (Told t) = false
 says_last Last = true
 
--- A reader that goes on: what it received it has handed in. It reads on until it has received that nothing more comes, or an input was dropped since the bus was down.
+-- A reader that goes on: it has delivered all received terms. It reads on until it has received that nothing more comes, or an input was dropped because the bus had shut down.
 pub record ReadsOn (old new : SeatView) (got_old got_new : List Piece) (reads reads' : Bool) : Type 0 where
   pub more : List Entry
   pub told : List Term
@@ -44,14 +44,14 @@ pub record ReadsOn (old new : SeatView) (got_old got_new : List Piece) (reads re
   pub let_in : reads' ≡ true → HasDropped (is_of 1) more → ⊥
   pub marks : SameMarks old new
 
--- what becomes of what is to be handed out, where it is forgotten
+-- the effect of the next queued item, if it is dropped
 abbrev pub TakesOut : SeatView → SeatView → Taken → Type 0
 TakesOut old new taken.Some = (out : Out) × Adds old new (Gave 1 out ∷ []) × SameMarks old new
 TakesOut old new taken.Nothing = Adds old new [] × SameMarks old new
 TakesOut old new taken.Closed = EndsAs (FoundFull (HandOut 1) old new) old new end.Down
 TakesOut old new (taken.Ends it) = EndsAs (FoundFull (HandOut 1) old new) old new it × IsEarly it
 
--- what was received last and not handed in: nothing where the worker came to its end
+-- the term that was received last and not delivered: none if the worker came to its end
 abbrev pub MayLose : WorkEnd → Bool → List Piece → Type 0
 MayLose end.Over reads lost = ⊥
 MayLose end.Down reads lost = (lost ≡ []) × (reads ≡ false)
@@ -60,7 +60,7 @@ MayLose end.Full reads lost = (lost ≡ []) ⊎ ((piece : Piece) × (lost ≡ pi
 MayLose end.Failed reads lost = ⊥
 MayLose end.NoMemory reads lost = (lost ≡ []) ⊎ ((piece : Piece) × (lost ≡ piece ∷ []) × (reads ≡ true))
 
--- which call found no room: that by which the piece that was received last is handed in, or that by which something is taken out
+-- for which call the log had no capacity: the one that delivers the piece that was received last, or the one that takes an item
 abbrev pub PieceFull : SeatView → SeatView → List Piece → Type 0
 PieceFull old new [] = FoundFull (HandOut 1) old new
 PieceFull old new (piece ∷ pieces) = FoundFull (HandIn (line_of piece)) old new
@@ -79,6 +79,6 @@ pub record ReadTo (old new : SeatView) (got_old got_new : List Piece) (reads : B
   pub on : ReadsOn old mid got_old got_mid reads reads'
   pub ends : EndsReading mid new got_mid got_new reads' it
 
--- a reader that may have handed something in
+-- a reader that may have delivered something
 abbrev pub Feeds : SeatView → SeatView → List Piece → List Piece → Bool → Bool → Option WorkEnd → Type 0
 Feeds old new got_old got_new reads reads' answer = MatchOption answer (ReadsOn old new got_old got_new reads reads') (EndsReading old new got_old got_new reads)

@@ -1,4 +1,4 @@
--- What one tick worker has handed to two buses so far.
+-- What one tick worker has delivered to two buses so far.
 use Rattle.std.specs.Prelude.{◌≡◌, ◌≤◌, ◌<◌, ◌+◌, ◌⊎◌, ◌&&◌, ℕ, Bool, true, false, is_some, List, length, Option, Some, None}
 use Rattle.tb_edge.specs.Faults.{Rose}
 use Rattle.tb_edge.specs.Ends.{ClockView, and_ticked}
@@ -17,7 +17,7 @@ use Rattle.tb_run.specs.Helpers.Ticking.{EndsAll}
 use Rattle.tb_run.specs.Workers.{AreTicks, LetIn}
 use Rattle.tb_pair.specs.Ticking.{GotAll}
 
--- why a bus gets no more ticks
+-- why a bus receives no more ticks
 abbrev pub CutBy : SeatView → SeatView → ℕ → ℕ → WorkEnd → Type 0
 CutBy old new count given end.Over = ⊥
 CutBy old new count given end.Down = EndsWith new (Fed input.Tick (Dropped why.Down))
@@ -26,7 +26,7 @@ CutBy old new count given end.Full = (count < given) × FoundFull (HandIn input.
 CutBy old new count given end.Failed = ⊥
 CutBy old new count given end.NoMemory = Unit {0}
 
--- a bus that gets each tick has got all that the clock gave, another one no more than these
+-- a bus that receives each tick has received all of the clock's, and any other bus no more than these
 abbrev pub TickedBy : Option WorkEnd → SeatView → SeatView → List Entry → ℕ → Type 0
 TickedBy None old new first given = (length first ≡ given) × SameMarks old new × AreLetIn first
 TickedBy (Some it) old new first given = (length first ≤ given) × Marks old new it × LetIn it first × CutBy old new (length first) given it
@@ -38,21 +38,21 @@ pub record Ticked (old new : SeatView) (given : ℕ) (state : Option WorkEnd) : 
   pub ticks : AreTicks first
   pub by : TickedBy state old new first given
 
--- of a bus: it got all, or all but the last, which it was refused
+-- a bus that received all, or all except the last, which was refused
 abbrev pub GotBy : Option WorkEnd → ℕ → ℕ → Type 0
 GotBy None count given = count ≡ given
 GotBy (Some it) count given = GotAll count given it
 
--- A bus when one tick more was given, which has this state then: if it got ticks still, it got this one or was refused it.
+-- A bus after one more tick, with this state then: if it still received ticks, it received this one or refused it.
 pub record TickedMore (begun new : SeatView) (given : ℕ) (state state' : Option WorkEnd) : Type 0 where
   pub is : Ticked begun new given state'
   pub got : state ≡ None → GotBy state' (length is.first) given
 
--- one of two buses gets ticks still
+-- one of two buses still receives ticks
 abbrev pub SomeGets : Option WorkEnd → Option WorkEnd → Type 0
 SomeGets state others = (is_some state && is_some others) ≡ false
 
--- one tick more was given, and handed to each bus that gets them
+-- one more tick was given, and delivered to each bus that receives them
 pub record TicksOne (one one_new : SeatView) (state state' : Option WorkEnd) (other other_new : SeatView) (others others' : Option WorkEnd) (told_old told_new : Option ClockView) (faults_old faults_new : ℕ) : Type 0 where
   pub first : (begun : SeatView) (given : ℕ) → Ticked begun one given state → TickedMore begun one_new (given + 1) state state'
   pub second : (begun : SeatView) (given : ℕ) → Ticked begun other given others → TickedMore begun other_new (given + 1) others others'
@@ -60,7 +60,7 @@ pub record TicksOne (one one_new : SeatView) (state state' : Option WorkEnd) (ot
   pub told : told_new ≡ and_ticked told_old 1 false
   pub calm : faults_new ≡ faults_old
 
--- no tick was given: the clock has ended or failed, or neither bus gets any
+-- no tick was given: the clock has ended or failed, or neither bus receives any
 abbrev pub NoTick : Option WorkEnd → Option WorkEnd → Option ClockView → Option ClockView → ℕ → ℕ → WorkEnd → Type 0
 NoTick state others told_old told_new faults_old faults_new end.Over = (told_new ≡ and_ticked told_old 0 true) × (faults_new ≡ faults_old) × SomeGets state others
 NoTick state others told_old told_new faults_old faults_new end.Failed = (told_new ≡ told_old) × Rose faults_old faults_new × SomeGets state others
@@ -69,7 +69,7 @@ NoTick state others told_old told_new faults_old faults_new end.Stopped = ⊥
 NoTick state others told_old told_new faults_old faults_new end.Full = ⊥
 NoTick state others told_old told_new faults_old faults_new end.NoMemory = ⊥
 
--- why no more ticks come, while each bus that gets them still was not told so
+-- why no more ticks come, before this is reported to each bus that still receives them
 abbrev pub WhyOver : WorkEnd → ℕ → ℕ → Bool → ℕ → ℕ → Option WorkEnd → Option WorkEnd → Type 0
 WhyOver end.Over most given ended old new state others = (new ≡ old) × (((ended ≡ true) × SomeGets state others) ⊎ (given ≡ most))
 WhyOver end.Failed most given ended old new state others = Rose old new × SomeGets state others
@@ -89,12 +89,12 @@ pub record TickedAll (most : ℕ) (one one_new : SeatView) (state : Option WorkE
   pub within : given ≤ most
   pub why : WhyOver wanted most given ended faults_old faults_new state others
 
--- a bus that gets ticks still was told so, or was refused that; another one stays as it is
+-- a bus that still receives ticks received the notice that no more come, or refused it; any other bus stays as it is
 abbrev pub SaysSo : Option WorkEnd → SeatView → SeatView → WorkEnd → WorkEnd → Type 0
 SaysSo None old new wanted it = EndsAll old new wanted it
 SaysSo (Some was) old new wanted it = (new ≡ old) × (it ≡ was)
 
--- a bus that gets ticks still may be told that no more come
+-- a bus that still receives ticks may receive the notice that no more come
 abbrev pub MayEnd : Option WorkEnd → WorkEnd → Type 0
 MayEnd (Some it) wanted = Unit {0}
 MayEnd None end.Over = Unit {0}

@@ -16,7 +16,7 @@ use Rattle.tb_pair.specs.Workers.{IsEarly, PipeEnds, WriterFull, Goes}
 use Rattle.tb_pair.specs.Helpers.Pipes.{GoesIn}
 use Rattle.tb_pair.specs.Helpers.Settling.{EndsAs}
 
--- A writer that goes on: it has sent what the tool was told, or nothing more from where the pipe was shut, which it stays then.
+-- A writer that goes on: it has sent the terms of the tool's `rec-do` lines. If the pipe was shut, it stays shut, and the writer has sent nothing more since.
 pub record WritesOn (old new : SeatView) (sent_old sent_new : List Piece) (flows flows' : Bool) : Type 0 where
   pub more : List Entry
   pub goes : Goes old new more []
@@ -29,7 +29,7 @@ pub record WritesOn (old new : SeatView) (sent_old sent_new : List Piece) (flows
   pub stays : flows' ≡ true → flows ≡ true
   pub marks : SameMarks old new
 
--- what becomes of what was handed out
+-- the effect of a sent item
 abbrev pub PassesOn : Out → Bool → Bool → List Piece → List Piece → Type 0
 PassesOn out flows flows' sent_old sent_new = MatchOption (told_by out) ((flows' ≡ flows) × (sent_new ≡ sent_old)) (λ t. GoesIn flows flows' sent_old sent_new (Told t))
 
@@ -45,7 +45,7 @@ pub record Wrote (old new : SeatView) (sent_old sent_new : List Piece) (flows fl
   pub on : WritesOn old mid sent_old sent_new flows flows'
   pub ends : EndsAs (FoundFull (HandOut 1) mid new) mid new it
 
--- a writer before it says that nothing more comes
+-- a writer before it sends that nothing more comes
 pub record Written (old new : SeatView) (sent_old sent_new : List Piece) (flows : Bool) (it : WorkEnd) : Type 0 where
   pub more : List Entry
   pub given : List Input

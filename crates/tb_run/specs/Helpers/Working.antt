@@ -1,4 +1,4 @@
--- What a worker of a run has done while it goes on, and what becomes of one item that it hands in or puts.
+-- What a worker of a run has done while it goes on, and the effect of one item that it delivers or writes.
 use Rattle.std.specs.Prelude.{◌≡◌, ◌≤◌, ◌<◌, ◌^◌, ◌⊎◌, ℕ, true, false, List, [], ◌∷◌, length, map, Option, Some, None}
 use Rattle.tb_edge.specs.Faults.{Rose}
 use Rattle.tb_edge.specs.Ends.{InletView, and_given, and_taken, ClockView, and_ticked, has_ended}
@@ -21,7 +21,7 @@ use Rattle.tb_run.specs.Dropping.{AreLetIn}
 use Rattle.tb_run.specs.Seats.{Adds, FoundFull, SameMarks, Stops}
 use Rattle.tb_run.specs.Workers.{AreLines, AreTicks, Counts, cut_count, was_over}
 
--- a reply that says that the bus is down ends a worker
+-- a reply that says that the bus has shut down ends a worker
 abbrev pub end_of : Reply → Option WorkEnd
 end_of Took = None
 end_of (Dropped why.Unasked) = None
@@ -31,7 +31,7 @@ end_of (Dropped why.Stranger) = None
 end_of (Dropped why.Bad) = None
 end_of (Dropped why.Down) = Some end.Down
 
--- a reader that goes on: all that was given was handed in
+-- a reader that goes on: it has delivered all items of the inlet
 pub record Reads (lane : ℕ) (old new : SeatView) (gave_old gave_new : Option InletView) : Type 0 where
   pub more : List Entry
   pub adds : Adds old new more
@@ -42,7 +42,7 @@ pub record Reads (lane : ℕ) (old new : SeatView) (gave_old gave_new : Option I
   pub let_in : AreLetIn more
   pub marks : SameMarks old new
 
--- a writer that goes on: what was handed out was put, or is cut off
+-- a writer that goes on: each sent item was written, or is cut off
 pub record Writes (lane : ℕ) (old new : SeatView) (took_old took_new : Option (List Taken)) (faults_old faults_new : ℕ) : Type 0 where
   pub more : List Entry
   pub adds : Adds old new more
@@ -51,7 +51,7 @@ pub record Writes (lane : ℕ) (old new : SeatView) (took_old took_new : Option 
   pub counts : Counts faults_old faults_new (cut_count lane more)
   pub marks : SameMarks old new
 
--- a tick worker that goes on: so many ticks were handed in
+-- a tick worker that goes on: so many ticks were delivered
 pub record Ticks (old new : SeatView) (told_old told_new : Option ClockView) (faults_old faults_new : ℕ) (fed : ℕ) : Type 0 where
   pub more : List Entry
   pub adds : Adds old new more
@@ -70,7 +70,7 @@ pub record Steps (old new : SeatView) : Type 0 where
   pub adds : Adds old new more
   pub marks : SameMarks old new
 
--- a writer goes on where the bus is down
+-- a writer goes on after the bus has shut down
 abbrev pub going_on : Option WorkEnd → Option WorkEnd
 going_on None = None
 going_on (Some end.Over) = Some end.Over
@@ -80,7 +80,7 @@ going_on (Some end.Full) = Some end.Full
 going_on (Some end.Failed) = Some end.Failed
 going_on (Some end.NoMemory) = Some end.NoMemory
 
--- what becomes of an item that was handed out and failed to be put
+-- the effect of a sent item that failed to be written
 abbrev pub CutsOff : ℕ → SeatView → SeatView → Option WorkEnd → Type 0
 CutsOff lane old new None = (reply : Reply) × Adds old new (Fed (input.Cut lane) reply ∷ []) × SameMarks old new
 CutsOff lane old new (Some end.Stopped) = Adds old new [] × (new.called ≡ old.called) × (new.told ≡ true)
@@ -90,7 +90,7 @@ CutsOff lane old new (Some end.Over) = ⊥
 CutsOff lane old new (Some end.Down) = ⊥
 CutsOff lane old new (Some end.Failed) = ⊥
 
--- an item is put, or fails to be, which is handed in
+-- an item is written; or it fails to be written, which is reported
 pub record Fails (lane : ℕ) (old new : SeatView) (took_old took_new : Option (List Taken)) (faults_old faults_new : ℕ) (answer : Option WorkEnd) : Type 0 where
   pub told : took_new ≡ took_old
   pub rose : Rose faults_old faults_new

@@ -10,12 +10,12 @@ use Rattle.tb_sim.specs.declared.ends.SimEnd.TheVariants as end
 use Rattle.tb_sim.specs.declared.ends.Turned.{Turned}
 use Rattle.tb_sim.specs.declared.ends.Turned.TheVariants as turned
 
--- turn after turn the simulation makes these entries, and stands here then
+-- turn after turn the simulation makes these entries, and then has this state
 abbrev pub SimLeads : Limits → Sim → List Entry → Sim → Type 0
 SimLeads limits sim [] end = end ≡ sim
 SimLeads limits sim (entry ∷ log) end = (next : Sim) × (turn limits sim ≡ Makes entry next) × SimLeads limits next log end
 
--- where a simulation of a core and a feed stands that has come so far
+-- the state of the simulation of a core and a feed after this progress
 unfoldable pub sim_of : List Input → CoreState → Progress → Sim
 sim_of feed core so_far = record { bus = bus_now core; log = core.log; steps_made = so_far.steps; quiet = ends_quiet core.log; left = drop so_far.inputs feed }
 
@@ -49,26 +49,26 @@ pub record IsWithin (steps : ℕ) (feed : List Input) (so_far : Progress) : Type
   pub steps_made : so_far.steps ≤ steps
   pub inputs_fed : so_far.inputs ≤ length feed
 
--- What became of an input that was handed in: it was logged, or the log had no room for it.
+-- The effect of a delivered input: it was logged, or the log had no capacity for it.
 abbrev pub HandsIn : Input → Progress → CoreState → CoreState → Turned → Type 0
 HandsIn input next old new (turned.On progress) = (progress ≡ next) × Logs old new (entries_of old (HandIn input)) × (is_full old (HandIn input) ≡ false)
 HandsIn input next old new (turned.End end.Events) = Stays old new × (is_full old (HandIn input) ≡ true)
 HandsIn input next old new (turned.End end.Down) = ⊥
 HandsIn input next old new (turned.End end.Steps) = ⊥
 
--- What became of what was handed out on a lane: it was logged, or the log had no room for it.
+-- The effect of an item that is sent on a lane: it was logged, or the log had no capacity for it.
 abbrev pub HandsOut : ℕ → Progress → CoreState → CoreState → Turned → Type 0
 HandsOut lane so_far old new (turned.On progress) = (progress ≡ so_far) × Logs old new (entries_of old (HandOut lane)) × (is_full old (HandOut lane) ≡ false)
 HandsOut lane so_far old new (turned.End end.Events) = Stays old new × (is_full old (HandOut lane) ≡ true)
 HandsOut lane so_far old new (turned.End end.Down) = ⊥
 HandsOut lane so_far old new (turned.End end.Steps) = ⊥
 
--- What became of the first of these, or, where there is none, of the word that no more ticks come.
+-- The effect of the first of these inputs, or, if there is none, of the notice that no more ticks come.
 abbrev pub HandsInNext : List Input → Progress → CoreState → CoreState → Turned → Type 0
 HandsInNext [] so_far old new turned = HandsIn NoTicks so_far old new turned
 HandsInNext (input ∷ left) so_far old new turned = HandsIn input (record so_far { inputs = so_far.inputs + 1 }) old new turned
 
--- What one go did: it went on, by what it handed out, by a step, or by saying quiet and handing in what comes next from outside; or it is the end, perhaps once it said quiet.
+-- What one iteration did: it sent an item, made a step, or logged `quiet` and delivered the next input; or it is the end, perhaps after `quiet`.
 abbrev pub Goes : ℕ → List Input → CoreState → Progress → CoreState → Turned → Type 0
 Goes steps feed old so_far new (turned.On next) =
     LedOn steps feed old so_far new next × IsWithin steps feed next × (ends_quiet new.log ≡ false) × IsLonger old new

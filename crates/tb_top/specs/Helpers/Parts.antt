@@ -1,4 +1,4 @@
--- What the parts of the top call say to each other.
+-- What the parts of the top call guarantee to each other.
 use Rattle.std.specs.Prelude.{◌≡◌, ◌⊎◌, ℕ, List, [], ◌∷◌, ◌++◌, Option, Some, None, IsSome, option_to_list, Result, Ok, Err}
 use Rattle.tb_body.specs.declared.program.Program.{Program}
 use Rattle.tb_edge.specs.Sinks.{Writes, WritesPrefix}
@@ -26,12 +26,12 @@ use Rattle.tb_top.specs.declared.fault.Fault.TheVariants.{Script, Feed, File, Ou
 use Rattle.tb_top.specs.declared.status.Bound.TheVariants as bound
 use Rattle.tb_top.specs.declared.status.LogWrong.TheVariants as log_wrong
 
--- these names were asked for, or perhaps none where memory ran out
+-- these files were requested, or perhaps none if memory ran out
 abbrev pub AsksFor : {A : Type 0} → List (List ℕ) → List (List ℕ) → List (List ℕ) → Result A Fault → Type 0
 AsksFor names old new (Err NoMemory) = (new ≡ old) ⊎ (new ≡ old ++ names)
 AsksFor names old new _ = new ≡ old ++ names
 
--- the feed's name was, where there is one
+-- the feed's file was requested, if there is one
 abbrev pub AsksForFeed : {A : Type 0} → Option (List ℕ) → List (List ℕ) → List (List ℕ) → Result A Fault → Type 0
 AsksForFeed name old new answer = AsksFor (option_to_list name) old new answer
 
@@ -54,38 +54,38 @@ IsUnread held name File = IsSome name
 IsUnread held name NoMemory = Unit {0}
 IsUnread held name _ = ⊥
 
--- a fault that is told only behind a script that has its program
+-- an error that is reported only after the script has its program
 abbrev pub IsBehindScript : Fault → Type 0
 IsBehindScript (Script fault) = ⊥
 IsBehindScript _ = Unit {0}
 
--- what a simulation that ended so comes to, where all was put
+-- the result of a simulation that ended so, after all was written
 abbrev pub EndsAs : {A : Type 0} → SimEnd → Result A Fault → Type 0
 EndsAs last (Ok done) = last ≡ sim.Down
 EndsAs last (Err (Limit bound.Steps)) = last ≡ sim.Steps
 EndsAs last (Err (Limit bound.Events)) = last ≡ sim.Events
 EndsAs last _ = ⊥
 
--- What came of a text behind a simulation that ended so: it was put whole, or its sink failed, or memory ran out.
+-- The result of writing a text after a simulation that ended so: it was written whole, or its sink failed, or memory ran out.
 abbrev pub PutsText : {A : Type 0} → List ℕ → SimEnd → Option (List ℕ) → Option (List ℕ) → Result A Fault → Type 0
 PutsText text last old new (Err Out) = WritesPrefix old new text
 PutsText text last old new (Err NoMemory) = WritesPrefix old new text
 PutsText text last old new answer = EndsAs last answer × Writes old new text
 
--- what comes of a simulation alone
+-- the result of a simulation alone
 abbrev pub IsBehindFeed : Fault → Type 0
 IsBehindFeed Out = Unit {0}
 IsBehindFeed (Limit bound) = Unit {0}
 IsBehindFeed NoMemory = Unit {0}
 IsBehindFeed _ = ⊥
 
--- whatever file says these inputs, and whatever file the program is that of, the outcome is that of their simulation with so many steps
+-- whatever file the inputs come from, and whatever file the program is that of, the outcome is that of their simulation with so many steps
 abbrev pub IsSimulated : {A : Type 0} → ℕ → Origin → List Input → Option (List ℕ) → Option (List ℕ) → Result A Fault → Type 0
 IsSimulated steps origin inputs old new answer =
     (held : List ℕ → Option (List ℕ)) (script : List ℕ) (name : Option (List ℕ)) → IsFed held name inputs → HasProgram (held script) origin.program →
     SimOutcome held (record { script = script; feed = name; connects = origin.connects; steps = steps; events = origin.limit }) old new answer
 
--- The same of a text that is put whole together: memory ran out before it was put.
+-- The same for a text that is written at once: memory ran out before it was written.
 abbrev pub PutsWhole : {A : Type 0} → List ℕ → SimEnd → Option (List ℕ) → Option (List ℕ) → Result A Fault → Type 0
 PutsWhole text last old new (Err Out) = WritesPrefix old new text
 PutsWhole text last old new (Err NoMemory) = new ≡ old
@@ -95,7 +95,7 @@ PutsWhole text last old new answer = EndsAs last answer × Writes old new text
 abbrev pub IsRingSimulated : {A : Type 0} → Program → ℕ → Option (List ℕ) → Option (List ℕ) → Result A Fault → Type 0
 IsRingSimulated program n old new answer = (k : ℕ) → IsFound (ring_text n k) (Program' program) → RingOutcome n k old new answer
 
--- what a run comes to that ended so
+-- the result of a run that ended so
 abbrev pub EndsRun : {A : Type 0} → RunWhy → Result A Fault → Type 0
 EndsRun it (Ok done) = it ≡ why.Ended
 EndsRun it (Err Clock) = it ≡ why.Clock
@@ -111,13 +111,13 @@ IsLive ticks origin old new answer =
     (held : List ℕ → Option (List ℕ)) (script : List ℕ) → HasProgram (held script) origin.program →
     LiveOutcome held (record { script = script; connects = origin.connects; ticks = ticks; events = origin.limit }) old new answer
 
--- a fault that comes without the clock and the crew
+-- an error that comes without the clock and the crew
 abbrev pub IsInside : Fault → Type 0
 IsInside Clock = ⊥
 IsInside Crew = ⊥
 IsInside _ = Unit {0}
 
--- a fault that comes of a run, once its script has a program
+-- an error of a run, once its script has a program
 abbrev pub IsLiveFault : Fault → Type 0
 IsLiveFault Out = Unit {0}
 IsLiveFault Clock = Unit {0}

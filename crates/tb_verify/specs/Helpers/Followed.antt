@@ -27,17 +27,17 @@ pub record IsFollowed (origin : Origin) (bytes rest : List ℕ) (core : CoreStat
   pub trace : IsTrace (start origin) core.log
   pub within : IsWithin origin.limit core.log
 
--- a line is that of an entry with this number that may come next, and the core has logged it; or it is the line of none
+-- the line is that of an entry with this number that may come next, and the core has logged the entry; or it is the line of no such entry
 abbrev pub FollowsLine : CoreState → ℕ → List ℕ → Bool → CoreState → Type 0
 FollowsLine old number line true new =
     (entry : Entry) × IsLine number entry line × Logs old new (entry ∷ []) × (has_room old.origin.limit old.log entry ≡ true)
 FollowsLine old number line false new = (entry : Entry) (next : Bus) → IsLine number entry line → IsLegal (bus_now old) entry next → ⊥
 
--- the line is that of an entry that may come next, for which there is no room
+-- the line is that of an entry that may come next, and the log has no capacity for the entry
 abbrev pub IsCrowdedLine : CoreState → ℕ → List ℕ → Type 0
 IsCrowdedLine core number line = (entry : Entry) × IsLine number entry line × IsCrowded core entry
 
--- what an answer says of the bytes
+-- what an answer claims of the bytes
 abbrev pub Settles : Origin → List ℕ → Result Verdict VerifyFault → Type 0
 Settles origin bytes (Ok verdict) = IsVerdict origin bytes verdict × ((number : ℕ) → IsCrowdedAt origin bytes number → ⊥)
 Settles origin bytes (Err fault.Full) = (number : ℕ) × IsCrowdedAt origin bytes number

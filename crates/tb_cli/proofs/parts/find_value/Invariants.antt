@@ -5,6 +5,6 @@ use Rattle.tb_cli.proofs.parts.find_value.Given as goal
 abbrev pub decreases-loop-index : goal.decreases-loop-index
 decreases-loop-index l = length l.words - l.index
 
--- what is sought stands so many places on in the words that are left
+-- the sought value is so many places further in the arguments that are left
 abbrev pub invariant-loop-index : goal.invariant-loop-index
 invariant-loop-index l = slice_get (given (option_copied l.name) (parts_of (drop l.index (map string_bytes l.words)))) l.left ≡ slice_get (given (option_copied l.name) (parts_of (map string_bytes l.words))) l.place

@@ -12,6 +12,6 @@ read_row-requires c =
     row-by c.as_str.result.now (row_of c.in-Some-row_named.row.now)
     (sym c.row_named.ensures ∙ ap (λ (found : Option (Bor CodeRow)). option_map row_of (option_copied found)) c.in-Some-row_named.is)
 
--- A fault is the words' own, and so never this one.
+-- An error is the arguments' own, and so never this one.
 pub returns-clause-built : goal.returns-clause-built
 returns-clause-built c = read-built (map string_bytes c.args.words.now.items) c.read_row.result (grind (arith, common_steps))
