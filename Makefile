@@ -4,6 +4,7 @@
 
 SCRIPT := $(CURDIR)/examples/hello.tb
 PROGRAM := $(CURDIR)/crates/toolbus/out/toolbus
+PAIR := $(CURDIR)/crates/toolbus_pair/out/toolbus_pair
 LENS := $(CURDIR)/crates/toolbus_lens/out/toolbus_lens
 PREFIX := /usr/local
 SHARE := $(DESTDIR)$(PREFIX)/share
@@ -20,8 +21,9 @@ quick:
 # Proves the programs with all crates that they depend on, and builds them.
 build:
 	cd crates/toolbus && rt run -- sim "$(SCRIPT)"
+	cd crates/toolbus_pair && rt run -- "$(SCRIPT)" "$(SCRIPT)"
 	cd crates/toolbus_lens && rt run -- --version
-	@echo "The programs are $(PROGRAM) and $(LENS)"
+	@echo "The programs are $(PROGRAM), $(PAIR), and $(LENS)"
 
 # The CI gate.
 test:
@@ -31,13 +33,17 @@ test:
 # It builds nothing. DESTDIR=DIR puts all files below DIR.
 install:
 	@test -x "$(PROGRAM)" || { echo "There is no $(PROGRAM). make build makes it."; exit 1; }
+	@test -x "$(PAIR)" || { echo "There is no $(PAIR). make build makes it."; exit 1; }
 	@test -x "$(LENS)" || { echo "There is no $(LENS). make build makes it."; exit 1; }
 	install -D -m 755 "$(PROGRAM)" "$(DESTDIR)$(PREFIX)/bin/toolbus"
+	install -D -m 755 "$(PAIR)" "$(DESTDIR)$(PREFIX)/bin/toolbus_pair"
 	install -D -m 755 "$(LENS)" "$(DESTDIR)$(PREFIX)/bin/toolbus_lens"
 	install -D -m 644 man/toolbus.1 "$(SHARE)/man/man1/toolbus.1"
+	install -D -m 644 man/toolbus_pair.1 "$(SHARE)/man/man1/toolbus_pair.1"
 	install -D -m 644 man/toolbus_lens.1 "$(SHARE)/man/man1/toolbus_lens.1"
 	install -D -m 644 man/toolbus.5 "$(SHARE)/man/man5/toolbus.5"
 	install -D -m 644 completion/toolbus "$(SHARE)/bash-completion/completions/toolbus"
+	install -D -m 644 completion/toolbus "$(SHARE)/bash-completion/completions/toolbus_pair"
 	install -D -m 644 editors/vim/ftdetect/toolbus.vim "$(SHARE)/vim/vimfiles/ftdetect/toolbus.vim"
 	install -D -m 644 editors/vim/syntax/toolbus.vim "$(SHARE)/vim/vimfiles/syntax/toolbus.vim"
 	install -D -m 644 editors/textmate/toolbus.tmLanguage.json "$(SHARE)/toolbus/toolbus.tmLanguage.json"
@@ -46,8 +52,9 @@ install:
 # Removes what make install has installed, with the same PREFIX and DESTDIR.
 uninstall:
 	rm -f "$(DESTDIR)$(PREFIX)/bin/toolbus" "$(SHARE)/man/man1/toolbus.1" "$(SHARE)/man/man5/toolbus.5"
+	rm -f "$(DESTDIR)$(PREFIX)/bin/toolbus_pair" "$(SHARE)/man/man1/toolbus_pair.1"
 	rm -f "$(DESTDIR)$(PREFIX)/bin/toolbus_lens" "$(SHARE)/man/man1/toolbus_lens.1"
-	rm -f "$(SHARE)/bash-completion/completions/toolbus"
+	rm -f "$(SHARE)/bash-completion/completions/toolbus" "$(SHARE)/bash-completion/completions/toolbus_pair"
 	rm -f "$(SHARE)/vim/vimfiles/ftdetect/toolbus.vim" "$(SHARE)/vim/vimfiles/syntax/toolbus.vim"
 	rm -rf "$(SHARE)/toolbus" "$(SHARE)/doc/toolbus"
 
@@ -76,6 +83,7 @@ kits:
 bench:
 	bench/run
 	bench/live
+	bench/pipe
 
 # Simulates 200 random scripts, and compares their logs with those of a small model of the rules. It needs the built crates/scenarios.
 # Then the built program verifies random logs of these scripts.

@@ -1,6 +1,6 @@
 //! Tests where no data file says a row: of the shared bus, of bells, of a crew and of a run, whose threads run beside each other,
-//! and of a run with a child; of a core that follows a log or has refused calls; of files, sinks and clocks; and of calls that
-//! neither the program nor a row makes.
+//! of a run with a child, and of pairs; of a core that follows a log or has refused calls; of files, sinks and clocks; and of calls
+//! that neither the program nor a row makes.
 #![tactic(auto)]
 
 #[cfg(test)]
@@ -19,6 +19,8 @@ mod jobs;
 mod live;
 #[cfg(test)]
 mod lock;
+#[cfg(test)]
+mod pairs;
 #[cfg(test)]
 mod reads;
 #[cfg(test)]

@@ -7,6 +7,7 @@ use tb_log::{
     show_proper_entry,
 };
 use tb_notes::Inbox;
+use tb_script::{load, write_fault};
 use tb_terms::Items;
 use tb_tools::Bench;
 
@@ -44,5 +45,15 @@ fn what_is_to_be_handed_out_is_taken(rt: HostRuntime) -> Result<(), Fail> {
     let commands = ui(rt.alloc())?;
     let mut bench = Bench::new(rt.alloc(), &commands)?;
     assert!(rt; gives_command(&mut bench));
+    Ok(())
+}
+
+#[test]
+fn the_words_of_a_fault_are_written_behind_others(rt: HostRuntime) -> Result<(), Fail> {
+    let mut into = Vec::from_slice(rt.alloc(), b"toolbus_pair: ")?;
+    if let Err(fault) = load(rt.alloc(), b"process P is snd-msg(3.14) toolbus(P)") {
+        write_fault(&fault, &mut into)?;
+    }
+    assert!(rt; into.as_slice() == b"toolbus_pair: script: real 21".as_slice());
     Ok(())
 }

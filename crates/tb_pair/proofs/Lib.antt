@@ -1,6 +1,7 @@
 pub mod PieceLemmas
 pub mod RingLemmas
 pub mod PipeLemmas
+pub mod OnceLemmas
 pub mod WriterLemmas
 pub mod ReaderLemmas
 pub mod PassLemmas

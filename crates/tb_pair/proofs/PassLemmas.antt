@@ -22,6 +22,7 @@ use Rattle.tb_run.specs.Seats.{Adds}
 use Rattle.tb_run.proofs.JoinLemmas.{Kept}
 use Rattle.tb_run.proofs.Projections.{handed_own, inputs_own, cut_count_own}
 use Rattle.tb_pair.specs.declared.piece.Piece.{Piece}
+use Rattle.tb_pair.proofs.OnceLemmas.{awaits, once_own}
 use Rattle.tb_pair.proofs.PieceLemmas.{stand_first}
 use Rattle.tb_pair.specs.Piping.{does, told_by, events, event_in, connect, lines_of}
 use Rattle.tb_pair.specs.Jobs.{CanServe}
@@ -90,6 +91,9 @@ passes bus others_bus begun done last others_begun others_done others_last sent 
       prefix = all ∙ ap (λ (x : List Term). x ++ (r.lost ++ (s.more ++ w.rest))) (sym came);
       no_cut = cuts;
       others_no_cut = others_cuts;
+      first = awaits begun.rights can.reads can.writes last.seen w.more one w.first;
+      others_first = awaits others_begun.rights others_can.reads others_can.writes others_last.seen r.more other r.first;
+      others_once = once_own others_begun.rights others_can.reads others_last.seen r.more other r.once;
       leaves = r.leaves;
       names = ⊎_elim (λ e. inl (ins ∙ e)) (λ e. inr (ins ∙ e.0, e.1)) w.names;
       others_names = ⊎_elim

@@ -14,7 +14,7 @@ use Rattle.tb_log.specs.Lanes.{handed, handed_by, inputs, given_on}
 use Rattle.tb_bus.specs.Buses.{Bus}
 use Rattle.tb_tools.specs.Finding.{next_out}
 use Rattle.tb_core.specs.declared.answers.TakeOut.TheVariants as taken
-use Rattle.tb_core.specs.Cores.{HandIn, HandOut, bus_now, entries_of, out_entry}
+use Rattle.tb_core.specs.Cores.{HandOut, bus_now, entries_of, out_entry}
 use Rattle.tb_lock.specs.Rights.{has, right_to}
 use Rattle.tb_lock.specs.Seats.{SeatView}
 use Rattle.tb_lock.specs.Calls.{Called, IsTaken}

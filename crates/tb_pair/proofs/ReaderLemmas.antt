@@ -26,6 +26,7 @@ use Rattle.tb_pair.specs.Piping.{event_in, event_of, connect, disconnect, lines_
 use Rattle.tb_pair.specs.Helpers.Reading.{line_of, says_last, ReadsOn, EndsReading, ReadTo, MayLose, PieceFull, Feeds}
 use Rattle.tb_pair.specs.Workers.{IsEarly, Goes, ReaderFull, ReadsPipe, MayLack, WhyDown}
 use Rattle.tb_pair.specs.Helpers.Settling.{EndsAs, Settles}
+use Rattle.tb_pair.proofs.OnceLemmas.{once_none, once_one, once_behind, once_before, once_named}
 use Rattle.tb_pair.proofs.PipeLemmas.{goes_none, goes_on, goes_end, goes_after, goes_in, ends_by, ends_after, dropped_before, dropped_after, dropped_in, dropped_none, dropped_not}
 
 lines-append : (ts us : List Term) (leaves : Bool) → lines_of ts false ++ lines_of us leaves ≡ lines_of (ts ++ us) leaves
@@ -40,7 +41,7 @@ events_of_lines (t ∷ ts) leaves = ap (λ (l : List Term). t ∷ l) (events_of_
 -- nothing was received or delivered
 pub idle_on : (old new : SeatView) (got : List Piece) (reads : Bool) (more : List Entry) → Goes old new more [] → SameMarks old new → (HasDropped (is_of 1) more → ⊥) → ReadsOn old new got got reads reads
 idle_on old new got reads more goes marks none =
-    record { more = more; told = []; leaves = false; goes = goes; got = sym (append-nil got); still = λ h. refl; stays = λ h. h; over = λ h. (refl, refl); why = λ h. inl h; let_in = λ h. none; marks = marks }
+    record { more = more; told = []; leaves = false; goes = goes; got = sym (append-nil got); still = λ h. refl; stays = λ h. h; over = λ h. (refl, refl); why = λ h. inl h; let_in = λ h. none; once = once_none more none; marks = marks }
 
 pub reads_none : (seat : SeatView) (got : List Piece) (reads : Bool) → ReadsOn seat seat got got reads reads
 reads_none seat got reads = idle_on seat seat got reads [] (goes_none seat) (marks_none seat) (dropped_none (is_of 1))
@@ -61,6 +62,7 @@ reads_both true a b c g0 g1 g2 r0 r2 one two =
       over = λ h. absurd (true≢false (sym (one.stays refl) ∙ h));
       why = λ h. inr (⊎_elim (λ e. absurd (true≢false e)) (λ w. ⊎_elim (λ l. inl l) (λ d. inr (dropped_after (is_of 1) one.more two.more d)) w) (two.why h));
       let_in = λ h d. ⊎_elim (λ x. one.let_in refl x) (λ x. two.let_in h x) (dropped_in (is_of 1) one.more two.more d);
+      once = once_behind one.more two.more (one.let_in refl) two.once;
       marks = marks_both a b c one.marks two.marks;
     }
 reads_both false a b c g0 g1 g2 r0 r2 one two =
@@ -78,6 +80,7 @@ reads_both false a b c g0 g1 g2 r0 r2 one two =
       over = one.over;
       why = λ h. ⊎_elim (λ e. inl e) (λ w. inr (⊎_elim (λ l. inl l) (λ d. inr (dropped_before (is_of 1) one.more two.more d)) w)) (one.why refl);
       let_in = λ h. absurd (true≢false (sym (two.stays h)));
+      once = once_before one.more two.more one.once (two.goes.given_are ∙ none);
       marks = marks_both a b c one.marks two.marks;
     }
 
@@ -89,7 +92,7 @@ full_on (piece ∷ pieces) a b c xs adds f = found_on (HandIn (line_of piece)) a
 -- after nothing of its own
 pub feeds_after : (a b c : SeatView) (g0 g1 : List Piece) (r0 r1 : Bool) (answer : Option WorkEnd) → Adds a b [] → SameMarks a b → Feeds b c g0 g1 r0 r1 answer → Feeds a c g0 g1 r0 r1 answer
 feeds_after a b c g0 g1 r0 r1 None adds same f =
-    record { more = f.more; told = f.told; leaves = f.leaves; goes = goes_after a b c f.more (lines_of f.told f.leaves) adds f.goes; got = f.got; still = f.still; stays = f.stays; over = f.over; why = f.why; let_in = f.let_in; marks = marks_both a b c same f.marks }
+    record { more = f.more; told = f.told; leaves = f.leaves; goes = goes_after a b c f.more (lines_of f.told f.leaves) adds f.goes; got = f.got; still = f.still; stays = f.stays; over = f.over; why = f.why; let_in = f.let_in; once = f.once; marks = marks_both a b c same f.marks }
 feeds_after a b c g0 g1 r0 r1 (Some it) adds same f =
     record { lost = f.lost; got = f.got; may = f.may; ends = ends_after (PieceFull b c f.lost) (PieceFull a c f.lost) a b c it (full_on f.lost a b c [] adds) adds same f.ends }
 
@@ -119,7 +122,7 @@ refused_reading old new got reads it e = record { lost = []; got = sym (append-n
 -- a piece was delivered
 pub fed_on : (old new : SeatView) (got : List Piece) (piece : Piece) (up : Bool) → Settles (line_of piece) old new (Ok up) → ReadsOn old new got (got ++ piece ∷ []) true (up && not (says_last piece))
 fed_on old new got (Told t) true h =
-    record { more = Fed (line_of (Told t)) h.0 ∷ []; told = t ∷ []; leaves = false; goes = goes_in old new (line_of (Told t)) h.0 refl h.1 refl; got = refl; still = λ e. refl; stays = λ e. refl; over = λ e. absurd (true≢false e); why = λ e. absurd (true≢false e); let_in = λ e. dropped_not (is_of 1) (line_of (Told t)) h.0 (h.4 refl); marks = h.2 }
+    record { more = Fed (line_of (Told t)) h.0 ∷ []; told = t ∷ []; leaves = false; goes = goes_in old new (line_of (Told t)) h.0 refl h.1 refl; got = refl; still = λ e. refl; stays = λ e. refl; over = λ e. absurd (true≢false e); why = λ e. absurd (true≢false e); let_in = λ e. dropped_not (is_of 1) (line_of (Told t)) h.0 (h.4 refl); once = once_one (Fed (line_of (Told t)) h.0); marks = h.2 }
 fed_on old new got (Told t) false h =
     record {
       more = Fed (line_of (Told t)) h.0 ∷ [];
@@ -132,12 +135,13 @@ fed_on old new got (Told t) false h =
       over = λ e. absurd (true≢false e);
       why = λ e. inr (inr ([], line_of (Told t), [], refl, ap (λ (r : Reply). Fed (line_of (Told t)) r ∷ []) (h.3 refl)));
       let_in = λ e. absurd (true≢false (sym e));
+      once = once_one (Fed (line_of (Told t)) h.0);
       marks = h.2;
     }
 fed_on old new got Last true h =
-    record { more = Fed (line_of Last) h.0 ∷ []; told = []; leaves = true; goes = goes_in old new (line_of Last) h.0 refl h.1 refl; got = refl; still = λ e. absurd (true≢false (sym e)); stays = λ e. refl; over = λ e. absurd (true≢false e); why = λ e. inr (inl refl); let_in = λ e. absurd (true≢false (sym e)); marks = h.2 }
+    record { more = Fed (line_of Last) h.0 ∷ []; told = []; leaves = true; goes = goes_in old new (line_of Last) h.0 refl h.1 refl; got = refl; still = λ e. absurd (true≢false (sym e)); stays = λ e. refl; over = λ e. absurd (true≢false e); why = λ e. inr (inl refl); let_in = λ e. absurd (true≢false (sym e)); once = once_one (Fed (line_of Last) h.0); marks = h.2 }
 fed_on old new got Last false h =
-    record { more = Fed (line_of Last) h.0 ∷ []; told = []; leaves = true; goes = goes_in old new (line_of Last) h.0 refl h.1 refl; got = refl; still = λ e. absurd (true≢false (sym e)); stays = λ e. refl; over = λ e. absurd (true≢false e); why = λ e. inr (inl refl); let_in = λ e. absurd (true≢false (sym e)); marks = h.2 }
+    record { more = Fed (line_of Last) h.0 ∷ []; told = []; leaves = true; goes = goes_in old new (line_of Last) h.0 refl h.1 refl; got = refl; still = λ e. absurd (true≢false (sym e)); stays = λ e. refl; over = λ e. absurd (true≢false e); why = λ e. inr (inl refl); let_in = λ e. absurd (true≢false (sym e)); once = once_one (Fed (line_of Last) h.0); marks = h.2 }
 
 -- it was refused
 pub fed_refused : (old new : SeatView) (got : List Piece) (piece : Piece) (it : WorkEnd) → Settles (line_of piece) old new (Err it) → EndsReading old new got (got ++ piece ∷ []) true it
@@ -222,6 +226,8 @@ read_behind old b new reply g0 g1 reads it adds same dropped let_in r =
       last = so.last;
       leaves = r.on.leaves;
       names = inl refl;
+      first = inr (reply, r.on.more, refl);
+      once = once_named reads reply r.on.more r.on.once let_in (λ h. r.on.goes.given_are ∙ (ap (λ (l : Bool). lines_of r.on.told l) (r.on.over h).1 ∙ ap (λ (t : List Term). lines_of t false) (r.on.over h).0));
       events_are = ap (filter_map event_in) all.given_are ∙ events_of_lines r.on.told r.on.leaves;
       got = so.got;
       said = so.said;
@@ -261,6 +267,8 @@ read_refused old new got it e =
       last = false;
       leaves = false;
       names = inr (refl, refl, refl, refl, e.1);
+      first = inl refl;
+      once = once_none [] (dropped_none (is_of 1));
       events_are = refl;
       got = sym (append-nil got);
       said = λ h. absurd (true≢false (sym h));

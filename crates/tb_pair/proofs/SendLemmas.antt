@@ -17,8 +17,6 @@ use Rattle.tb_pair.specs.contracts.pipe.PipeOut as pipe_out
 use Rattle.tb_pair.specs.contracts.job.PipeWriting as writing
 use Rattle.tb_pair.specs.contracts.job.PipeReading as reading
 use Rattle.tb_pair.specs.contracts.job.PairJob as job
-use Rattle.tb_pair.specs.contracts.ticker.TickedBus as ticked_bus
-use Rattle.tb_pair.specs.contracts.tick_job.PairTicking as ticking
 
 told_send : IsSend told.the_row
 told_send = view_send _ _ _ _ _ (declared_send told_inside.the_type (term_send, tt))
@@ -52,23 +50,3 @@ module _ (κ : NamedLft) (W Plan Taken : RattleType) (g : Ghosts W.Denot Plan.De
 
   pub job_send : (X : RattleType) → IsSend X → IsSend (job.the_row κ W X Plan Taken g)
   job_send X s = variants_send (job.enum κ W X Plan Taken g) ((search (sendable, s) depth 20, tt), ((writing_send, tt), ((reading_send, tt), tt)))
-
-  ticked_bus_send : IsSend (ticked_bus.the_row κ W Plan Taken g)
-  ticked_bus_send =
-      declared_send (ticked_bus.the_type κ W Plan Taken g) (
-        search (sendable, crosses, its_post_sync) depth 40,
-        (seat_send, (search (sendable, crosses) depth 40, tt)),
-      )
-
-  pub ticking_send : (C : RattleType) → IsSend C → IsSend (ticking.the_row κ W C Plan Taken g)
-  ticking_send C s =
-      declared_send (ticking.the_type κ W C Plan Taken g) (
-        ticked_bus_send,
-        (
-          ticked_bus_send,
-          (
-            search (sendable, crosses) depth 40,
-            (search (sendable, crosses) depth 40, (search (sendable, crosses) depth 40, (search (sendable, crosses) depth 40, tt))),
-          ),
-        ),
-      )

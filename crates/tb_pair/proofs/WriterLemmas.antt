@@ -89,6 +89,7 @@ written_on old mid new reply s0 s1 flows flows' it adds same w =
       given = connect ∷ [];
       goes = goes_end old w.mid new (Fed connect reply ∷ w.on.more) (connect ∷ []) on w.ends.adds;
       names = inl refl;
+      first = inr (reply, w.on.more, refl);
       front = w.on.front;
       rest = w.on.rest;
       told = w.on.told;
@@ -106,6 +107,7 @@ written_none old new sent flows it e =
       given = [];
       goes = record { adds = e.0.adds; given_are = refl; cuts = refl };
       names = inr (refl, e.1);
+      first = inl refl;
       front = [];
       rest = [];
       told = refl;
@@ -130,6 +132,7 @@ written_all true old new s0 s1 s2 flows it w p =
       given = w.given;
       goes = w.goes;
       names = w.names;
+      first = w.first;
       front = w.front;
       rest = w.rest;
       last = true;
@@ -140,4 +143,4 @@ written_all true old new s0 s1 s2 flows it w p =
       ends = w.ends;
     }
 written_all false old new s0 s1 s2 flows it w p =
-    record { more = w.more; given = w.given; goes = w.goes; names = w.names; front = w.front; rest = w.rest; last = false; told = w.told; sent = p ∙ w.sent; whole = λ h. absurd cc; marks = w.marks; ends = w.ends }
+    record { more = w.more; given = w.given; goes = w.goes; names = w.names; first = w.first; front = w.front; rest = w.rest; last = false; told = w.told; sent = p ∙ w.sent; whole = λ h. absurd cc; marks = w.marks; ends = w.ends }

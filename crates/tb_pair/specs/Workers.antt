@@ -2,7 +2,11 @@
 use Rattle.std.specs.Prelude.{◌≡◌, ◌≤◌, ◌⊎◌, Bool, true, false, List, [], ◌∷◌, ◌++◌, length, None}
 use Rattle.tb_terms.specs.declared.term.Term.{Term}
 use Rattle.tb_log.specs.declared.entry.Input.{Input}
+use Rattle.tb_log.specs.declared.entry.Reply.{Reply}
+use Rattle.tb_log.specs.declared.entry.Reply.TheVariants.{Dropped}
+use Rattle.tb_log.specs.declared.entry.Why.TheVariants as why
 use Rattle.tb_log.specs.declared.entry.Entry.{Entry}
+use Rattle.tb_log.specs.declared.entry.Entry.TheVariants.{Fed}
 use Rattle.tb_log.specs.Lanes.{inputs}
 use Rattle.tb_tools.specs.Finding.{next_out}
 use Rattle.tb_core.specs.Cores.{HandIn, HandOut}
@@ -54,6 +58,14 @@ pub record Goes (old new : SeatView) (more : List Entry) (given : List Input) : 
   pub given_are : inputs more 1 ≡ given
   pub cuts : cut_count 1 more ≡ 0
 
+-- The connect request is the first of these entries.
+abbrev pub NamesFirst : List Entry → Type 0
+NamesFirst more = (more ≡ []) ⊎ ((reply : Reply) × (rest : List Entry) × (more ≡ Fed connect reply ∷ rest))
+
+-- After an input of lane 1 that was dropped because the bus had shut down, no other input of this lane comes.
+abbrev pub StopsWhereDropped : List Entry → Type 0
+StopsWhereDropped log = (before : List Entry) (it : Input) (after : List Entry) → is_of 1 it ≡ true → log ≡ before ++ Fed it (Dropped why.Down) ∷ after → inputs after 1 ≡ []
+
 -- `pipe_writer`: its end has sent a prefix of the terms of the tool's `rec-do` lines. If it has sent that nothing more comes, the prefix is the whole.
 pub record WritesPipe (old new : SeatView) (sent_old sent_new : List Piece) (it : WorkEnd) : Type 0 where
   pub more : List Entry
@@ -61,6 +73,7 @@ pub record WritesPipe (old new : SeatView) (sent_old sent_new : List Piece) (it 
   pub goes : Goes old new more given
   -- the tool connects, and sends nothing else
   pub names : (given ≡ connect ∷ []) ⊎ ((given ≡ []) × IsEarly it)
+  pub first : NamesFirst more
   pub front : List Term
   pub rest : List Term
   pub last : Bool
@@ -99,6 +112,8 @@ pub record ReadsPipe (old new : SeatView) (got_old got_new : List Piece) (it : W
   pub leaves : Bool
   -- the tool connects, then sends these events, then perhaps leaves
   pub names : (given ≡ connect ∷ lines_of told leaves) ⊎ ((given ≡ []) × (told ++ lost ≡ []) × (last ≡ false) × (leaves ≡ false) × IsEarly it)
+  pub first : NamesFirst more
+  pub once : StopsWhereDropped more
   pub events_are : events more ≡ told
   pub got : got_new ≡ got_old ++ pieces (told ++ lost) last
   pub said : leaves ≡ true → (last ≡ true) × (lost ≡ [])

@@ -8,7 +8,6 @@ mod piece;
 mod pipe;
 mod reader;
 mod settle;
-mod tick_job;
 mod ticker;
 mod writer;
 
@@ -17,6 +16,5 @@ pub use laws::{a_pair_parts, ends_meet, ticks_meet};
 pub use piece::{Piece, Told};
 pub use pipe::{PipeIn, PipeOut};
 pub use reader::pipe_reader;
-pub use tick_job::PairTicking;
 pub use ticker::{TickedBus, pair_ticker};
 pub use writer::pipe_writer;

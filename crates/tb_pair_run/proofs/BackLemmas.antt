@@ -1,10 +1,11 @@
 -- What comes back of the crew of a pair.
-use Rattle.std.proofs.Common.{◌≡◌, ℕ, List, Option, Some, None, MatchOption, Result, Ok, Err, IfOk, IfErr, OnOk, sym, subst, ◌∙◌}
+use Rattle.std.proofs.Common.{◌≡◌, ℕ, List, Option, Some, None, MatchOption, Result, Ok, Err, IfOk, IfErr, OnOk, sym, ap, subst, ◌∙◌}
 use Rattle.tb_edge.specs.Faults.{Rose}
 use Rattle.tb_edge.specs.Jobs.{FailsOnly, jobs_of}
 use Rattle.tb_edge.specs.declared.crew.CrewFault.{CrewFault}
 use Rattle.tb_run.specs.declared.ends.RunWhy.{RunWhy}
 use Rattle.tb_run.specs.Running.{FailsFor, why_by}
+use Rattle.tb_edge.specs.Ends.{ClockView}
 use Rattle.tb_lock.specs.Seats.{SeatView}
 use Rattle.tb_run.specs.declared.ends.WorkEnd.{WorkEnd}
 use Rattle.tb_run.proofs.BackLemmas.{fails_for}
@@ -31,3 +32,16 @@ moved {K} T s s' o o' k k' e e' f f' ps po pk pe pf t =
     (subst (λ (x : K). T s' o' x e f) (sym pk)
     (subst (λ (x : SeatView). T s' x k e f) (sym po)
     (subst (λ (x : SeatView). T x o k e f) (sym ps) t))))
+
+-- what a job comes to that was lent, said of what it leaves
+pub worked_so : {K J : Type 0} (o : Option RunWhy) (A : Type 0) (T : SeatView → SeatView → K → WorkEnd → WorkEnd → Type 0) (F : RunWhy → Type 0) (S : Type 0) (old new : J) (one other : J → SeatView) (clock : J → K) (one_end other_end : J → WorkEnd) (told : K → Option ClockView)
+    (s p : SeatView) (k : K) (e f : WorkEnd) → s ≡ one new → p ≡ other new → k ≡ clock new → e ≡ one_end new → f ≡ other_end new
+    → MatchOption o (A × T (one new) (other new) (clock new) (one_end new) (other_end new)) (λ w. F w × S × (new ≡ old)) → MatchOption o (A × T s p k e f) (λ w. F w × S × ((s ≡ one old) × (p ≡ other old) × (told k ≡ told (clock old))))
+worked_so None A T F S old new one other clock one_end other_end told s p k e f hs hp hk he hf m =
+    (m.0, moved T (one new) s (other new) p (clock new) k (one_end new) e (other_end new) f hs hp hk he hf m.1)
+worked_so {K} {J} (Some w) A T F S old new one other clock one_end other_end told s p k e f hs hp hk he hf m =
+    (m.0, m.1, (hs ∙ ap one m.2, hp ∙ ap other m.2, ap told hk ∙ ap (λ (j : J). told (clock j)) m.2))
+
+pub calm_so : {K J : Type 0} (o : Option RunWhy) (A : Type 0) (old new : J) (clock : J → K) (faults : K → ℕ) (k : K) → k ≡ clock new → MatchOption o A (λ w. new ≡ old) → MatchOption o A (λ w. faults k ≡ faults (clock old))
+calm_so None A old new clock faults k e m = m
+calm_so {K} {J} (Some w) A old new clock faults k e m = ap faults e ∙ ap (λ (j : J). faults (clock j)) m

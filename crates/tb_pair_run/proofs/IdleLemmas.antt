@@ -9,7 +9,7 @@ use Rattle.tb_lock.specs.Seats.{SeatView, first_seat}
 use Rattle.tb_lock.specs.Calls.{Closes}
 use Rattle.tb_run.specs.declared.ends.RunWhy.{RunWhy}
 use Rattle.tb_run.specs.declared.ends.RunWhy.TheVariants as run
-use Rattle.tb_run.specs.Outcomes.{LaneStopped}
+use Rattle.tb_run.specs.Outcomes.{LaneStopped, is_of}
 use Rattle.tb_run.specs.Running.{FailsFor}
 use Rattle.tb_run.specs.Views.{EachLane, LaneView}
 use Rattle.tb_run.proofs.ReadLemmas.{and_given_none}
@@ -18,6 +18,8 @@ use Rattle.tb_run.proofs.WorkedLemmas.{sees_nothing}
 use Rattle.tb_run.proofs.WriteLemmas.{and_taken_none}
 use Rattle.tb_pair.specs.Clocks.{ClockPasses, TimePasses}
 use Rattle.tb_pair.specs.Passing.{Passes}
+use Rattle.tb_pair.proofs.OnceLemmas.{awaits_none, once_none}
+use Rattle.tb_pair.proofs.PipeLemmas.{dropped_none}
 use Rattle.tb_pair_run.specs.Helpers.Reasons.{no_crew}
 use Rattle.tb_pair_run.specs.Helpers.Running.{HasCome, IsBack, with_first}
 use Rattle.tb_pair_run.specs.Outcomes.{NothingDone, PairOutcome, TellsFirst}
@@ -58,6 +60,9 @@ nothing_passed = record {
   prefix = refl;
   no_cut = refl;
   others_no_cut = refl;
+  first = awaits_none;
+  others_first = awaits_none;
+  others_once = once_none [] (dropped_none (is_of 1));
   names = inr (refl, tt);
   leaves = false;
   others_names = inr (refl, refl, tt);

@@ -1,4 +1,5 @@
 pub mod PartLemmas
+pub mod SendLemmas
 pub mod TeamLemmas
 pub mod SideLemmas
 pub mod CameLemmas
@@ -7,3 +8,5 @@ pub mod BackLemmas
 pub mod RunLemmas
 pub mod SettleLemmas
 pub mod OutsideLemmas
+pub mod EndedLemmas
+pub mod LogLemmas

@@ -83,7 +83,7 @@ module _ {W Plan Walked X I O : Type 0} (seat : X → SeatView) (ended : X → W
   -- there was none
   abbrev pub CrewFailed : RunWhy → Type 0
   CrewFailed w =
-      FailsFor w crew crew' × TeamSame writing writing' reading reading' xs ys others_xs others_ys × (tick_done ≡ tick_begun) × (others_tick_done ≡ others_tick_begun) × (clock' ≡ clock)
+      FailsFor w crew crew' × TeamSame writing writing' reading reading' xs ys others_xs others_ys × ((tick_done ≡ tick_begun) × (others_tick_done ≡ others_tick_begun) × (clock' ≡ clock))
 
   -- what settling both buses needs, and what is known of all
   pub record CameBack (failed : Option RunWhy) : Type 0 where
@@ -136,9 +136,9 @@ module _ {W Plan Walked X I O : Type 0} (seat : X → SeatView) (ended : X → W
       let ws : writing'.seat ≡ writing.seat = ap (λ (j : PipeWriting W Plan Walked). j.seat) n.writes_same in
       let rs : reading'.seat ≡ reading.seat = ap (λ (j : PipeReading W Plan Walked). j.seat) n.reads_same in
       record {
-        one = may_finish seat ended work gave fails took faults bus begun home is os xs ys writing'.seat tick_done first seats works ins outs home_is (ap (λ (s : SeatView). s.bus) ws ∙ writing_bus) (ap (λ (s : SeatView). s.bus) m.2 ∙ tick_bus)
+        one = may_finish seat ended work gave fails took faults bus begun home is os xs ys writing'.seat tick_done first seats works ins outs home_is (ap (λ (s : SeatView). s.bus) ws ∙ writing_bus) (ap (λ (s : SeatView). s.bus) m.2.0 ∙ tick_bus)
             (lanes_same seat ended work gave fails took faults begun lane_rights 2 15 is os xs ys (first_so bus begun begun first) seats works ins outs n.workers_same);
-        other = may_finish seat ended work gave fails took faults others_bus others_begun others_home others_is others_os others_xs others_ys reading'.seat others_tick_done others_first others_seats others_works others_ins others_outs others_home_is (ap (λ (s : SeatView). s.bus) rs ∙ reading_bus) (ap (λ (s : SeatView). s.bus) m.3 ∙ others_tick_bus)
+        other = may_finish seat ended work gave fails took faults others_bus others_begun others_home others_is others_os others_xs others_ys reading'.seat others_tick_done others_first others_seats others_works others_ins others_outs others_home_is (ap (λ (s : SeatView). s.bus) rs ∙ reading_bus) (ap (λ (s : SeatView). s.bus) m.2.1 ∙ others_tick_bus)
             (lanes_same seat ended work gave fails took faults others_begun lane_rights 2 15 others_is others_os others_xs others_ys (first_so others_bus others_begun others_begun others_first) others_seats others_works others_ins others_outs n.others_same);
         ends = subst (λ (j : PipeWriting W Plan Walked). IsPair j.pipe.end reading'.pipe.end) (sym n.writes_same) (subst (λ (j : PipeReading W Plan Walked). IsPair writing.pipe.end j.pipe.end) (sym n.reads_same) pair);
         all = record {
@@ -147,8 +147,8 @@ module _ {W Plan Walked X I O : Type 0} (seat : X → SeatView) (ended : X → W
           reads_same = rs;
           workers_same = n.workers_same;
           others_same = n.others_same;
-          tick_same = m.2;
-          others_tick_same = m.3;
-          clock_same = m.4;
+          tick_same = m.2.0;
+          others_tick_same = m.2.1;
+          clock_same = m.2.2;
         };
       }

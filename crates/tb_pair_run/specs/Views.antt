@@ -1,5 +1,5 @@
 -- What is seen of the outside of two buses that run as a pair, before the call and after it.
-use Rattle.std.specs.Prelude.{◌≡◌, ◌≤◌, ℕ, List, [], ◌∷◌, map, Option}
+use Rattle.std.specs.Prelude.{◌≡◌, ◌≤◌, ℕ, List, [], ◌∷◌, map, Option, Some, ⊤}
 use Rattle.std.specs.declared.alloc.Global.{Global}
 use Rattle.std.specs.declared.dyn_box.DynBox.{DynBox}
 use Rattle.tb_edge.specs.Ends.{ClockView}
@@ -8,7 +8,7 @@ use Rattle.tb_edge.specs.declared.inlet.Inlet.{Ghosts as InletTells}
 use Rattle.tb_edge.specs.declared.outlet.Outlet.{Ghosts as OutletTells}
 use Rattle.tb_edge.specs.declared.clock.Clock.{Ghosts as ClockTells}
 use Rattle.tb_edge.specs.declared.crew.Crew.{Ghosts as CrewTells}
-use Rattle.tb_run.specs.Views.{LaneView, lane_view, EachLane, SomeLane}
+use Rattle.tb_run.specs.Views.{LaneView, lane_view, AllTell, EachLane, SomeLane}
 
 -- the lanes of the first bus and those of the second, the one clock, and the crew
 pub record PairView : Type 0 where
@@ -51,3 +51,14 @@ SomeFromTwo P (old ∷ olds) [] = ⊥
 -- a lane that gave and took nothing
 abbrev pub IsSame : ℕ → LaneView → LaneView → Type 0
 IsSame lane old new = new ≡ old
+
+-- each lane from 2 on tells what its inlet gave and what its outlet took
+abbrev pub TellFromTwo : List LaneView → Type 0
+TellFromTwo [] = ⊤
+TellFromTwo (lane ∷ lanes) = AllTell lanes
+
+-- the lanes of both buses from 2 on and the clock tell what they gave and took
+pub record PairTells (view : PairView) : Type 0 where
+  pub lanes : TellFromTwo view.lanes
+  pub others : TellFromTwo view.others
+  pub clock : (given : ClockView) × (view.clock ≡ Some given)

@@ -7,16 +7,17 @@ ghost use Rattle.tb_run.specs.Jobs.{IsReady as IsReadyWorker, WorkDone};
 ghost use Rattle.tb_run.specs.Running.{FailsFor};
 ghost use Rattle.tb_pair.specs.Jobs.{CanServe, IsReady, JobDone};
 ghost use Rattle.tb_pair.specs.Ticking.{CanTick, TicksPair};
-ghost use Rattle.tb_pair_run.specs.Helpers.Teams.{IsTeam, TeamDone, TeamSame, jobs_of as team_of};
+ghost use Rattle.tb_pair_run.specs.Helpers.Teams.{CanBegin, IsTeam, TeamDone, TeamSame, jobs_of as team_of};
 
 use crate::apart::{put_together, take_apart};
 use crate::idle::Idle;
+use crate::lent::LentTicking;
 use std::sync::Wait;
 use std::thread::Threads;
 use tb_algebra::Walker;
 use tb_edge::{Clock, Crew, CrewFault, Inlet, Outlet};
 use tb_lock::Seat;
-use tb_pair::{PairJob, PairTicking, PipeReading, PipeWriting, beside};
+use tb_pair::{PairJob, PipeReading, PipeWriting, TickedBus, beside};
 use tb_run::{RunWhy, WorkEnd, Worker, taken_back};
 
 /// The jobs of a pair, but for the ticker.
@@ -59,9 +60,8 @@ pub(crate) struct Lists<'a, W: Walker, I, O> {
 }
 
 /// Puts the jobs together, has them done, and takes them apart again.
-pub(crate) fn do_jobs<
+pub(crate) fn work<
     'a,
-    'b,
     W: Walker + Send,
     R: Threads + Wait + Sync,
     C: Clock + Send,
@@ -72,9 +72,12 @@ pub(crate) fn do_jobs<
     rt: &R,
     crowd: Crowd<'a, W, I, O>,
     lists: Lists<'a, W, I, O>,
-    ticking: &mut PairTicking<'b, W, C>,
+    one: TickedBus<'a, W>,
+    other: TickedBus<'a, W>,
+    clock: &mut C,
+    ticks: u64,
     crew: &mut P,
-) -> (Option<RunWhy>, Crowd<'a, W, I, O>)
+) -> Back<'a, W, I, O>
 where
     W::Plan: Send,
     W::Taken: Send,
@@ -85,30 +88,30 @@ where
     requires others { All (λ it. IsReadyWorker it.post.now.shared it.seat it.work)
         crowd.others.items }
     requires counts { (length crowd.workers.items ≡ 31) × (length crowd.others.items ≡ 31) }
-    requires one { CanTick ticking.old.one.post.now.shared ticking.old.one.seat
-        × (ticking.old.one.end ≡ None) }
-    requires other { CanTick ticking.old.other.post.now.shared ticking.old.other.seat
-        × (ticking.old.other.end ≡ None) }
-    ensures clock { ticking.new.clock.ghost_name ≡ ticking.old.clock.ghost_name }
-    ensures worked { MatchOption result.0
+    requires one { CanTick one.post.now.shared one.seat × (one.end ≡ None) }
+    requires other { CanTick other.post.now.shared other.seat × (other.end ≡ None) }
+    ensures worked { MatchOption result.failed
         (TeamDone
         (λ old new. WorkDone I.told O.told O.faults old.seat new.seat new.end old.work new.work)
-        crowd.entry.writing result.1.writing crowd.entry.reading result.1.reading
-        crowd.entry.workers.items result.1.workers.items
-        crowd.entry.others.items result.1.others.items
-        × TicksPair ticking.old.ticks ticking.old.one.seat ticking.new.one.seat
-        ticking.old.other.seat ticking.new.other.seat
-        (C.told ticking.old.clock.now) (C.told ticking.new.clock.now)
-        (C.faults ticking.old.clock.now) (C.faults ticking.new.clock.now)
-        ticking.new.one_end ticking.new.other_end)
+        crowd.entry.writing result.crowd.writing crowd.entry.reading result.crowd.reading
+        crowd.entry.workers.items result.crowd.workers.items
+        crowd.entry.others.items result.crowd.others.items
+        × TicksPair ticks one.entry.seat result.ticked.seat
+        other.entry.seat result.ticked.others_seat
+        (C.told clock.old) (C.told clock.new) (C.faults clock.old) (C.faults clock.new)
+        result.ticked.end result.ticked.others_end)
         (λ why. FailsFor why (P.faults crew.old) (P.faults crew.new)
-        × TeamSame crowd.entry.writing result.1.writing
-        crowd.entry.reading result.1.reading
-        crowd.entry.workers.items result.1.workers.items
-        crowd.entry.others.items result.1.others.items
-        × (ticking.new ≡ ticking.old)) }
-    ensures calm { MatchOption result.0
-        (P.faults crew.new ≡ P.faults crew.old) (λ why. ticking.new ≡ ticking.old) }
+        × TeamSame crowd.entry.writing result.crowd.writing
+        crowd.entry.reading result.crowd.reading
+        crowd.entry.workers.items result.crowd.workers.items
+        crowd.entry.others.items result.crowd.others.items
+        × ((result.ticked.seat ≡ one.entry.seat) × (result.ticked.others_seat ≡ other.entry.seat)
+        × (C.told clock.new ≡ C.told clock.old))) }
+
+    // A crew that does the jobs hasn't failed; and where there was none, the clock hasn't.
+    ensures calm { MatchOption result.failed
+        (P.faults crew.new ≡ P.faults crew.old)
+        (λ why. C.faults clock.new ≡ C.faults clock.old) }
 {
     let Crowd {
         writing,
@@ -123,15 +126,120 @@ where
     } = lists;
     let mut jobs = jobs;
     put_together(writing, reading, workers, others, &mut jobs);
-    let (failed, jobs) = crew_jobs(rt, crew, jobs, ticking);
+    let (failed, jobs, ticked) = work_listed(rt, jobs, one, other, clock, ticks, crew);
     let crowd = part(jobs, back, others_back);
-    (failed, crowd)
+    Back {
+        failed,
+        crowd,
+        ticked,
+    }
+}
+
+/// Has all jobs of the list done, which come back in each case. The clock is lent to the ticker.
+fn work_listed<
+    'a,
+    W: Walker + Send,
+    R: Threads + Wait + Sync,
+    C: Clock + Send,
+    P: Crew,
+    I: Inlet + Send,
+    O: Outlet + Send,
+>(
+    rt: &R,
+    jobs: Vec<PairJob<'a, W, Worker<'a, W, I, O>>>,
+    one: TickedBus<'a, W>,
+    other: TickedBus<'a, W>,
+    clock: &mut C,
+    ticks: u64,
+    crew: &mut P,
+) -> (
+    Option<RunWhy>,
+    Vec<PairJob<'a, W, Worker<'a, W, I, O>>>,
+    Ticked,
+)
+where
+    W::Plan: Send,
+    W::Taken: Send,
+    requires jobs { All
+        (IsReady (λ it. IsReadyWorker it.post.now.shared it.seat it.work)) jobs.items }
+    requires one { CanTick one.post.now.shared one.seat × (one.end ≡ None) }
+    requires other { CanTick other.post.now.shared other.seat × (other.end ≡ None) }
+    ensures worked { MatchOption result.0
+        (AllDone (JobDone (λ old new.
+        WorkDone I.told O.told O.faults old.seat new.seat new.end old.work new.work))
+        jobs.entry.items result.1.items
+        × TicksPair ticks one.entry.seat result.2.seat
+        other.entry.seat result.2.others_seat
+        (C.told clock.old) (C.told clock.new) (C.faults clock.old) (C.faults clock.new)
+        result.2.end result.2.others_end)
+        (λ why. FailsFor why (P.faults crew.old) (P.faults crew.new)
+        × (result.1.items ≡ jobs.entry.items)
+        × ((result.2.seat ≡ one.entry.seat) × (result.2.others_seat ≡ other.entry.seat)
+        × (C.told clock.new ≡ C.told clock.old))) }
+    ensures calm { MatchOption result.0
+        (P.faults crew.new ≡ P.faults crew.old)
+        (λ why. C.faults clock.new ≡ C.faults clock.old) }
+{
+    let mut one = one;
+    let mut other = other;
+    let mut ticking = LentTicking {
+        one: &mut one,
+        other: &mut other,
+        clock,
+        ticks,
+        one_end: WorkEnd::Over,
+        other_end: WorkEnd::Over,
+    };
+    let (failed, jobs) = crew_jobs(rt, crew, jobs, &mut ticking);
+    let (end, others_end) = end_ticks(ticking);
+    let ticked = ticked_of(one, other, end, others_end);
+    (failed, jobs, ticked)
+}
+
+/// Why the ticker ended at each bus. What was lent to it is left as it is.
+fn end_ticks<'b, 'c, W: Walker, C: Clock>(job: LentTicking<'b, 'c, W, C>) -> (WorkEnd, WorkEnd)
+    ensures ends { (result.0 ≡ job.entry.one_end) × (result.1 ≡ job.entry.other_end) }
+    ensures one { job.exit.0.now ≡ job.entry.one.now }
+    ensures other { job.exit.1.0.now ≡ job.entry.other.now }
+    ensures clock { job.exit.1.1.0.now ≡ job.entry.clock.now }
+{
+    let LentTicking {
+        one_end,
+        other_end,
+        ..
+    } = job;
+    (one_end, other_end)
+}
+
+/// What the ticker leaves of both buses.
+fn ticked_of<'a, W: Walker>(
+    one: TickedBus<'a, W>,
+    other: TickedBus<'a, W>,
+    end: WorkEnd,
+    others_end: WorkEnd,
+) -> Ticked
+    ensures seat { result.seat ≡ one.entry.seat }
+    ensures others_seat { result.others_seat ≡ other.entry.seat }
+    ensures ends { (result.end ≡ end) × (result.others_end ≡ others_end) }
+{
+    let TickedBus { seat, .. } = one;
+    let TickedBus {
+        seat: others_seat,
+        ..
+    } = other;
+    Ticked {
+        seat,
+        end,
+        others_seat,
+        others_end,
+    }
 }
 
 /// The crew does all jobs, which come back in each case.
 fn crew_jobs<
     'a,
     'b,
+    'c,
     W: Walker + Send,
     R: Threads + Wait + Sync,
     C: Clock + Send,
@@ -142,24 +250,23 @@ fn crew_jobs<
     rt: &R,
     crew: &mut P,
     jobs: Vec<PairJob<'a, W, Worker<'a, W, I, O>>>,
-    ticking: &mut PairTicking<'b, W, C>,
+    ticking: &mut LentTicking<'b, 'c, W, C>,
 ) -> (Option<RunWhy>, Vec<PairJob<'a, W, Worker<'a, W, I, O>>>)
 where
     W::Plan: Send,
     W::Taken: Send,
     requires jobs { All
         (IsReady (λ it. IsReadyWorker it.post.now.shared it.seat it.work)) jobs.items }
-    requires one { CanTick ticking.old.one.post.now.shared ticking.old.one.seat
-        × (ticking.old.one.end ≡ None) }
-    requires other { CanTick ticking.old.other.post.now.shared ticking.old.other.seat
-        × (ticking.old.other.end ≡ None) }
+    requires ticking { CanBegin ticking.old }
+    ensures one { ticking.new.one.ghost_name ≡ ticking.old.one.ghost_name }
+    ensures other { ticking.new.other.ghost_name ≡ ticking.old.other.ghost_name }
     ensures clock { ticking.new.clock.ghost_name ≡ ticking.old.clock.ghost_name }
     ensures done { MatchOption result.0
         (AllDone (JobDone (λ old new.
         WorkDone I.told O.told O.faults old.seat new.seat new.end old.work new.work))
         jobs.entry.items result.1.items
-        × TicksPair ticking.old.ticks ticking.old.one.seat ticking.new.one.seat
-        ticking.old.other.seat ticking.new.other.seat
+        × TicksPair ticking.old.ticks ticking.old.one.now.seat ticking.new.one.now.seat
+        ticking.old.other.now.seat ticking.new.other.now.seat
         (C.told ticking.old.clock.now) (C.told ticking.new.clock.now)
         (C.faults ticking.old.clock.now) (C.faults ticking.new.clock.now)
         ticking.new.one_end ticking.new.other_end)
@@ -175,6 +282,7 @@ where
 fn crew_all<
     'a,
     'b,
+    'c,
     W: Walker + Send,
     R: Threads + Wait + Sync,
     C: Clock + Send,
@@ -185,7 +293,7 @@ fn crew_all<
     rt: &R,
     crew: &mut P,
     jobs: Vec<PairJob<'a, W, Worker<'a, W, I, O>>>,
-    ticking: &mut PairTicking<'b, W, C>,
+    ticking: &mut LentTicking<'b, 'c, W, C>,
 ) -> Result<
     Vec<PairJob<'a, W, Worker<'a, W, I, O>>>,
     CrewFault<PairJob<'a, W, Worker<'a, W, I, O>>>,
@@ -195,17 +303,16 @@ where
     W::Taken: Send,
     requires jobs { All
         (IsReady (λ it. IsReadyWorker it.post.now.shared it.seat it.work)) jobs.items }
-    requires one { CanTick ticking.old.one.post.now.shared ticking.old.one.seat
-        × (ticking.old.one.end ≡ None) }
-    requires other { CanTick ticking.old.other.post.now.shared ticking.old.other.seat
-        × (ticking.old.other.end ≡ None) }
+    requires ticking { CanBegin ticking.old }
+    ensures one { ticking.new.one.ghost_name ≡ ticking.old.one.ghost_name }
+    ensures other { ticking.new.other.ghost_name ≡ ticking.old.other.ghost_name }
     ensures clock { ticking.new.clock.ghost_name ≡ ticking.old.clock.ghost_name }
     ensures ok { IfOk result (λ back. AllDone
         (JobDone (λ old new.
         WorkDone I.told O.told O.faults old.seat new.seat new.end old.work new.work))
         jobs.entry.items back.items
-        × TicksPair ticking.old.ticks ticking.old.one.seat ticking.new.one.seat
-        ticking.old.other.seat ticking.new.other.seat
+        × TicksPair ticking.old.ticks ticking.old.one.now.seat ticking.new.one.now.seat
+        ticking.old.other.now.seat ticking.new.other.now.seat
         (C.told ticking.old.clock.now) (C.told ticking.new.clock.now)
         (C.faults ticking.old.clock.now) (C.faults ticking.new.clock.now)
         ticking.new.one_end ticking.new.other_end) }

@@ -1,4 +1,4 @@
-//! Two buses and a pipe: what a run of all workers of both must state, and the parts of which it is to be made.
+//! Two buses and a pipe: the run of all workers of both, and what the two logs say then.
 #![tactic(auto)]
 
 mod apart;
@@ -6,6 +6,8 @@ mod crewing;
 mod ending;
 mod ends;
 mod idle;
+mod laws;
+mod lent;
 mod parts;
 mod running;
 mod stock;
@@ -13,3 +15,5 @@ mod team;
 mod working;
 
 pub use ends::{BusWhy, PairWhy};
+pub use laws::{a_pair_has_its_two_logs, a_pair_that_ended_was_not_refused};
+pub use running::run_pair;

@@ -1,21 +1,232 @@
-//! What stands at the head and at the end of a run: the lanes are taken apart and put together, and a bus is closed.
-ghost use Rattle.std.specs.Prelude.{◌≡◌, ◌≤◌, ◌∷◌, [], length, IsTrue, map, vec_len, vec_capacity};
+//! The run of two buses and of the pipe between them.
+ghost use Rattle.std.specs.Prelude.{◌≡◌, ◌≤◌, ◌∷◌, [], length, false, IsTrue, map, vec_len, vec_capacity};
 ghost use Rattle.std.specs.List.{list_all};
 ghost use Rattle.tb_log.specs.Proper.{is_proper_entry};
 ghost use Rattle.tb_lock.specs.Calls.{Closes};
 ghost use Rattle.tb_lock.specs.Rights.{all_rights};
-ghost use Rattle.tb_lock.specs.Seats.{most_seats};
+ghost use Rattle.tb_lock.specs.Seats.{first_seat, most_seats};
+ghost use Rattle.tb_pair_run.specs.Outcomes.{PairRuns};
+ghost use Rattle.tb_pair_run.specs.Views.{pair_seen};
+ghost use Rattle.tb_pair_run.specs.Helpers.Running.{RunsFromTwo, ends_seen};
 
+use crate::ends::PairWhy;
+use crate::working::{Bus, Came, Left, run_workers};
+use std::alloc::Global;
+use std::mem;
 use std::sync::Wait;
+use std::sync::atomic::AtomicU32;
+use std::thread::Threads;
 use tb_algebra::Walker;
 use tb_core::Core;
-use tb_edge::{LanePair, Outlet};
-use tb_lock::Seat;
+use tb_edge::{Clock, Crew, Inlet, LanePair, Outlet};
+use tb_lock::{Seat, Shared};
 use tb_log::show_proper_log;
-use tb_run::{AnyInlet, AnyOutlet, Lanes, Post, pair_lanes, part_lanes};
+use tb_run::{AnyInlet, AnyOutlet, Boxes, Lanes, Post, make_boxes, pair_lanes, part_lanes};
+
+/// How many workers a bus has, but for the ticker that both share: those of lanes 2 to 16, the stepper, and the pipe's.
+const JOBS: u32 = 32;
+
+/// What comes of two buses over the ends of their lanes from 2 on.
+#[derive(Drop)]
+struct Ran<W: Walker, I, O> {
+    why: PairWhy,
+    core: Core<W>,
+    others_core: Core<W>,
+    lanes: Lanes<I, O>,
+    others: Lanes<I, O>,
+}
+
+/// Runs two buses that were made, and closes them.
+fn run_shared<
+    W: Walker + Send,
+    R: Threads + Wait + Sync,
+    C: Clock + Send,
+    P: Crew,
+    I: Inlet + Send,
+    O: Outlet + Send,
+>(
+    rt: &R,
+    post: Post<W>,
+    seat: Seat,
+    others_post: Post<W>,
+    others_seat: Seat,
+    lanes: Lanes<I, O>,
+    others: Lanes<I, O>,
+    clock: &mut C,
+    ticks: u64,
+    crew: &mut P,
+) -> Ran<W, I, O>
+where
+    W::Plan: Send,
+    W::Taken: Send,
+    requires inlets { (length lanes.inlets.items ≡ 15) × (length others.inlets.items ≡ 15) }
+    requires outlets { (length lanes.outlets.items ≡ 15) × (length others.outlets.items ≡ 15) }
+    requires one { seat ≡ first_seat post.shared seat.origin }
+    requires other { others_seat ≡ first_seat others_post.shared others_seat.origin }
+    ensures runs { let seen = ends_seen I.Inlet O.Outlet C.Clock P.Crew in
+        RunsFromTwo ticks
+        (seen lanes.inlets.items lanes.outlets.items
+        others.inlets.items others.outlets.items clock.old crew.old)
+        (seen result.lanes.inlets.items result.lanes.outlets.items
+        result.others.inlets.items result.others.outlets.items clock.new crew.new)
+        seat.origin others_seat.origin result.core result.others_core result.why }
+    ensures inlets { (length result.lanes.inlets.items ≡ 15)
+        × (length result.others.inlets.items ≡ 15) }
+    ensures outlets { (length result.lanes.outlets.items ≡ 15)
+        × (length result.others.outlets.items ≡ 15) }
+{
+    let over = AtomicU32::new(0);
+    let one = Bus {
+        post: &post,
+        seat,
+        lanes,
+    };
+    let other = Bus {
+        post: &others_post,
+        seat: others_seat,
+        lanes: others,
+    };
+    let came = run_workers(rt, one, other, &over, clock, ticks, crew);
+    let Came { why, one, other } = came;
+    let Left { seat, lanes } = one;
+    let Left {
+        seat: others_seat,
+        lanes: others,
+    } = other;
+    let core = close_bus(rt, post, seat);
+    let others_core = close_bus(rt, others_post, others_seat);
+    Ran {
+        why,
+        core,
+        others_core,
+        lanes,
+        others,
+    }
+}
+
+/// Makes the second bus, and runs both.
+fn run_second<
+    W: Walker + Send,
+    R: Threads + Wait + Sync,
+    C: Clock + Send,
+    P: Crew,
+    I: Inlet + Send,
+    O: Outlet + Send,
+>(
+    rt: &R,
+    post: Post<W>,
+    seat: Seat,
+    second: Core<W>,
+    lanes: Lanes<I, O>,
+    others: Lanes<I, O>,
+    clock: &mut C,
+    ticks: u64,
+    crew: &mut P,
+) -> Ran<W, I, O>
+where
+    W::Plan: Send,
+    W::Taken: Send,
+    requires inlets { (length lanes.inlets.items ≡ 15) × (length others.inlets.items ≡ 15) }
+    requires outlets { (length lanes.outlets.items ≡ 15) × (length others.outlets.items ≡ 15) }
+    requires one { seat ≡ first_seat post.shared seat.origin }
+    requires log { second.log ≡ [] }
+    requires running { second.stopped ≡ false }
+    ensures runs { let seen = ends_seen I.Inlet O.Outlet C.Clock P.Crew in
+        RunsFromTwo ticks
+        (seen lanes.inlets.items lanes.outlets.items
+        others.inlets.items others.outlets.items clock.old crew.old)
+        (seen result.lanes.inlets.items result.lanes.outlets.items
+        result.others.inlets.items result.others.outlets.items clock.new crew.new)
+        seat.origin second.origin result.core result.others_core result.why }
+    ensures inlets { (length result.lanes.inlets.items ≡ 15)
+        × (length result.others.inlets.items ≡ 15) }
+    ensures outlets { (length result.lanes.outlets.items ≡ 15)
+        × (length result.others.outlets.items ≡ 15) }
+{
+    let alloc = post.alloc;
+    match Shared::make(alloc, second) {
+        Ok((shared, others_seat)) => {
+            let others_post = Post::new(alloc, shared, JOBS);
+            run_shared(
+                rt,
+                post,
+                seat,
+                others_post,
+                others_seat,
+                lanes,
+                others,
+                clock,
+                ticks,
+                crew,
+            )
+        }
+        Err(refused) => Ran {
+            why: PairWhy::NoMemory,
+            core: close_bus(rt, post, seat),
+            others_core: refused.core,
+            lanes,
+            others,
+        },
+    }
+}
+
+/// Makes both buses, and runs them.
+fn run_ends<
+    W: Walker + Send,
+    R: Threads + Wait + Sync,
+    C: Clock + Send,
+    P: Crew,
+    I: Inlet + Send,
+    O: Outlet + Send,
+>(
+    rt: &R,
+    alloc: Global,
+    first: Core<W>,
+    second: Core<W>,
+    lanes: Lanes<I, O>,
+    others: Lanes<I, O>,
+    clock: &mut C,
+    ticks: u64,
+    crew: &mut P,
+) -> Ran<W, I, O>
+where
+    W::Plan: Send,
+    W::Taken: Send,
+    requires inlets { (length lanes.inlets.items ≡ 15) × (length others.inlets.items ≡ 15) }
+    requires outlets { (length lanes.outlets.items ≡ 15) × (length others.outlets.items ≡ 15) }
+    requires log { first.log ≡ [] }
+    requires other_log { second.log ≡ [] }
+    requires running { first.stopped ≡ false }
+    requires other_running { second.stopped ≡ false }
+    ensures runs { let seen = ends_seen I.Inlet O.Outlet C.Clock P.Crew in
+        RunsFromTwo ticks
+        (seen lanes.inlets.items lanes.outlets.items
+        others.inlets.items others.outlets.items clock.old crew.old)
+        (seen result.lanes.inlets.items result.lanes.outlets.items
+        result.others.inlets.items result.others.outlets.items clock.new crew.new)
+        first.origin second.origin result.core result.others_core result.why }
+    ensures inlets { (length result.lanes.inlets.items ≡ 15)
+        × (length result.others.inlets.items ≡ 15) }
+    ensures outlets { (length result.lanes.outlets.items ≡ 15)
+        × (length result.others.outlets.items ≡ 15) }
+{
+    match Shared::make(alloc, first) {
+        Ok((shared, seat)) => {
+            let post = Post::new(alloc, shared, JOBS);
+            run_second(rt, post, seat, second, lanes, others, clock, ticks, crew)
+        }
+        Err(refused) => Ran {
+            why: PairWhy::NoMemory,
+            core: refused.core,
+            others_core: second,
+            lanes,
+            others,
+        },
+    }
+}
 
 /// Closes a bus. Its log has proper entries alone.
-pub(crate) fn close_bus<W: Walker, R: Wait>(rt: &R, post: Post<W>, seat: Seat) -> Core<W>
+fn close_bus<W: Walker, R: Wait>(rt: &R, post: Post<W>, seat: Seat) -> Core<W>
     requires own { seat.bus ≡ post.shared }
     requires rights { seat.rights ≡ all_rights }
     requires room { seat.room ≡ most_seats }
@@ -30,7 +241,7 @@ pub(crate) fn close_bus<W: Walker, R: Wait>(rt: &R, post: Post<W>, seat: Seat) -
 }
 
 /// Takes the pair at place 1 out of a list, and the ends out of all others.
-pub(crate) fn take_first(
+fn take_first(
     pairs: Vec<LanePair>,
     ends: Lanes<AnyInlet, AnyOutlet>,
 ) -> (LanePair, Lanes<AnyInlet, AnyOutlet>)
@@ -51,7 +262,7 @@ pub(crate) fn take_first(
 }
 
 /// Closes the outlet of a pair that isn't used.
-pub(crate) fn close_unused(pair: LanePair) -> LanePair
+fn close_unused(pair: LanePair) -> LanePair
     ensures inlet { result.inlet ≡ pair.inlet }
     ensures took { ⟦<Box<dyn Outlet + Send> as Outlet>⟧.told result.outlet
         ≡ ⟦<Box<dyn Outlet + Send> as Outlet>⟧.told pair.outlet }
@@ -65,11 +276,7 @@ pub(crate) fn close_unused(pair: LanePair) -> LanePair
 }
 
 /// Puts the pair at place 1 back, and all others behind it.
-pub(crate) fn give_back(
-    first: LanePair,
-    ends: Lanes<AnyInlet, AnyOutlet>,
-    pairs: &mut Vec<LanePair>,
-)
+fn give_back(first: LanePair, ends: Lanes<AnyInlet, AnyOutlet>, pairs: &mut Vec<LanePair>)
     requires room { (pairs.old.items ≡ []) × (16 ≤ vec_capacity pairs.old) }
     requires count { (length ends.inlets.items ≡ 15) × (length ends.outlets.items ≡ 15) }
     ensures inlets { map (λ pair. pair.inlet) pairs.new.items
@@ -80,4 +287,72 @@ pub(crate) fn give_back(
 {
     pairs.push_reserved(first);
     pair_lanes(ends, pairs);
+}
+
+/// Runs two buses to their end, and the pipe between them. Lane 1 of each bus belongs to the pipe, so the pair at place 1 of each list
+/// isn't used: its outlet is closed before the start. Of all other lanes a reader and a writer work for each, in threads of their own,
+/// and for each bus one that makes steps; one ticker delivers the ticks to both buses, `ticks` of them at most. A worker that finds the
+/// log full or no memory stops its own bus alone. The cores come back with all that was logged, and the lanes in their order.
+pub fn run_pair<W: Walker + Send, R: Threads + Wait + Sync, C: Clock + Send, P: Crew>(
+    rt: &R,
+    alloc: Global,
+    first: Core<W>,
+    second: Core<W>,
+    lanes: &mut Vec<LanePair>,
+    others: &mut Vec<LanePair>,
+    clock: &mut C,
+    ticks: u64,
+    crew: &mut P,
+) -> (PairWhy, Core<W>, Core<W>)
+where
+    W::Plan: Send,
+    W::Taken: Send,
+    requires lanes { vec_len lanes.old ≡ 16 }
+    requires others { vec_len others.old ≡ 16 }
+    requires log { first.log ≡ [] }
+    requires other_log { second.log ≡ [] }
+    requires running { first.stopped ≡ false }
+    requires other_running { second.stopped ≡ false }
+    ensures runs { let seen = pair_seen ⟦<Box<dyn Inlet + Send> as Inlet>⟧
+        ⟦<Box<dyn Outlet + Send> as Outlet>⟧ C.Clock P.Crew in
+        PairRuns ticks (seen lanes.old.items others.old.items clock.old crew.old)
+        (seen lanes.new.items others.new.items clock.new crew.new)
+        first.origin second.origin result.1 result.2 result.0 }
+    ensures lanes { vec_len lanes.new ≡ 16 }
+    ensures others { vec_len others.new ≡ 16 }
+{
+    let Ok(boxes) = make_boxes(alloc, 16) else {
+        return (PairWhy::NoMemory, first, second);
+    };
+    let Ok(others_boxes) = make_boxes(alloc, 16) else {
+        return (PairWhy::NoMemory, first, second);
+    };
+    let Boxes {
+        count: _,
+        pairs: no_pairs,
+        lanes: ends,
+    } = boxes;
+    let Boxes {
+        count: _,
+        pairs: no_others,
+        lanes: others_ends,
+    } = others_boxes;
+    let (unused, ends) = take_first(mem::replace(lanes, no_pairs), ends);
+    let (others_unused, others_ends) = take_first(mem::replace(others, no_others), others_ends);
+    let unused = close_unused(unused);
+    let others_unused = close_unused(others_unused);
+    let ran = run_ends(
+        rt,
+        alloc,
+        first,
+        second,
+        ends,
+        others_ends,
+        clock,
+        ticks,
+        crew,
+    );
+    give_back(unused, ran.lanes, lanes);
+    give_back(others_unused, ran.others, others);
+    (ran.why, ran.core, ran.others_core)
 }

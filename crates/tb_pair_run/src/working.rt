@@ -1,4 +1,4 @@
-//! The workers of both buses: how they begin, and how their seats become one again.
+//! All workers of both buses, from the first seat of each until their seats are one again.
 ghost use Rattle.std.specs.Prelude.{◌≡◌, ◌≤◌, ◌++◌, ◌∷◌, [], List, None, length, map, vec_capacity, MatchOption};
 ghost use Rattle.std.specs.List.{All};
 ghost use Rattle.rtrb.specs.Ring.{IsPair, received, sent};
@@ -10,18 +10,23 @@ ghost use Rattle.tb_run.specs.Parting.{parted};
 ghost use Rattle.tb_pair.specs.declared.piece.Piece.{Piece};
 ghost use Rattle.tb_pair_run.specs.Helpers.Parts.{lane_rights, pipe_seat_of, tick_seat_of, rest_of};
 ghost use Rattle.tb_pair_run.specs.Helpers.Reasons.{bus_why, no_crew, pair_why};
-ghost use Rattle.tb_pair_run.specs.Helpers.Running.{CanFinish, CanGather};
+ghost use Rattle.tb_pair_run.specs.Helpers.Running.{CanFinish, CanGather, HasCome, ends_seen};
 
-use crate::crewing::{Back, Crowd, Ticked};
+use crate::crewing::{Back, Crowd, Lists, work};
 use crate::ending::{bus_why, no_crew, pair_why};
 use crate::ends::PairWhy;
-use crate::stock::{Ring, Side};
+use crate::stock::{Ring, Side, Stock, make_stock};
 use crate::team::{Done, Home, Team, begin, finish};
+use rtrb::{Consumer, Producer};
+use std::sync::Wait;
 use std::sync::atomic::AtomicU32;
+use std::thread::Threads;
 use tb_algebra::Walker;
-use tb_edge::{Inlet, Outlet};
-use tb_lock::Seat;
-use tb_pair::{PipeIn, PipeOut, PipeReading, PipeWriting, TickedBus, ends_meet};
+use tb_bus::a_bus_that_is_down_stays_down;
+use tb_core::a_full_log_is_at_its_limit;
+use tb_edge::{Clock, Crew, Inlet, Outlet};
+use tb_lock::{Seat, joins_keep_their_own};
+use tb_pair::{Piece, PipeIn, PipeOut, PipeReading, PipeWriting, TickedBus, ends_meet};
 use tb_run::{Lanes, Post, RunWhy, WorkEnd, Worker};
 
 /// One of the two buses, before its workers begin.
@@ -48,9 +53,155 @@ pub(crate) struct Came<I, O> {
     pub(crate) other: Left<I, O>,
 }
 
+/// Lets all work beside each other. `over` is 0, and is lent to both ends of the pipe.
+pub(crate) fn run_workers<
+    'a,
+    W: Walker + Send,
+    R: Threads + Wait + Sync,
+    C: Clock + Send,
+    P: Crew,
+    I: Inlet + Send,
+    O: Outlet + Send,
+>(
+    rt: &R,
+    one: Bus<'a, W, I, O>,
+    other: Bus<'a, W, I, O>,
+    over: &'a AtomicU32,
+    clock: &mut C,
+    ticks: u64,
+    crew: &mut P,
+) -> Came<I, O>
+where
+    W::Plan: Send,
+    W::Taken: Send,
+    requires inlets { (length one.lanes.inlets.items ≡ 15)
+        × (length other.lanes.inlets.items ≡ 15) }
+    requires outlets { (length one.lanes.outlets.items ≡ 15)
+        × (length other.lanes.outlets.items ≡ 15) }
+    requires one { one.seat ≡ first_seat one.post.now.shared one.seat.origin }
+    requires other { other.seat ≡ first_seat other.post.now.shared other.seat.origin }
+    ensures come { let seen = ends_seen I.Inlet O.Outlet C.Clock P.Crew in
+        HasCome ticks
+        (seen one.entry.lanes.inlets.items one.entry.lanes.outlets.items
+        other.entry.lanes.inlets.items other.entry.lanes.outlets.items clock.old crew.old)
+        (seen result.one.lanes.inlets.items result.one.lanes.outlets.items
+        result.other.lanes.inlets.items result.other.lanes.outlets.items clock.new crew.new)
+        one.entry.seat result.one.seat other.entry.seat result.other.seat result.why }
+    ensures inlets { (length result.one.lanes.inlets.items ≡ 15)
+        × (length result.other.lanes.inlets.items ≡ 15) }
+    ensures outlets { (length result.one.lanes.outlets.items ≡ 15)
+        × (length result.other.lanes.outlets.items ≡ 15) }
+{
+    let Bus { post, seat, lanes } = one;
+    let Bus {
+        post: others_post,
+        seat: others_seat,
+        lanes: others,
+    } = other;
+    let Ok(stock) = make_stock(post.alloc) else {
+        return Came {
+            why: PairWhy::NoMemory,
+            one: Left { seat, lanes },
+            other: Left {
+                seat: others_seat,
+                lanes: others,
+            },
+        };
+    };
+    let one = Bus { post, seat, lanes };
+    let other = Bus {
+        post: others_post,
+        seat: others_seat,
+        lanes: others,
+    };
+    run_stocked(rt, one, other, over, stock, clock, ticks, crew)
+}
+
+/// Lets all work beside each other, for whom memory is there.
+fn run_stocked<
+    'a,
+    W: Walker + Send,
+    R: Threads + Wait + Sync,
+    C: Clock + Send,
+    P: Crew,
+    I: Inlet + Send,
+    O: Outlet + Send,
+>(
+    rt: &R,
+    one: Bus<'a, W, I, O>,
+    other: Bus<'a, W, I, O>,
+    over: &'a AtomicU32,
+    stock: Stock<'a, W, I, O>,
+    clock: &mut C,
+    ticks: u64,
+    crew: &mut P,
+) -> Came<I, O>
+where
+    W::Plan: Send,
+    W::Taken: Send,
+    requires inlets { (length one.lanes.inlets.items ≡ 15)
+        × (length other.lanes.inlets.items ≡ 15) }
+    requires outlets { (length one.lanes.outlets.items ≡ 15)
+        × (length other.lanes.outlets.items ≡ 15) }
+    requires one { one.seat ≡ first_seat one.post.now.shared one.seat.origin }
+    requires other { other.seat ≡ first_seat other.post.now.shared other.seat.origin }
+    ensures come { let seen = ends_seen I.Inlet O.Outlet C.Clock P.Crew in
+        HasCome ticks
+        (seen one.entry.lanes.inlets.items one.entry.lanes.outlets.items
+        other.entry.lanes.inlets.items other.entry.lanes.outlets.items clock.old crew.old)
+        (seen result.one.lanes.inlets.items result.one.lanes.outlets.items
+        result.other.lanes.inlets.items result.other.lanes.outlets.items clock.new crew.new)
+        one.entry.seat result.one.seat other.entry.seat result.other.seat result.why }
+    ensures inlets { (length result.one.lanes.inlets.items ≡ 15)
+        × (length result.other.lanes.inlets.items ≡ 15) }
+    ensures outlets { (length result.one.lanes.outlets.items ≡ 15)
+        × (length result.other.lanes.outlets.items ≡ 15) }
+{
+    joins_keep_their_own();
+    a_bus_that_is_down_stays_down();
+    a_full_log_is_at_its_limit();
+    let post = one.post;
+    let others_post = other.post;
+    let Stock {
+        one: side,
+        other: others_side,
+        jobs,
+        pipe,
+    } = stock;
+    let started = start(one, side);
+    let others_started = start(other, others_side);
+    let Started {
+        team,
+        home,
+        back: workers,
+    } = started;
+    let Started {
+        team: others_team,
+        home: others_home,
+        back: others,
+    } = others_started;
+    let manned = man(post, others_post, team, others_team, pipe, over);
+    let lists = Lists {
+        jobs,
+        workers,
+        others,
+    };
+    let back = work(
+        rt,
+        manned.crowd,
+        lists,
+        manned.one,
+        manned.other,
+        clock,
+        ticks,
+        crew,
+    );
+    settle(post, others_post, home, others_home, back)
+}
+
 /// A bus whose workers are there.
 #[derive(Drop)]
-pub(crate) struct Started<'a, W: Walker, I, O> {
+struct Started<'a, W: Walker, I, O> {
     team: Team<'a, W, I, O>,
     home: Home<I, O>,
     /// For the workers once they come back.
@@ -58,7 +209,7 @@ pub(crate) struct Started<'a, W: Walker, I, O> {
 }
 
 /// Makes the workers of a bus.
-pub(crate) fn start<'a, W: Walker, I: Inlet, O: Outlet>(
+fn start<'a, W: Walker, I: Inlet, O: Outlet>(
     bus: Bus<'a, W, I, O>,
     side: Side<'a, W, I, O>,
 ) -> Started<'a, W, I, O>
@@ -94,14 +245,14 @@ pub(crate) fn start<'a, W: Walker, I: Inlet, O: Outlet>(
 
 /// All jobs of a pair.
 #[derive(Drop)]
-pub(crate) struct Manned<'a, W: Walker, I, O> {
+struct Manned<'a, W: Walker, I, O> {
     crowd: Crowd<'a, W, I, O>,
     one: TickedBus<'a, W>,
     other: TickedBus<'a, W>,
 }
 
 /// Makes the jobs of the pipe and the ticker's buses.
-pub(crate) fn man<'a, W: Walker, I: Inlet, O: Outlet>(
+fn man<'a, W: Walker, I: Inlet, O: Outlet>(
     post: &'a Post<W>,
     others_post: &'a Post<W>,
     team: Team<'a, W, I, O>,
@@ -133,49 +284,78 @@ pub(crate) fn man<'a, W: Walker, I: Inlet, O: Outlet>(
         tick_seat: others_tick_seat,
     } = others_team;
     let Ring { writes, reads } = pipe;
-    let writing = PipeWriting {
+    let writing = writing_of(post, others_post, pipe_seat, writes, over);
+    let reading = reading_of(others_post, post, others_pipe_seat, reads, over);
+    let crowd = Crowd {
+        writing,
+        reading,
+        workers,
+        others,
+    };
+    let one = TickedBus {
         post,
-        seat: pipe_seat,
+        seat: tick_seat,
+        end: None,
+    };
+    let other = TickedBus {
+        post: others_post,
+        seat: others_tick_seat,
+        end: None,
+    };
+    Manned { crowd, one, other }
+}
+
+/// Makes the job that writes the pipe.
+fn writing_of<'a, W: Walker>(
+    post: &'a Post<W>,
+    others_post: &'a Post<W>,
+    seat: Seat,
+    end: Producer<Piece>,
+    over: &'a AtomicU32,
+) -> PipeWriting<'a, W>
+    ensures seat { result.seat ≡ seat }
+    ensures post { result.post.now.shared ≡ post.now.shared }
+    ensures end { result.pipe.end ≡ end }
+{
+    PipeWriting {
+        post,
+        seat,
         pipe: PipeIn {
-            end: writes,
+            end,
             flows: true,
             others: &others_post.bells,
             over,
         },
         end: WorkEnd::Over,
-    };
-    let reading = PipeReading {
-        post: others_post,
-        seat: others_pipe_seat,
+    }
+}
+
+/// Makes the job that reads the pipe.
+fn reading_of<'a, W: Walker>(
+    post: &'a Post<W>,
+    others_post: &'a Post<W>,
+    seat: Seat,
+    end: Consumer<Piece>,
+    over: &'a AtomicU32,
+) -> PipeReading<'a, W>
+    ensures seat { result.seat ≡ seat }
+    ensures post { result.post.now.shared ≡ post.now.shared }
+    ensures end { result.pipe.end ≡ end }
+{
+    PipeReading {
+        post,
+        seat,
         pipe: PipeOut {
-            end: reads,
-            others: &post.bells,
+            end,
+            others: &others_post.bells,
             over,
         },
         end: WorkEnd::Over,
-    };
-    Manned {
-        crowd: Crowd {
-            writing,
-            reading,
-            workers,
-            others,
-        },
-        one: TickedBus {
-            post,
-            seat: tick_seat,
-            end: None,
-        },
-        other: TickedBus {
-            post: others_post,
-            seat: others_tick_seat,
-            end: None,
-        },
     }
 }
 
 /// Makes all seats of each bus one again, lets the two ends of the pipe meet, and gives why the pair ended.
-pub(crate) fn settle<'a, W: Walker, I: Inlet, O: Outlet>(
+fn settle<'a, W: Walker, I: Inlet, O: Outlet>(
     post: &'a Post<W>,
     others_post: &'a Post<W>,
     home: Home<I, O>,
@@ -225,6 +405,10 @@ pub(crate) fn settle<'a, W: Walker, I: Inlet, O: Outlet>(
         (map (λ it. it.end) back.entry.crowd.others.items))
         back.entry.ticked.end back.entry.ticked.others_end)
         (λ it. result.why ≡ no_crew it) }
+    ensures inlets { (length result.one.lanes.inlets.items ≡ 15)
+        × (length result.other.lanes.inlets.items ≡ 15) }
+    ensures outlets { (length result.one.lanes.outlets.items ≡ 15)
+        × (length result.other.lanes.outlets.items ≡ 15) }
 {
     let Back {
         failed,
@@ -237,41 +421,26 @@ pub(crate) fn settle<'a, W: Walker, I: Inlet, O: Outlet>(
         workers,
         others,
     } = crowd;
-    let Ticked {
-        seat: tick_seat,
-        end,
-        others_seat: others_tick_seat,
-        others_end,
-    } = ticked;
-    let PipeWriting {
-        seat: pipe_seat,
-        pipe: writes,
-        end: writer,
-        ..
-    } = writing;
-    let PipeReading {
-        seat: others_pipe_seat,
-        pipe: reads,
-        end: reader,
-        ..
-    } = reading;
     let team = Team {
         workers,
-        pipe_seat,
-        tick_seat,
+        pipe_seat: writing.seat,
+        tick_seat: ticked.seat,
     };
     let others_team = Team {
         workers: others,
-        pipe_seat: others_pipe_seat,
-        tick_seat: others_tick_seat,
+        pipe_seat: reading.seat,
+        tick_seat: ticked.others_seat,
     };
     let done = finish(&post.shared, home, team);
     let others_done = finish(&others_post.shared, others_home, others_team);
-    ends_meet(writes, reads);
-    let why = bus_why(writer, end, done.ends.as_slice());
-    let others_why = bus_why(reader, others_end, others_done.ends.as_slice());
+    ends_meet(writing.pipe, reading.pipe);
+    let why = bus_why(writing.end, ticked.end, done.ends.as_slice());
+    let others_why = bus_why(reading.end, ticked.others_end, others_done.ends.as_slice());
     Came {
-        why: why_of(failed, pair_why(why, others_why, end, others_end)),
+        why: why_of(
+            failed,
+            pair_why(why, others_why, ticked.end, ticked.others_end),
+        ),
         one: of_done(done),
         other: of_done(others_done),
     }

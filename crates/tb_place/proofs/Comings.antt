@@ -1,5 +1,5 @@
 -- The atoms of an expansion come from its sites, and those of a program's bodies from their places.
-use Rattle.std.proofs.Common.{◌≡◌, ℕ, zero, suc, ◌+◌, List, [], ◌∷◌, ◌++◌, map, length, Option, Some, None, refl, sym, subst, append-nil}
+use Rattle.std.proofs.Common.{◌≡◌, ℕ, zero, suc, ◌+◌, List, [], ◌∷◌, ◌++◌, map, length, Contains, Option, Some, None, refl, sym, subst, append-nil}
 use Rattle.std.specs.List.{AllZip}
 use Rattle.tb_body.specs.declared.atom.Atom.{Atom}
 use Rattle.tb_body.specs.declared.body.Body.{Body}
@@ -21,23 +21,18 @@ use Rattle.tb_expand.specs.Expansion.{Expands, Part, both, call_of, declaring, e
 use Rattle.tb_expand.specs.Faults.{IsExpansion}
 use Rattle.tb_expand.specs.Scopes.{Scope, declared, formals_seen}
 use Rattle.tb_expand.proofs.ProcInduction.{Related, folds_related}
+use Rattle.tb_expand.proofs.Readings.{contains_here, contains_there}
 use Rattle.tb_script.specs.Findings.{HasProgram}
 use Rattle.tb_script.specs.Programs.{IsTextOf}
 use Rattle.tb_place.specs.declared.places.ProcessPlace.{ProcessPlace}
-use Rattle.tb_place.specs.Places.{ArePlaces, Becomes, ComesFrom, IsPlaced, place_of}
-use Rattle.tb_place.specs.Sites.{mark_of_atom, marks_of, sites, sites_called, sites_of, sites_step, sites_with}
+use Rattle.tb_place.specs.Places.{ArePlaces, Becomes, IsPlaced, place_of}
+use Rattle.tb_place.specs.Sites.{sites, sites_called, sites_of, sites_step, sites_with}
 
 zip_append : {A B : Type 0} (R : A → B → Type 0) (xs : List A) (ds : List B) (ys : List A) (es : List B) → AllZip R xs ds → AllZip R ys es → AllZip R (xs ++ ys) (ds ++ es)
 zip_append R [] [] ys es p q = q
 zip_append R [] (d ∷ ds) ys es p q = absurd p
 zip_append R (x ∷ xs) [] ys es p q = absurd p
 zip_append R (x ∷ xs) (d ∷ ds) ys es p q = (p.0, zip_append R xs ds ys es p.1 q)
-
-zip_map : {A B C : Type 0} (R : A → B → Type 0) (S : A → C → Type 0) (f : B → C) → ((x : A) (y : B) → R x y → S x (f y)) → (xs : List A) (ys : List B) → AllZip R xs ys → AllZip S xs (map f ys)
-zip_map R S f weaker [] [] p = tt
-zip_map R S f weaker [] (y ∷ ys) p = absurd p
-zip_map R S f weaker (x ∷ xs) [] p = absurd p
-zip_map R S f weaker (x ∷ xs) (y ∷ ys) p = (weaker x y p.0, zip_map R S f weaker xs ys p.1)
 
 module _ (script : Script) where
   -- whatever is seen, and wherever the atoms and slots begin
@@ -91,22 +86,25 @@ module _ (script : Script) where
   expansion_from d = expanded_from (length script.procs) d.body (formals_seen 0 d.formals) 1 (length d.formals)
 
   module _ (tokens : List Token) where
-    comes : (atom : Atom) (def : AtomDef) → Becomes script atom def → ComesFrom tokens script atom (mark_of_atom tokens def)
-    comes atom def becomes = record { def = def; becomes = becomes; stands = refl }
-
-    placed : (d : ProcDef) (body : Body) → IsExpansion script d body → IsPlaced tokens script body (place_of tokens script d)
-    placed d body is = record {
+    placed : (d : ProcDef) (body : Body) → Contains script.procs d → IsExpansion script d body → IsPlaced tokens script body (place_of tokens script d)
+    placed d body defined is = record {
       d = d;
+      defined = defined;
+      is = is;
       named = refl;
-      atoms = subst (λ (atoms : List Atom). AllZip (ComesFrom tokens script) atoms (marks_of tokens (sites_of script d))) (sym is.atoms)
-          (zip_map (Becomes script) (ComesFrom tokens script) (mark_of_atom tokens) comes (expansion_of script d).atoms (sites_of script d) (expansion_from d));
+      mark = refl;
+      atoms = subst (λ (atoms : List Atom). AllZip (Becomes script) atoms (sites_of script d)) (sym is.atoms) (expansion_from d);
+      marks = refl;
     }
 
-    all_placed : (ds : List ProcDef) (bodies : List Body) → AllZip (IsExpansion script) ds bodies → AllZip (IsPlaced tokens script) bodies (map (place_of tokens script) ds)
-    all_placed [] [] is = tt
-    all_placed [] (b ∷ bodies) is = absurd is
-    all_placed (d ∷ ds) [] is = absurd is
-    all_placed (d ∷ ds) (b ∷ bodies) is = (placed d b is.0, all_placed ds bodies is.1)
+    -- processes that are the script's, and their bodies
+    all_placed : (ds : List ProcDef) (bodies : List Body) → ((d : ProcDef) → Contains ds d → Contains script.procs d) → AllZip (IsExpansion script) ds bodies
+        → AllZip (IsPlaced tokens script) bodies (map (place_of tokens script) ds)
+    all_placed [] [] defined is = tt
+    all_placed [] (b ∷ bodies) defined is = absurd is
+    all_placed (d ∷ ds) [] defined is = absurd is
+    all_placed (d ∷ ds) (b ∷ bodies) defined is =
+        (placed d b (defined d (contains_here d ds)) is.0, all_placed ds bodies (λ e there. defined e (contains_there d ds e there)) is.1)
 
 one_script : (text : List ℕ) (places : List ProcessPlace) (script : Script) → IsTextOf text script → (are : ArePlaces text places) → script ≡ are.script
 one_script text places script is are =
@@ -120,4 +118,4 @@ all_come text program places has are =
     let bodies : AllZip (IsExpansion are.script) are.script.procs program.bodies
     = subst (λ (s : Script). AllZip (IsExpansion s) s.procs program.bodies) same has.meaning.bodies in
     subst (λ (ps : List ProcessPlace). AllZip (IsPlaced are.tokens are.script) program.bodies ps) (sym are.are)
-    (all_placed are.script are.tokens are.script.procs program.bodies bodies)
+    (all_placed are.script are.tokens are.script.procs program.bodies (λ d there. there) bodies)

@@ -1,3 +1,4 @@
 pub mod Comings
 pub mod MarkLemmas
+pub mod Owns
 pub mod SpotLemmas

@@ -44,6 +44,21 @@ sites script (suc depth) p = sites_with script (sites script depth) p
 abbrev pub sites_of : Script → ProcDef → List AtomDef
 sites_of script d = sites script (length script.procs) d.body
 
+abbrev pub own_step : Proc-F (List AtomDef) → List AtomDef
+own_step (Atom def) = def ∷ []
+own_step (CallOf call) = []
+own_step (Seq x y) = x ++ y
+own_step (Alt x y) = x ++ y
+own_step (Star x y) = x ++ y
+own_step (Par x y) = x ++ y
+own_step (Disrupt x y) = x ++ y
+own_step (If test x y) = x ++ sites_else y
+own_step (Let vars x) = x
+
+-- the atoms that stand in a body itself, without those of the processes that it calls
+abbrev pub own_atoms : Proc → List AtomDef
+own_atoms p = fold-Proc (List AtomDef) own_step p
+
 -- the bytes of an atom's first token
 abbrev pub mark_of_atom : List Token → AtomDef → Mark
 mark_of_atom tokens def = mark_at tokens def.token

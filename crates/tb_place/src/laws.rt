@@ -1,19 +1,29 @@
 //! What holds of places whatever the script is. These calls change nothing: their contracts are the laws.
 
-ghost use Rattle.std.specs.Prelude.{◌≡◌, ◌+◌, ◌++◌, ◌∷◌, ℕ, List};
+ghost use Rattle.std.specs.Prelude.{◌≡◌, ◌+◌, ◌++◌, ◌∷◌, ℕ, List, All, Contains};
 ghost use Rattle.std.specs.List.{AllZip};
 ghost use Rattle.tb_body.specs.declared.program.Program.{Program};
+ghost use Rattle.tb_syntax.specs.declared.script.ProcDef.{ProcDef};
+ghost use Rattle.tb_syntax.specs.declared.script.Script.{Script};
 ghost use Rattle.tb_script.specs.Findings.{HasProgram};
 ghost use Rattle.tb_place.specs.declared.places.ProcessPlace.{ProcessPlace};
-ghost use Rattle.tb_place.specs.Places.{ArePlaces, IsPlaced};
+ghost use Rattle.tb_place.specs.Places.{ArePlaces, IsAtomOf, IsPlaced};
+ghost use Rattle.tb_place.specs.Sites.{sites_of};
 ghost use Rattle.tb_place.specs.Spots.{characters, lines_ended, spot_behind};
 
-/// The places of a text go with the bodies of its program, one each, and the places of a process with the atoms
-/// of its body: each atom is what the atom of the script becomes whose first token stands there.
+/// The places of a text go with the bodies of its program, one each. The place and the body are of one process of
+/// the script: the body is its expansion. The atoms of the body go with the atoms of the script that stand in the
+/// expansion, one each: each is what that atom of the script becomes, and its mark is the first token of that atom.
 pub fn atoms_come_from_their_places()
     ensures { (text : List ℕ) (program : Program) (places : List ProcessPlace)
         → HasProgram text program → (are : ArePlaces text places)
         → AllZip (IsPlaced are.tokens are.script) program.bodies places }
+{}
+
+/// The atoms of which the atoms of an expansion are made stand in bodies of processes that the script defines.
+pub fn sites_are_atoms_of_the_script()
+    ensures { (script : Script) (d : ProcDef) → Contains script.procs d
+        → All (IsAtomOf script) (sites_of script d) }
 {}
 
 /// The line of a byte is one more than the lines that end before it, and its column is one more than the

@@ -1,7 +1,7 @@
 //! The places of all processes of a script.
 ghost use Rattle.std.specs.Prelude.{◌≡◌, ◌++◌, ℕ, List, IfOk, IfErr, OnOk, map};
 ghost use Rattle.tb_script.specs.Loading.{HasFault};
-ghost use Rattle.tb_place.specs.Places.{ArePlaces, place_of};
+ghost use Rattle.tb_place.specs.Places.{ArePlaces, IsAcceptedText, place_of};
 ghost use Rattle.tb_place.specs.Sites.{marks_of, sites_of};
 
 use crate::mark::{Mark, mark_at};
@@ -30,6 +30,7 @@ pub type Places = Items<ProcessPlace>;
 /// The places of a script that is accepted, or what keeps it from being so.
 pub fn all_places(alloc: Global, bytes: &[u8]) -> Result<Places, ScriptFault>
     ensures ok { IfOk result (ArePlaces bytes.now) }
+    ensures accepted { IfOk result (λ places. IsAcceptedText bytes.now) }
     ensures err { IfErr result (HasFault bytes.now) }
 {
     match accept(alloc, bytes) {

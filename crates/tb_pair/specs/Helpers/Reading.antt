@@ -18,7 +18,7 @@ use Rattle.tb_pair.specs.declared.reader.Taken.{Taken}
 use Rattle.tb_pair.specs.declared.reader.Taken.TheVariants as taken
 use Rattle.tb_pair.specs.Pieces.{pieces}
 use Rattle.tb_pair.specs.Piping.{event_of, disconnect, lines_of}
-use Rattle.tb_pair.specs.Workers.{Goes, IsEarly}
+use Rattle.tb_pair.specs.Workers.{Goes, IsEarly, StopsWhereDropped}
 use Rattle.tb_pair.specs.Helpers.Settling.{EndsAs}
 
 -- the line for a piece
@@ -42,6 +42,7 @@ pub record ReadsOn (old new : SeatView) (got_old got_new : List Piece) (reads re
   pub over : reads ≡ false → (told ≡ []) × (leaves ≡ false)
   pub why : reads' ≡ false → (reads ≡ false) ⊎ ((leaves ≡ true) ⊎ HasDropped (is_of 1) more)
   pub let_in : reads' ≡ true → HasDropped (is_of 1) more → ⊥
+  pub once : StopsWhereDropped more
   pub marks : SameMarks old new
 
 -- the effect of the next queued item, if it is dropped

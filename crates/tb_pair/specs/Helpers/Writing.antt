@@ -12,7 +12,7 @@ use Rattle.tb_pair.specs.declared.piece.Piece.{Piece}
 use Rattle.tb_pair.specs.declared.piece.Piece.TheVariants.{Told}
 use Rattle.tb_pair.specs.Pieces.{pieces}
 use Rattle.tb_pair.specs.Piping.{told_by, does, connect}
-use Rattle.tb_pair.specs.Workers.{IsEarly, PipeEnds, WriterFull, Goes}
+use Rattle.tb_pair.specs.Workers.{IsEarly, NamesFirst, PipeEnds, WriterFull, Goes}
 use Rattle.tb_pair.specs.Helpers.Pipes.{GoesIn}
 use Rattle.tb_pair.specs.Helpers.Settling.{EndsAs}
 
@@ -51,6 +51,7 @@ pub record Written (old new : SeatView) (sent_old sent_new : List Piece) (flows 
   pub given : List Input
   pub goes : Goes old new more given
   pub names : (given ≡ connect ∷ []) ⊎ ((given ≡ []) × IsEarly it)
+  pub first : NamesFirst more
   pub front : List Term
   pub rest : List Term
   pub told : does more ≡ front ++ rest

@@ -5,13 +5,14 @@ use Rattle.tb_edge.specs.declared.inlet.Inlet.{Ghosts as InletTells}
 use Rattle.tb_edge.specs.declared.outlet.Outlet.{Ghosts as OutletTells}
 use Rattle.tb_edge.specs.declared.clock.Clock.{Ghosts as ClockTells}
 use Rattle.tb_edge.specs.declared.crew.Crew.{Ghosts as CrewTells}
+use Rattle.tb_bus.specs.declared.origin.Origin.{Origin}
 use Rattle.tb_core.specs.Cores.{CoreState}
 use Rattle.tb_lock.specs.Rights.{all_rights}
 use Rattle.tb_lock.specs.Seats.{SeatView, most_seats}
 use Rattle.tb_lock.specs.Calls.{Closes}
 use Rattle.tb_run.specs.Seats.{SeesTrace}
 use Rattle.tb_run.specs.Views.{LaneView, views}
-use Rattle.tb_pair_run.specs.Outcomes.{PairOutcome, TellsFirst}
+use Rattle.tb_pair_run.specs.Outcomes.{PairOutcome, PairRuns, TellsFirst}
 use Rattle.tb_pair_run.specs.Views.{IsUnused, PairView, pair_of}
 use Rattle.tb_pair_run.specs.declared.ends.PairWhy.{PairWhy}
 
@@ -41,6 +42,10 @@ pub record HasCome (most : ℕ) (old new : PairView) (begun last others_begun ot
       → (lane lane' other other' : LaneView) → IsUnused lane lane' → IsUnused other other' → PairOutcome most (with_first lane other old) (with_first lane' other' new) core others_core it
   pub tells : (core others_core : CoreState) → Closes last core → Closes others_last others_core → length core.log ≤ core.origin.limit → length others_core.log ≤ others_core.origin.limit
       → (lane lane' other other' : LaneView) → IsUnused lane lane' → IsUnused other other' → TellsFirst (with_first lane other old) (with_first lane' other' new) it
+
+-- What both buses have done, whose lanes from 2 on are seen, whatever is seen of the unused lane 1 of each.
+pub record RunsFromTwo (most : ℕ) (old new : PairView) (origin others_origin : Origin) (back others_back : CoreState) (it : PairWhy) : Type 0 where
+  pub runs : (lane lane' other other' : LaneView) → IsUnused lane lane' → IsUnused other other' → PairRuns most (with_first lane other old) (with_first lane' other' new) origin others_origin back others_back it
 
 -- Lists are there for what the workers of a bus leave: for the ends of its lanes, for seats, and for why they ended.
 pub record CanGather {I O S E : Type 0} (inlets : List I) (ins : ℕ) (outlets : List O) (outs : ℕ) (seats : List S) (room : ℕ) (ends : List E) (more : ℕ) : Type 0 where

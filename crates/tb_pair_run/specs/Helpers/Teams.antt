@@ -1,11 +1,13 @@
 -- The jobs of a pair in one list, and apart again.
-use Rattle.std.specs.Prelude.{◌≡◌, List, [], ◌∷◌, map, ⊤}
+use Rattle.std.specs.Prelude.{◌≡◌, List, [], ◌∷◌, map, None, ⊤}
 use Rattle.tb_edge.specs.Jobs.{AllDone}
 use Rattle.tb_pair.specs.declared.job.PipeWriting.{PipeWriting}
 use Rattle.tb_pair.specs.declared.job.PipeReading.{PipeReading}
 use Rattle.tb_pair.specs.declared.job.PairJob.{PairJob}
 use Rattle.tb_pair.specs.declared.job.PairJob.TheVariants.{Other, Writes, Reads}
 use Rattle.tb_pair.specs.Jobs.{WritingDone, ReadingDone}
+use Rattle.tb_pair.specs.Ticking.{CanTick}
+use Rattle.tb_pair_run.specs.declared.lent.LentTicking.{LentTicking}
 
 abbrev pub others_of : {W J Plan Taken : Type 0} → List J → List (PairJob W J Plan Taken)
 others_of jobs = map (λ job. Other job) jobs
@@ -44,3 +46,10 @@ pub record TeamSame {W J Plan Taken : Type 0} (writing writing' : PipeWriting W 
   pub reads_same : reading' ≡ reading
   pub workers_same : workers' ≡ workers
   pub others_same : others' ≡ others
+
+-- a ticker of two buses that may begin
+pub record CanBegin {W C Plan Taken : Type 0} (it : LentTicking W C Plan Taken) : Type 0 where
+  pub one : CanTick it.one.now.post.now.shared it.one.now.seat
+  pub one_open : it.one.now.end ≡ None
+  pub other : CanTick it.other.now.post.now.shared it.other.now.seat
+  pub other_open : it.other.now.end ≡ None

@@ -1,0 +1,3 @@
+pub mod Parts
+pub mod Completeness
+pub mod TwoLogs

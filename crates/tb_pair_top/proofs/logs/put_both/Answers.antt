@@ -1,0 +1,15 @@
+use Rattle.std.proofs.Common.{◌++◌, codes}
+use Rattle.std.proofs.lemmas.Result.{on_err_weaker}
+use Rattle.tb_edge.proofs.Puts.{WritesPrefix-append, WritesPrefix-more}
+use Rattle.tb_log.specs.LogText.{log_text}
+use Rattle.tb_pair_top.proofs.logs.put_both.Goals as goal
+
+pub returns-in-Ok-clause-prefix : goal.returns-in-Ok-clause-prefix
+returns-in-Ok-clause-prefix g c =
+    on_err_weaker c.put_second.result
+    (WritesPrefix-append (g.O.Sink.taken c.args.out.now) (g.O.Sink.taken c.put_log.new.out) (g.O.Sink.taken c.put_second.new.out) (log_text c.args.one.now.entries) (codes "--\n" ++ log_text c.args.other.now.entries) c.in-Ok.ensures.ok)
+    c.put_second.ensures.prefix
+
+pub returns-in-Err-clause-prefix : goal.returns-in-Err-clause-prefix
+returns-in-Err-clause-prefix g c =
+    WritesPrefix-more (g.O.Sink.taken c.args.out.now) (g.O.Sink.taken c.put_log.new.out) (log_text c.args.one.now.entries) (codes "--\n" ++ log_text c.args.other.now.entries) c.in-Err.ensures.prefix

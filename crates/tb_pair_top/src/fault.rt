@@ -1,0 +1,63 @@
+use crate::status::{PairEdge, PairStatus};
+use tb_cli::WordFault;
+use tb_line::Line;
+use tb_script::ScriptFault;
+
+/// Why a pair did not end well. That this could not be said is a `PairStatus` of its own.
+#[derive(Drop)]
+pub enum PairFault {
+    /// One of the two scripts was refused; never because memory ran out.
+    Script(ScriptFault),
+    /// The words were refused; never because memory ran out.
+    Words(WordFault),
+    /// A file could not be read.
+    File,
+    /// The logs could not be written.
+    Out,
+    /// The clock failed; all else went on to its end.
+    Clock,
+    /// There are too few threads.
+    Crew,
+    /// One of the two logs had no room for the next entry.
+    Limit,
+    NoMemory,
+}
+
+impl PairFault {
+    ghost use Rattle.std.specs.Prelude.{◌≡◌};
+    ghost use Rattle.tb_line.specs.Lines.{line_text};
+    ghost use Rattle.tb_pair_top.specs.Lines.{fault_words};
+    ghost use Rattle.tb_pair_top.specs.Statuses.{status_of};
+
+    /// The status that the program ends with.
+    pub fn status(self) -> PairStatus
+        ensures { result ≡ status_of self }
+    {
+        match self {
+            PairFault::Script(fault) => PairStatus::Script(fault),
+            PairFault::Words(fault) => PairStatus::Words(fault),
+            PairFault::File => PairStatus::Outside(PairEdge::File),
+            PairFault::Out => PairStatus::Outside(PairEdge::Out),
+            PairFault::Clock => PairStatus::Outside(PairEdge::Clock),
+            PairFault::Crew => PairStatus::Outside(PairEdge::Crew),
+            PairFault::Limit => PairStatus::Limit,
+            PairFault::NoMemory => PairStatus::NoMemory,
+        }
+    }
+
+    /// The words of its line.
+    pub fn line(&self) -> Line<'_>
+        ensures { line_text result ≡ fault_words self.now }
+    {
+        match self {
+            PairFault::Script(fault) => fault.line(),
+            PairFault::Words(fault) => fault.line(),
+            PairFault::File => Line::plain(b"outside: file"),
+            PairFault::Out => Line::plain(b"outside: out"),
+            PairFault::Clock => Line::plain(b"outside: clock"),
+            PairFault::Crew => Line::plain(b"outside: crew"),
+            PairFault::Limit => Line::plain(b"limit: events"),
+            PairFault::NoMemory => Line::plain(b"no memory"),
+        }
+    }
+}
