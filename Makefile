@@ -1,6 +1,6 @@
 # The commands for developers. hello, quick, build, and test need rt of the Rattle kit. The others need the built program. All but hello,
 # build, test, and install need Python 3. bench and faults also need a C compiler. quick, faults, hostile, and soak need Linux.
-.PHONY: hello quick build test install uninstall pages order examples kits installed bench walkers faults hostile soak
+.PHONY: hello quick build test install uninstall pages order examples kits at lens installed bench walkers faults hostile soak
 
 SCRIPT := $(CURDIR)/examples/hello.tb
 PROGRAM := $(CURDIR)/crates/toolbus/out/toolbus
@@ -44,10 +44,11 @@ install:
 	install -D -m 644 man/toolbus.5 "$(SHARE)/man/man5/toolbus.5"
 	install -D -m 644 completion/toolbus "$(SHARE)/bash-completion/completions/toolbus"
 	install -D -m 644 completion/toolbus "$(SHARE)/bash-completion/completions/toolbus_pair"
+	install -D -m 644 completion/toolbus_lens "$(SHARE)/bash-completion/completions/toolbus_lens"
 	install -D -m 644 editors/vim/ftdetect/toolbus.vim "$(SHARE)/vim/vimfiles/ftdetect/toolbus.vim"
 	install -D -m 644 editors/vim/syntax/toolbus.vim "$(SHARE)/vim/vimfiles/syntax/toolbus.vim"
 	install -D -m 644 editors/textmate/toolbus.tmLanguage.json "$(SHARE)/toolbus/toolbus.tmLanguage.json"
-	install -D -m 644 -t "$(SHARE)/doc/toolbus" README.md docs/GUIDE.md docs/RULES.md
+	install -D -m 644 -t "$(SHARE)/doc/toolbus" README.md docs/GUIDE.md docs/RULES.md docs/chart.svg
 
 # Removes what make install has installed, with the same PREFIX and DESTDIR.
 uninstall:
@@ -55,6 +56,7 @@ uninstall:
 	rm -f "$(DESTDIR)$(PREFIX)/bin/toolbus_pair" "$(SHARE)/man/man1/toolbus_pair.1"
 	rm -f "$(DESTDIR)$(PREFIX)/bin/toolbus_lens" "$(SHARE)/man/man1/toolbus_lens.1"
 	rm -f "$(SHARE)/bash-completion/completions/toolbus" "$(SHARE)/bash-completion/completions/toolbus_pair"
+	rm -f "$(SHARE)/bash-completion/completions/toolbus_lens"
 	rm -f "$(SHARE)/vim/vimfiles/ftdetect/toolbus.vim" "$(SHARE)/vim/vimfiles/syntax/toolbus.vim"
 	rm -rf "$(SHARE)/toolbus" "$(SHARE)/doc/toolbus"
 
@@ -78,6 +80,14 @@ examples:
 # Runs the tests of the kits for tools. One or two minutes. Tests whose compiler or shell is missing are left out, each with a line.
 kits:
 	kits/test "$(PROGRAM)"
+
+# Compares what toolbus_lens at writes of scripts with an error. Some seconds.
+at:
+	tests/at "$(LENS)" "$(PROGRAM)"
+
+# Runs toolbus_lens chart, and uses its page in Chromium, if that is installed. Half a minute.
+lens:
+	tests/lens "$(LENS)"
 
 # Measures the time of the built program, on scripts and with live tools.
 bench:

@@ -1,6 +1,9 @@
 //! The whole of `toolbus_lens`, from the words of the command line on: a module for each command.
 #![tactic(auto)]
 
+mod at;
+mod chart;
+mod chart_words;
 mod feed;
 mod loading;
 mod naming;
@@ -10,6 +13,8 @@ mod put;
 mod source;
 mod status;
 
+pub use at::tell_at;
+pub use chart::{ChartRequest, tell_chart};
 pub use feed::tell_feed;
 pub use plain::tell_plain;
 pub use program::lens;

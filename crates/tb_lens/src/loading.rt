@@ -1,5 +1,6 @@
 //! The files that commands read.
 
+use crate::at::MOST_BYTES;
 use crate::naming::names_of;
 use crate::status::Trouble;
 use std::alloc::Global;
@@ -8,9 +9,6 @@ use tb_edge::{Bytes, Files, FilesFault, Loaded};
 use tb_place::all_places;
 use tb_plain::Names;
 use tb_script::{ScriptFault, load};
-
-/// A longer file of a script is refused.
-const MOST_BYTES: usize = 1_048_576;
 
 /// A longer file of a log is refused.
 const MOST_LOG_BYTES: usize = 67_108_864;
@@ -28,12 +26,21 @@ pub(crate) fn load_script<F: Files>(
     name: &str,
     files: &mut F,
 ) -> Result<Loading, Trouble> {
-    let bytes = load_bytes(alloc, name, MOST_BYTES, files)?;
+    let bytes = load_source(alloc, name, files)?;
     match read_script(alloc, bytes.as_slice()) {
         Ok(loading) => Ok(loading),
         Err(ScriptFault::NoMemory) => Err(Trouble::NoMemory),
         Err(_) => Err(Trouble::Script(String::from_str(alloc, name)?)),
     }
+}
+
+/// Reads the bytes of the script in the file of this name.
+pub(crate) fn load_source<F: Files>(
+    alloc: Global,
+    name: &str,
+    files: &mut F,
+) -> Result<Bytes, Trouble> {
+    load_bytes(alloc, name, MOST_BYTES, files)
 }
 
 /// A script with these bytes.

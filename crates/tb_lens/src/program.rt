@@ -1,11 +1,14 @@
 //! What the words of the command line ask for.
 
+use crate::at::tell_at;
+use crate::chart::tell_chart;
+use crate::chart_words::{chart_command, chart_request};
 use crate::feed::tell_feed;
 use crate::plain::tell_plain;
 use crate::source::Source;
 use crate::status::{Status, Trouble};
 use clap::error::ErrorKind;
-use clap::{Arg, Command, Error};
+use clap::{Arg, ArgAction, Command, Error};
 use std::alloc::{AllocError, Global};
 use tb_edge::{Failed, Files, Sink};
 
@@ -29,10 +32,23 @@ pub fn lens<F: Files, I: Source, O: Sink, E: Sink>(
 fn commands<'a>(alloc: Global) -> Result<Command<'a>, AllocError> {
     Command::new(alloc, "toolbus_lens")
         .version("1.0")
-        .about("Shows what a log says")
+        .about("Shows where a script is wrong, and what a log says")
         .subcommand_required(true)
+        .subcommand(at_command(alloc)?)?
+        .subcommand(chart_command(alloc)?)?
         .subcommand(plain_command(alloc)?)?
         .subcommand(feed_command(alloc)?)
+}
+
+fn at_command<'a>(alloc: Global) -> Result<Command<'a>, AllocError> {
+    let scripts = Arg::new(alloc, "SCRIPT")
+        .required(true)
+        .action(ArgAction::Append)
+        .num_args(1..)
+        .help("The file of a script");
+    Command::new(alloc, "at")
+        .about("Tells what is wrong with scripts, and where")
+        .arg(scripts)
 }
 
 fn plain_command<'a>(alloc: Global) -> Result<Command<'a>, AllocError> {
@@ -66,6 +82,7 @@ fn answer<F: Files, I: Source, O: Sink, E: Sink>(
         Err(error) => return tell_usage(alloc, &error, out, err),
     };
     match matches.subcommand() {
+        Some(("at", asked)) => tell_at(alloc, asked.get_strs("SCRIPT").unwrap_or(&[]), files, out),
         Some(("plain", asked)) => {
             let script = asked.get_str("SCRIPT").unwrap_or("");
             tell_plain(alloc, script, files, input, out)
@@ -73,6 +90,7 @@ fn answer<F: Files, I: Source, O: Sink, E: Sink>(
         Some(("feed", asked)) => {
             tell_feed(alloc, asked.get_str("LOG").unwrap_or(""), files, out)
         }
+        Some(("chart", asked)) => tell_chart(alloc, &chart_request(asked), files, out, err),
         _ => Err(Trouble::NoMemory),
     }
 }
@@ -106,7 +124,7 @@ fn report<E: Sink>(trouble: &Trouble, err: &mut E) -> Status {
         Trouble::TooLong(name) => put_named(b"too long: ", name.as_str(), err),
         Trouble::Script(name) => {
             put_named(
-                b"the script is rejected: see toolbus check ",
+                b"the script is rejected: see toolbus_lens at ",
                 name.as_str(),
                 err,
             )

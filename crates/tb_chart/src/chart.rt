@@ -1,0 +1,135 @@
+//! The chart of a log: lifelines, and a row for each entry that it shows.
+ghost use Rattle.std.specs.Prelude.{◌≡◌, ◌++◌, ◌∷◌, [], IfOk, OnOk, map};
+ghost use Rattle.tb_chart.specs.Rows.{is_seen, is_shown, row, seen_row, rows_from, rows_of};
+
+use crate::cast::Cast;
+use crate::fault::ChartFault;
+use crate::figure::{Figure, ends_of, figure_of};
+use crate::lines::Lines;
+use crate::row::{Row, Who};
+use crate::scene::Scene;
+use std::alloc::Global;
+use tb_log::Entry;
+use tb_terms::NoMemory;
+
+/// Which entries a chart shows, by their numbers.
+#[derive(Clone, Copy)]
+pub struct Span {
+    pub from: u64,
+    pub to: u64,
+    /// Whether each process has a lifeline that the script begins with, even if it does nothing.
+    pub all: bool,
+}
+
+/// A chart: the lifelines, and the rows in their order.
+#[derive(Drop)]
+pub struct Chart<'a> {
+    pub lines: Lines,
+    pub rows: Vec<Row<'a>>,
+}
+
+/// Returns the chart of the entries in the span. The entries before it only say who is there. A fault names the first entry that
+/// speaks of a process or of a tool that isn't there.
+pub fn chart_of<'a>(
+    alloc: Global,
+    cast: &Cast,
+    commands: usize,
+    entries: &'a [Entry],
+    span: Span,
+) -> Result<Chart<'a>, ChartFault>
+    ensures rows { IfOk result
+        (λ chart. map seen_row chart.rows.items ≡ rows_from span.from span.to 1 entries.now) }
+{
+    let mut scene = Scene::new(alloc, cast, commands)?;
+    let mut lines = root_lines(alloc, &scene, span.all)?;
+    let mut rows = Vec::new(alloc);
+    for (index, entry) in entries.iter().enumerate() {
+        let number = index as u64 + 1;
+        add_entry(&mut scene, &mut lines, &mut rows, number, entry, span)?;
+    }
+    Ok(Chart { lines, rows })
+}
+
+/// No lifeline, or one for each process with which the script begins.
+fn root_lines(alloc: Global, scene: &Scene, all: bool) -> Result<Lines, NoMemory> {
+    let mut lines = Lines::new(alloc);
+    let count = if all { scene.count() } else { 0 };
+    for index in 0..count {
+        if let Ok(number) = u32::try_from(index.saturating_add(1)) {
+            lines.add_process(number, scene)?;
+        }
+    }
+    Ok(lines)
+}
+
+/// Goes on by an entry, and adds its row if it is shown.
+fn add_entry<'a>(
+    scene: &mut Scene,
+    lines: &mut Lines,
+    rows: &mut Vec<Row<'a>>,
+    number: u64,
+    entry: &'a Entry,
+    span: Span,
+) -> Result<(), ChartFault>
+    ensures { OnOk result (map seen_row rows.new.items
+        ≡ map seen_row rows.old.items ++ rows_of span.from span.to number entry.now) }
+{
+    if !scene.follow(entry)? {
+        return Err(ChartFault::Line(number));
+    }
+    if !is_shown(span.from, span.to, number, figure_of(entry)) {
+        return Ok(());
+    }
+    add_row(scene, lines, rows, number, entry)
+}
+
+/// Whether an entry of this figure has a row.
+fn is_shown(from: u64, to: u64, number: u64, figure: Figure) -> bool
+    ensures { result ≡ is_shown from to number figure }
+{
+    from <= number && number <= to && is_seen(figure)
+}
+
+fn is_seen(figure: Figure) -> bool
+    ensures { result ≡ is_seen figure }
+{
+    match figure {
+        Figure::Arrow(_, _, _) | Figure::Mark(_) | Figure::Stop(_) | Figure::Lost(_) => true,
+        Figure::Time | Figure::Rule => true,
+        Figure::Hidden => false,
+    }
+}
+
+/// Adds the row of an entry.
+fn add_row<'a>(
+    scene: &Scene,
+    lines: &mut Lines,
+    rows: &mut Vec<Row<'a>>,
+    number: u64,
+    entry: &'a Entry,
+) -> Result<(), ChartFault>
+    ensures { OnOk result (map seen_row rows.new.items
+        ≡ map seen_row rows.old.items ++ row number entry.now ∷ []) }
+{
+    let Some(ends) = scene.ends(ends_of(figure_of(entry)), entry) else {
+        return Err(ChartFault::Line(number));
+    };
+    add_lines(lines, scene, ends)?;
+    rows.push(Row {
+        number,
+        entry,
+        ends,
+        bodies: scene.bodies(entry),
+    })?;
+    Ok(())
+}
+
+fn add_lines(lines: &mut Lines, scene: &Scene, ends: Option<(Who, Who)>) -> Result<(), NoMemory> {
+    match ends {
+        Some((from, to)) => {
+            lines.add(from, scene)?;
+            lines.add(to, scene)
+        }
+        None => Ok(()),
+    }
+}

@@ -1,0 +1,295 @@
+//! Who is there as a log goes on: the processes, the tools and their lanes.
+ghost use Rattle.std.specs.Prelude.{IsTrue, IfSome};
+ghost use Rattle.tb_chart.specs.Ends.{fits, is_at};
+
+use crate::cast::{Cast, index_of};
+use crate::figure::End;
+use crate::lane::{Lane, Turn, UNUSED};
+use crate::row::{Seat, Who};
+use std::alloc::Global;
+use tb_log::{Entry, Input, LANES, Label, LabelKind, Out, Reply, ToolLine};
+use tb_terms::{NoMemory, Term};
+
+/// The processes by their numbers, the tools by theirs, and the lanes.
+#[derive(Drop)]
+pub(crate) struct Scene<'a> {
+    cast: &'a Cast,
+    /// The definition of each process.
+    players: Vec<u32>,
+    seats: Vec<Seat>,
+    lanes: Vec<Lane>,
+}
+
+impl<'a> Scene<'a> {
+    /// The scene at the start, with so many commands on the first lanes.
+    pub(crate) fn new(
+        alloc: Global,
+        cast: &'a Cast,
+        commands: usize,
+    ) -> Result<Scene<'a>, NoMemory> {
+        Ok(Scene {
+            cast,
+            players: roots(alloc, cast)?,
+            seats: Vec::new(alloc),
+            lanes: first_lanes(alloc, commands)?,
+        })
+    }
+
+    /// Goes on by an entry. Returns whether those of whom the entry speaks are there.
+    pub(crate) fn follow(&mut self, entry: &Entry) -> Result<bool, NoMemory> {
+        match entry {
+            Entry::Did(label) => self.follow_step(label),
+            Entry::Fed(input, Reply::Took) => self.follow_input(input),
+            Entry::Gave(lane, out) => Ok(self.turn(*lane, sent(out))),
+            Entry::Quiet | Entry::Fed(_, Reply::Dropped(_)) => Ok(true),
+        }
+    }
+
+    /// Returns who is at these ends of what is shown of an entry, if they are there.
+    pub(crate) fn ends(&self, ends: Option<(End, End)>, entry: &Entry) -> Option<Option<(Who, Who)>>
+        ensures { IfSome result (λ found. IsTrue (fits ends found)) }
+    {
+        match ends {
+            None => Some(None),
+            Some((from, to)) => {
+                let from = self.who(from, entry)?;
+                let to = self.who(to, entry)?;
+                Some(Some((from, to)))
+            }
+        }
+    }
+
+    /// Returns who is at this end of what is shown of an entry, if it is there.
+    fn who(&self, end: End, entry: &Entry) -> Option<Who>
+        ensures { IfSome result (λ found. IsTrue (is_at end found)) }
+    {
+        match end {
+            End::Process(number) => {
+                self.body_of(number)?;
+                Some(Who::Process(number))
+            }
+            End::Child => {
+                let number = child_number(entry)?;
+                self.body_of(number)?;
+                Some(Who::Process(number))
+            }
+            End::Tool => {
+                let seat = self.seats.get(index_of(tool_number(entry)?)?)?;
+                Some(Who::Tool(*seat))
+            }
+            End::Lane(lane) => {
+                let kind = self.lanes.get(index_of(u64::from(lane))?)?.kind;
+                Some(Who::Tool(Seat { lane, kind }))
+            }
+            End::Notes => Some(Who::Notes),
+        }
+    }
+
+    fn follow_step(&mut self, label: &Label) -> Result<bool, NoMemory> {
+        match label.kind {
+            LabelKind::Create => self.create(label),
+            LabelKind::Execute => self.execute(label),
+            LabelKind::RecConnect => Ok(self.tool_turn(label, Turn::Take)),
+            LabelKind::RecDisconnect => Ok(self.tool_turn(label, Turn::Release)),
+            LabelKind::SndEval | LabelKind::SndDo | LabelKind::SndAckEvent => {
+                Ok(self.tool_turn(label, Turn::Queue))
+            }
+            LabelKind::SndTerminate => Ok(self.tool_turn(label, Turn::Terminate)),
+            LabelKind::Shutdown | LabelKind::Finish | LabelKind::Halt => {
+                self.shut_down();
+                Ok(true)
+            }
+            _ => Ok(true),
+        }
+    }
+
+    /// A process more. Its number is the next one.
+    fn create(&mut self, label: &Label) -> Result<bool, NoMemory> {
+        let Some(body) = self.body_of(label.from.proc) else {
+            return Ok(false);
+        };
+        match self.cast.created(body, label.from.atom) {
+            Some(body) => {
+                self.players.push(body)?;
+                Ok(true)
+            }
+            None => Ok(false),
+        }
+    }
+
+    /// Returns the definition of the process with this number.
+    pub(crate) fn body_of(&self, number: u32) -> Option<u32> {
+        let body = self.players.get(index_of(u64::from(number))?)?;
+        Some(*body)
+    }
+
+    /// Returns how many processes there have been.
+    pub(crate) fn count(&self) -> usize {
+        self.players.len()
+    }
+
+    /// Returns the definitions of the processes that make a step.
+    pub(crate) fn bodies(&self, entry: &Entry) -> (Option<u32>, Option<u32>) {
+        match entry {
+            Entry::Did(label) => (self.body_of(label.from.proc), self.body_of(label.to.proc)),
+            _ => (None, None),
+        }
+    }
+
+    /// A tool more, on the lowest free lane.
+    fn execute(&mut self, label: &Label) -> Result<bool, NoMemory> {
+        let kind = match tool_name(label) {
+            Some(name) => self.cast.tool(name),
+            None => None,
+        };
+        let (Some(kind), Some(lane)) = (kind, lowest_free(self.lanes.as_slice())) else {
+            return Ok(false);
+        };
+        self.seats.push(Seat {
+            lane,
+            kind: Some(kind),
+        })?;
+        Ok(self.turn(lane, Turn::Execute(kind)))
+    }
+
+    fn follow_input(&mut self, input: &Input) -> Result<bool, NoMemory> {
+        match input {
+            Input::Line(lane, ToolLine::Connect(name)) => self.connect(*lane, name.as_bytes()),
+            Input::Line(lane, ToolLine::Disconnect) | Input::Cut(lane) => {
+                Ok(self.turn(*lane, Turn::Clear))
+            }
+            Input::Gone(lane) => Ok(self.turn(*lane, Turn::Gone)),
+            Input::Line(lane, _) => Ok(self.turn(*lane, Turn::Nothing)),
+            Input::Tick | Input::NoTicks => Ok(true),
+        }
+    }
+
+    fn connect(&mut self, lane: u8, name: &[u8]) -> Result<bool, NoMemory> {
+        match self.cast.tool(name) {
+            Some(kind) => {
+                self.seats.push(Seat {
+                    lane,
+                    kind: Some(kind),
+                })?;
+                Ok(self.turn(lane, Turn::Connect(kind)))
+            }
+            None => Ok(false),
+        }
+    }
+
+    /// What a step does on the lane of its tool.
+    fn tool_turn(&mut self, label: &Label, turn: Turn) -> bool {
+        match self.lane_of(label) {
+            Some(lane) => self.turn(lane, turn),
+            None => false,
+        }
+    }
+
+    fn lane_of(&self, label: &Label) -> Option<u8> {
+        let seat = self.seats.get(index_of(number_of_tool(label)?)?)?;
+        Some(seat.lane)
+    }
+
+    /// What happens on a lane. Returns whether there is such a lane.
+    fn turn(&mut self, lane: u8, turn: Turn) -> bool {
+        let Some(index) = index_of(u64::from(lane)) else {
+            return false;
+        };
+        match self.lanes.get_mut(index) {
+            Some(place) => {
+                *place = place.after(turn);
+                true
+            }
+            None => false,
+        }
+    }
+
+    fn shut_down(&mut self) {
+        for lane in self.lanes.as_mut_slice() {
+            *lane = lane.after(Turn::Down);
+        }
+    }
+}
+
+fn sent(out: &Out) -> Turn {
+    match out {
+        Out::Start(_) => Turn::Started,
+        Out::Line(_) | Out::End => Turn::Sent,
+    }
+}
+
+/// The roots of a script.
+fn roots(alloc: Global, cast: &Cast) -> Result<Vec<u32>, NoMemory> {
+    let mut players = Vec::new(alloc);
+    for root in cast.roots.as_slice() {
+        players.push(*root)?;
+    }
+    Ok(players)
+}
+
+/// The lanes, of which so many begin with a command.
+fn first_lanes(alloc: Global, commands: usize) -> Result<Vec<Lane>, NoMemory> {
+    let mut lanes = Vec::new(alloc);
+    for index in 0..LANES {
+        lanes.push(Lane {
+            is_up: index < commands,
+            queued: u32::from(index < commands),
+            ..UNUSED
+        })?;
+    }
+    Ok(lanes)
+}
+
+/// The number of the lowest lane that is free.
+fn lowest_free(lanes: &[Lane]) -> Option<u8> {
+    let mut number: u8 = 1;
+    for lane in lanes {
+        if lane.is_free() {
+            return Some(number);
+        }
+        number = number.saturating_add(1);
+    }
+    None
+}
+
+/// The number of the process that a step creates.
+fn child_number(entry: &Entry) -> Option<u32> {
+    let Entry::Did(label) = entry else {
+        return None;
+    };
+    let number = positive(label.terms.as_slice().first()?)?;
+    u32::try_from(number).ok()
+}
+
+/// The number of the tool that an entry names.
+fn tool_number(entry: &Entry) -> Option<u64> {
+    match entry {
+        Entry::Did(label) => number_of_tool(label),
+        _ => None,
+    }
+}
+
+/// The number of the tool that a step names: its first term is the name, with the number.
+fn number_of_tool(label: &Label) -> Option<u64> {
+    match label.terms.as_slice().first()? {
+        Term::Appl(_, parts) => positive(parts.as_slice().first()?),
+        _ => None,
+    }
+}
+
+fn tool_name(label: &Label) -> Option<&[u8]> {
+    match label.terms.as_slice().first()? {
+        Term::Appl(name, _) => Some(name.as_bytes()),
+        _ => None,
+    }
+}
+
+fn positive(term: &Term) -> Option<u64> {
+    match term {
+        Term::Int(number) => match u64::try_from(*number) {
+            Ok(number) => Some(number),
+            Err(_) => None,
+        },
+        _ => None,
+    }
+}

@@ -1,0 +1,12 @@
+//! Charts as texts: a picture, lines for a terminal, and a page.
+#![tactic(auto)]
+
+mod html;
+mod label;
+mod output;
+mod page;
+mod push;
+mod svg;
+mod text;
+
+pub use output::{Output, write_chart};

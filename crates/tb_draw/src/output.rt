@@ -1,0 +1,37 @@
+use crate::html::{write_data, write_html};
+use crate::svg::write_svg;
+use crate::text::write_text;
+use std::alloc::Global;
+use tb_chart::{Cast, Chart};
+use tb_terms::NoMemory;
+
+/// The form in which a chart is written.
+#[derive(Clone, Copy)]
+pub enum Output {
+    /// A picture.
+    Svg,
+    /// Lines for a terminal.
+    Text,
+    /// A page that draws the chart beside the source.
+    Html,
+    /// The data of such a page, alone.
+    Json,
+}
+
+/// Appends a chart in this form. The source is that of the cast. A text for a terminal has no title.
+pub fn write_chart(
+    alloc: Global,
+    output: Output,
+    title: &[u8],
+    source: &[u8],
+    cast: &Cast,
+    chart: &Chart,
+    into: &mut Vec<u8>,
+) -> Result<(), NoMemory> {
+    match output {
+        Output::Svg => write_svg(alloc, title, cast, chart, into),
+        Output::Text => write_text(alloc, cast, chart, into),
+        Output::Html => write_html(alloc, title, source, cast, chart, into),
+        Output::Json => write_data(alloc, title, source, cast, chart, into),
+    }
+}

@@ -1,0 +1,145 @@
+//! The sentence about bytes that have no tokens.
+
+use crate::said::Said;
+use crate::source::between;
+use tb_lex::{LexFault, lex};
+
+/// Why a byte begins no token: the byte, a sentence, and help. A `%` is the byte.
+static OUTSIDE: [(u8, &str, &str); 7] = [
+    (
+        b';',
+        "`%` isn't part of the language",
+        "write `.` between two steps; nothing stands at the end of a definition",
+    ),
+    (
+        b'|',
+        "`%` alone is no symbol",
+        "two processes side by side are written `||`",
+    ),
+    (
+        b'-',
+        "no digit follows the `%`",
+        "a name begins with a letter, and a number with a digit or with `-` and a digit",
+    ),
+    (
+        b'%',
+        "`%` alone is no symbol",
+        "a comment begins with two of them",
+    ),
+    (
+        b'\'',
+        "`%` begins no token",
+        "a string stands between two `\"`",
+    ),
+    (
+        b'#',
+        "`%` begins no token",
+        "a comment begins with two percent signs",
+    ),
+    (
+        b'/',
+        "`%` begins no token",
+        "a comment begins with two percent signs",
+    ),
+];
+
+/// Says why the bytes of the script have no tokens.
+pub(crate) fn say_lex(said: &mut Said, fault: LexFault) {
+    let text = said.source.text;
+    match fault {
+        LexFault::BadByte(at) => say_byte(said, at),
+        LexFault::OpenString(_) => {
+            said.say("open string: this string isn't closed on its line", &[]);
+            said.help(
+                "close it with `\"`; a newline in a string is written `\\n`",
+                &[],
+            );
+        }
+        LexFault::Real(at) => {
+            let number = numeral(between(text, at, text.len()));
+            said.say("real: the number `%` has a decimal point", &[number]);
+            said.help(
+                "scripts have whole numbers only; 15 tenths of a second are `msec(1500)`",
+                &[],
+            );
+        }
+        LexFault::IntRange(at) => {
+            let number = numeral(between(text, at, text.len()));
+            said.say("integer: the number `%` doesn't fit in 64 bits", &[number]);
+            said.help(
+                "numbers go from -9223372036854775808 to 9223372036854775807",
+                &[],
+            );
+        }
+        LexFault::TooMany => {
+            said.say(
+                "too many tokens: the script has more than 200,000 tokens",
+                &[],
+            );
+            said.help(
+                "move parts that are repeated to a process that is called",
+                &[],
+            );
+        }
+        LexFault::NoMemory => said.lacks = true,
+    }
+}
+
+/// The sign, digits and points with which the text begins.
+fn numeral(text: &[u8]) -> &[u8] {
+    for (position, byte) in text.iter().enumerate() {
+        if !matches!(*byte, b'0'..=b'9' | b'.' | b'-') {
+            return &text[..position];
+        }
+    }
+    text
+}
+
+/// Says why no token goes on with the byte at this position.
+fn say_byte(said: &mut Said, at: usize) {
+    let text = said.source.text;
+    let byte = between(text, at, at.saturating_add(1));
+    said.say("byte: ", &[]);
+    match lex(said.alloc, between(text, 0, at)) {
+        Err(LexFault::OpenString(_)) => say_in_string(said, byte),
+        Err(LexFault::NoMemory) => said.lacks = true,
+        _ => say_outside(said, byte),
+    }
+}
+
+fn say_in_string(said: &mut Said, byte: &[u8]) {
+    match byte {
+        [b'\\'] => {
+            said.say("the backslash begins no escape", &[]);
+            said.help(
+                "in a string write `\\\\`, `\\\"`, `\\n`, `\\r` or `\\t`",
+                &[],
+            );
+        }
+        [0..=31] => {
+            said.say("this control character can't stand in a string", &[]);
+            said.help("in a string write `\\n`, `\\r` or `\\t`", &[]);
+        }
+        _ => said.say("the string isn't well-formed UTF-8 here", &[]),
+    }
+}
+
+fn say_outside(said: &mut Said, byte: &[u8]) {
+    for (key, sentence, help) in OUTSIDE.as_slice() {
+        if byte == [*key].as_slice() {
+            said.say(*sentence, &[byte]);
+            return said.help(*help, &[]);
+        }
+    }
+    match byte {
+        [33..=126] => said.say("`%` begins no token", &[byte]),
+        [128..=255] => {
+            said.say("this character begins no token", &[]);
+            said.help(
+                "only strings and comments have characters beyond ASCII",
+                &[],
+            );
+        }
+        _ => said.say("this control character begins no token", &[]),
+    }
+}

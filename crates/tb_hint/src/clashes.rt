@@ -1,0 +1,12 @@
+//! The sentence about an expression that doesn't fit where it stands.
+
+use crate::given::say_given;
+use crate::said::Said;
+use crate::wanted::say_wanted;
+
+/// Says what is asked for at this token, and what stands there.
+pub(crate) fn say_clash(said: &mut Said, token: usize) {
+    say_wanted(said, token);
+    said.say(", but ", &[]);
+    say_given(said, token);
+}

@@ -1,0 +1,60 @@
+//! What an expression is that doesn't fit.
+
+use crate::arguments::signature_of;
+use crate::said::Said;
+use crate::scan::{declaration_of, scope_of, type_of};
+use crate::wanted::shape_text;
+
+/// Says what begins at this token, and of which type it is.
+pub(crate) fn say_given(said: &mut Said, token: usize) {
+    let source = said.source;
+    let word = source.word(token);
+    match word {
+        [b'"', ..] => said.say("% is a str", &[word]),
+        [b'[', ..] => said.say("this list isn't, or not all of its members fit", &[]),
+        [b'<', ..] => said.say("a placeholder stands here", &[]),
+        [b'A'..=b'Z', ..] => say_variable(said, token, word),
+        [b'a'..=b'z', ..] => say_name(said, token, word),
+        _ => said.say("`%` is an int", &[word]),
+    }
+}
+
+fn say_variable(said: &mut Said, token: usize, name: &[u8]) {
+    let source = said.source;
+    let mark: &[u8] = if source.is(token.saturating_add(1), "?") {
+        b"?"
+    } else {
+        b""
+    };
+    match declaration_of(&source, token, name) {
+        None => said.say("`%%` isn't declared", &[name, mark]),
+        Some(declared) => {
+            let sort = type_of(&source, declared);
+            said.say("`%%` has the type %", &[name, mark, sort]);
+        }
+    }
+}
+
+fn say_name(said: &mut Said, token: usize, name: &[u8]) {
+    let source = said.source;
+    if source.is(token.saturating_add(1), "(") {
+        return say_application(said, token, name);
+    }
+    if source.is(token, "true") || source.is(token, "false") {
+        return said.say("`%` is a bool", &[name]);
+    }
+    said.say("`%` is a plain term", &[name]);
+}
+
+/// The argument of a root must have a value, so that is said first there.
+fn say_application(said: &mut Said, token: usize, name: &[u8]) {
+    let source = said.source;
+    let Some(signature) = signature_of(said, name) else {
+        return said.say("`%(..)` is a plain term", &[name]);
+    };
+    if scope_of(&source, token).is_none() {
+        return said.say("`%(..)` has no value of this type", &[name]);
+    }
+    said.say("the function `%` gives the type ", &[name]);
+    said.say("%", &[shape_text(signature.result)]);
+}

@@ -1,0 +1,20 @@
+//! What is wrong with a script, in words: the place, a sentence, the line with a mark beneath it, notes, and help.
+#![tactic(auto)]
+
+mod arguments;
+mod bytes;
+mod calls;
+mod checked;
+mod clashes;
+mod given;
+mod lines;
+mod message;
+mod names;
+mod near;
+mod said;
+mod scan;
+mod source;
+mod syntax;
+mod wanted;
+
+pub use message::message_text;

@@ -1,0 +1,98 @@
+//! The message about a script that is rejected.
+ghost use Rattle.std.specs.Prelude.{IfOk};
+ghost use Rattle.tb_point.specs.Points.{BeginsWithPlace};
+
+use crate::bytes::say_lex;
+use crate::calls::{say_expand, say_long, say_roots};
+use crate::checked::say_check;
+use crate::lines::push_marked;
+use crate::said::Said;
+use crate::source::Source;
+use crate::syntax::{say_deep, say_syntax};
+use std::alloc::Global;
+use tb_lex::{LexFault, Tokens, lex};
+use tb_parse::ParseFault;
+use tb_place::mark_at;
+use tb_point::{Point, write_place};
+use tb_script::ScriptFault;
+use tb_terms::{Items, NoMemory};
+
+/// The lines about a script that is rejected: the place and a sentence, the line of the script with a mark
+/// beneath it, notes, and help. `text` is the script, and `name` the name of its file.
+#[tactic(auto, using(tb_point::proofs::Begins::begins))]
+pub fn message_text(
+    alloc: Global,
+    name: &str,
+    text: &[u8],
+    point: &Point,
+) -> Result<Vec<u8>, NoMemory>
+    ensures { IfOk result
+        (λ lines. BeginsWithPlace name.now text.now point.now.mark lines.items) }
+{
+    let rest = rest_of(alloc, name, text, point)?;
+    let mut lines = Vec::new(alloc);
+    write_place(name, text, &point.mark, &mut lines)?;
+    lines.extend_from_slice(rest.as_slice())?;
+    Ok(lines)
+}
+
+/// All that stands behind the place.
+fn rest_of(alloc: Global, name: &str, text: &[u8], point: &Point) -> Result<Vec<u8>, NoMemory> {
+    match lex(alloc, text) {
+        Ok(tokens) => rest_by(alloc, name, text, &tokens, point),
+        Err(LexFault::NoMemory) => Err(NoMemory),
+        Err(_) => rest_by(alloc, name, text, &Items::new(alloc), point),
+    }
+}
+
+fn rest_by(
+    alloc: Global,
+    name: &str,
+    text: &[u8],
+    tokens: &Tokens,
+    point: &Point,
+) -> Result<Vec<u8>, NoMemory> {
+    let source = Source {
+        name,
+        text,
+        tokens: tokens.as_slice(),
+    };
+    let mut said = Said::new(alloc, source);
+    say_fault(&mut said, tokens, &point.fault);
+    if said.lacks {
+        return Err(NoMemory);
+    }
+    joined(&said, point)
+}
+
+/// The sentence, the line with its mark, and the other lines.
+fn joined(said: &Said, point: &Point) -> Result<Vec<u8>, NoMemory> {
+    let mut lines = Vec::from_slice(said.alloc, said.sentence.as_slice())?;
+    lines.push(b'\n')?;
+    if let Some(mark) = point.mark {
+        push_marked(said.source.text, mark, &mut lines)?;
+    }
+    lines.extend_from_slice(said.rest.as_slice())?;
+    Ok(lines)
+}
+
+fn say_fault(said: &mut Said, tokens: &Tokens, fault: &ScriptFault) {
+    match fault {
+        ScriptFault::Lex(fault) => say_lex(said, *fault),
+        ScriptFault::Parse(fault) => say_parse(said, *fault),
+        ScriptFault::Check(fault) => say_check(said, *fault),
+        ScriptFault::Expand(fault) => say_expand(said, tokens, fault),
+        ScriptFault::Roots(count) => say_roots(said, *count),
+        ScriptFault::TooLong(count) => say_long(said, *count),
+        ScriptFault::NotBuilt(_) => {}
+        ScriptFault::NoMemory => said.lacks = true,
+    }
+}
+
+fn say_parse(said: &mut Said, fault: ParseFault) {
+    match fault {
+        ParseFault::Syntax(token) => say_syntax(said, mark_at(said.source.tokens, token)),
+        ParseFault::TooDeep(token) => say_deep(said, token),
+        ParseFault::NoMemory => said.lacks = true,
+    }
+}

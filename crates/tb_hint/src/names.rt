@@ -1,0 +1,154 @@
+//! The sentences about names that are defined twice, or not at all.
+
+use crate::near::Near;
+use crate::said::Said;
+use crate::scan::{definition_of, scope_of};
+use crate::source::is_lower;
+use tb_syntax::is_sort_word;
+
+/// The words of types.
+static TYPES: [&str; 5] = ["bool", "int", "str", "list", "term"];
+
+/// The names of all functions.
+static FUNCTIONS: [&str; 24] = [
+    "equal",
+    "not-equal",
+    "not",
+    "and",
+    "or",
+    "add",
+    "sub",
+    "mul",
+    "div",
+    "mod",
+    "less",
+    "less-equal",
+    "greater",
+    "greater-equal",
+    "size",
+    "first",
+    "next",
+    "join",
+    "member",
+    "index",
+    "msec",
+    "sec",
+    "min",
+    "hour",
+];
+
+/// Says that what is defined or declared at this token has a name that is taken.
+pub(crate) fn say_twice(said: &mut Said, token: usize) {
+    let source = said.source;
+    let name = source.word(token.saturating_add(1));
+    if source.is(token, "process") {
+        return say_again(said, "process", name);
+    }
+    if !source.is(token, "tool") {
+        return say_declared_twice(said, token, source.word(token));
+    }
+    if is_sort_word(name) {
+        return said.say("a tool can't have the name of the type `%`", &[name]);
+    }
+    say_again(said, "tool", name);
+}
+
+fn say_again(said: &mut Said, keyword: &str, name: &[u8]) {
+    said.say("the % `%` is defined already", &[keyword.as_bytes(), name]);
+    say_definition(said, keyword, name);
+}
+
+/// Adds a note at the definition that has this keyword and this name.
+pub(crate) fn say_definition(said: &mut Said, keyword: &str, name: &[u8]) {
+    let source = said.source;
+    if let Some(definition) = definition_of(&source, keyword, name) {
+        said.note(definition, "`%` is defined here", &[name]);
+    }
+}
+
+fn say_declared_twice(said: &mut Said, token: usize, name: &[u8]) {
+    let source = said.source;
+    let scope = scope_of(&source, token).unwrap_or(0);
+    if source.is(scope, "process") {
+        let process = source.word(scope.saturating_add(1));
+        said.say(
+            "the process `%` has two parameters named `%`",
+            &[process, name],
+        );
+    } else {
+        said.say("this `let` declares two variables named `%`", &[name]);
+    }
+}
+
+/// Says that no process has the name at this token.
+pub(crate) fn say_no_process(said: &mut Said, token: usize) {
+    let source = said.source;
+    let name = source.word(token);
+    said.say("no process is named `%`", &[name]);
+    let mut near = Near::to(said.alloc, name);
+    near.offer_definitions(&source, "process");
+    near.ask(said);
+}
+
+/// Says that the word at this token is no type, or no tool that `execute` can start.
+pub(crate) fn say_no_tool(said: &mut Said, token: usize) {
+    let source = said.source;
+    let name = source.word(token);
+    if !source.has_before(token, 2, "execute") {
+        return say_no_type(said, token);
+    }
+    if !is_lower(name) || source.is(token.saturating_add(1), "(") {
+        return said.say(
+            "the first argument of `execute` must be the name of a tool",
+            &[],
+        );
+    }
+    if definition_of(&source, "tool", name).is_some() {
+        said.say(
+            "the tool `%` has no command, so `execute` can't start it",
+            &[name],
+        );
+        return said.help("write `tool % is { command = \"..\" }`", &[name]);
+    }
+    said.say("no tool is named `%`", &[name]);
+    let mut near = Near::to(said.alloc, name);
+    near.offer_definitions(&source, "tool");
+    near.ask(said);
+}
+
+fn say_no_type(said: &mut Said, token: usize) {
+    let source = said.source;
+    let name = source.word(token);
+    said.say("`%` is neither a type nor a tool", &[name]);
+    let mut near = Near::to(said.alloc, name);
+    near.offer_words(TYPES.as_slice());
+    near.offer_definitions(&source, "tool");
+    near.ask(said);
+    said.help(
+        "types are `bool`, `int`, `str`, `list`, `term`, and the names of tools",
+        &[],
+    );
+}
+
+/// Says that no function has the name at this token.
+pub(crate) fn say_no_function(said: &mut Said, token: usize) {
+    let source = said.source;
+    let name = source.word(token);
+    said.say("`%` is no function", &[name]);
+    let mut near = Near::to(said.alloc, name);
+    near.offer_words(FUNCTIONS.as_slice());
+    near.ask(said);
+}
+
+/// Says that the variable at this token isn't known there.
+pub(crate) fn say_undeclared(said: &mut Said, token: usize) {
+    let source = said.source;
+    let name = source.word(token);
+    said.say(
+        "the variable `%` is no parameter here, and no `let` round it declares it",
+        &[name],
+    );
+    let mut near = Near::to(said.alloc, name);
+    near.offer_known(&source, token);
+    near.ask(said);
+}

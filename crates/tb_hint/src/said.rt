@@ -1,0 +1,113 @@
+//! A message, piece by piece. If memory runs out at one piece, the message lacks it.
+
+use crate::lines::push_marked;
+use crate::source::Source;
+use itoa::Buffer;
+use std::alloc::Global;
+use tb_place::mark_at;
+use tb_point::write_place;
+use tb_terms::NoMemory;
+
+/// What is said of a script.
+#[derive(Drop)]
+pub(crate) struct Said<'a> {
+    pub alloc: Global,
+    pub source: Source<'a>,
+    pub sentence: Vec<u8>,
+    /// The lines behind the sentence and its mark.
+    pub rest: Vec<u8>,
+    /// Whether memory was lacking for a piece.
+    pub lacks: bool,
+}
+
+impl<'a> Said<'a> {
+    pub(crate) fn new(alloc: Global, source: Source<'a>) -> Said<'a> {
+        Said {
+            alloc,
+            source,
+            sentence: Vec::new(alloc),
+            rest: Vec::new(alloc),
+            lacks: false,
+        }
+    }
+
+    /// Adds the template to the sentence, with the parts in place of its `%`, in order.
+    pub(crate) fn say(&mut self, template: &str, parts: &[&[u8]]) {
+        if fill(template, parts, &mut self.sentence).is_err() {
+            self.lacks = true;
+        }
+    }
+
+    /// Adds a number to the sentence.
+    pub(crate) fn say_number(&mut self, number: usize) {
+        let mut buffer = Buffer::new();
+        self.say("%", &[buffer.format(number).as_bytes()]);
+    }
+
+    /// Adds how many there are to the sentence.
+    pub(crate) fn say_count(&mut self, number: usize, noun: &str) {
+        self.say_number(number);
+        self.say(" %", &[noun.as_bytes()]);
+        if number != 1 {
+            self.say("s", &[]);
+        }
+    }
+
+    /// Adds a line of help likewise.
+    pub(crate) fn help(&mut self, template: &str, parts: &[&[u8]]) {
+        if push_help(template, parts, &mut self.rest).is_err() {
+            self.lacks = true;
+        }
+    }
+
+    /// Adds a note at a token likewise, with the line of the script.
+    pub(crate) fn note(&mut self, token: usize, template: &str, parts: &[&[u8]]) {
+        let source = self.source;
+        if push_note(&source, token, template, parts, &mut self.rest).is_err() {
+            self.lacks = true;
+        }
+    }
+}
+
+fn push_help(template: &str, parts: &[&[u8]], into: &mut Vec<u8>) -> Result<(), NoMemory> {
+    into.extend_from_slice(b"help: ")?;
+    fill(template, parts, into)?;
+    into.push(b'\n')?;
+    Ok(())
+}
+
+fn push_note(
+    source: &Source,
+    token: usize,
+    template: &str,
+    parts: &[&[u8]],
+    into: &mut Vec<u8>,
+) -> Result<(), NoMemory> {
+    let mark = mark_at(source.tokens, token);
+    write_place(source.name, source.text, &Some(mark), into)?;
+    into.extend_from_slice(b"note: ")?;
+    fill(template, parts, into)?;
+    into.push(b'\n')?;
+    push_marked(source.text, mark, into)
+}
+
+/// Adds the template, with the parts in place of its `%`, in order.
+fn fill(template: &str, parts: &[&[u8]], into: &mut Vec<u8>) -> Result<(), NoMemory> {
+    let mut next: usize = 0;
+    for byte in template.as_bytes() {
+        if *byte == b'%' {
+            into.extend_from_slice(part_at(parts, next))?;
+            next = next.saturating_add(1);
+        } else {
+            into.push(*byte)?;
+        }
+    }
+    Ok(())
+}
+
+fn part_at<'a>(parts: &[&'a [u8]], position: usize) -> &'a [u8] {
+    match parts.get(position) {
+        Some(part) => *part,
+        None => b"",
+    }
+}

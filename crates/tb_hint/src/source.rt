@@ -1,0 +1,57 @@
+//! A script as the texts of its tokens.
+
+use sqlite_items::at;
+use tb_lex::Token;
+
+/// A script, its tokens, and the name of its file.
+#[derive(Clone, Copy)]
+pub(crate) struct Source<'a> {
+    pub name: &'a str,
+    pub text: &'a [u8],
+    pub tokens: &'a [Token<'a>],
+}
+
+impl<'a> Source<'a> {
+    /// The text of a token; nothing behind all tokens.
+    pub(crate) fn word(&self, token: usize) -> &'a [u8] {
+        match at(self.tokens, token) {
+            Some(token) => between(self.text, token.from, token.to),
+            None => b"",
+        }
+    }
+
+    /// The text from one token to before another.
+    pub(crate) fn words(&self, from: usize, to: usize) -> &'a [u8] {
+        match (at(self.tokens, from), at(self.tokens, to.saturating_sub(1))) {
+            (Some(first), Some(last)) => between(self.text, first.from, last.to),
+            _ => b"",
+        }
+    }
+
+    /// Whether a token has this text.
+    pub(crate) fn is(&self, token: usize, word: &str) -> bool {
+        self.word(token) == word.as_bytes()
+    }
+
+    /// Whether the token so many before this one has this text.
+    pub(crate) fn has_before(&self, token: usize, back: usize, word: &str) -> bool {
+        match token.checked_sub(back) {
+            Some(earlier) => self.is(earlier, word),
+            None => false,
+        }
+    }
+}
+
+/// The bytes from one position to before another, as far as there are any.
+pub(crate) fn between(text: &[u8], from: usize, to: usize) -> &[u8] {
+    let to = to.min(text.len());
+    &text[from.min(to)..to]
+}
+
+pub(crate) fn is_upper(word: &[u8]) -> bool {
+    matches!(word, [b'A'..=b'Z', ..])
+}
+
+pub(crate) fn is_lower(word: &[u8]) -> bool {
+    matches!(word, [b'a'..=b'z', ..])
+}

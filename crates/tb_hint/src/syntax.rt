@@ -1,0 +1,294 @@
+//! The sentence about tokens that spell no script. Which tokens may come next is found by trying the parser.
+
+use crate::near::Near;
+use crate::said::Said;
+use crate::source::{between, is_lower, is_upper};
+use std::alloc::Global;
+use tb_lex::{LexFault, lex};
+use tb_parse::{ParseFault, parse};
+use tb_place::Mark;
+use tb_terms::{Items, NoMemory};
+
+/// A token of each kind that the grammar tells apart.
+static CANDIDATES: [&str; 40] = [
+    "process", "is", "tool", "toolbus", "let", "in", "endlet", "if", "then", "else", "fi",
+    "create", "command", "tau", "delay", "int", "x", "X", "0", "\"\"", "(", ")", "[", "]", "{",
+    "}", ",", ".", ":", ":=", "=", "?", "+", "*", "||", ">>", "<", ">", "list", "bool",
+];
+
+/// What stands in place of a whole process where one may begin.
+static PROCESS: [&str; 6] = ["tau", "create", "X", "(", "let", "if"];
+
+/// What stands in place of an expression where one may begin.
+static EXPRESSION: [&str; 13] = [
+    "0", "\"\"", "x", "X", "[", "<", "tau", "delay", "int", "list", "bool", "command", "create",
+];
+
+/// What stands in place of a name or a type where one may stand.
+static NAME: [&str; 8] = [
+    "x", "tau", "delay", "int", "list", "bool", "command", "create",
+];
+
+/// What the list calls a candidate that isn't quoted.
+static UNQUOTED: [(&str, &str); 3] = [
+    ("X", "a name that begins with an upper-case letter"),
+    ("\"\"", "a string"),
+    ("delay", "a time such as `delay(1)`"),
+];
+
+/// The words of atoms.
+static ATOMS: [&str; 21] = [
+    "delta",
+    "tau",
+    "printf",
+    "snd-msg",
+    "rec-msg",
+    "snd-note",
+    "rec-note",
+    "no-note",
+    "subscribe",
+    "unsubscribe",
+    "execute",
+    "rec-connect",
+    "rec-disconnect",
+    "snd-eval",
+    "rec-value",
+    "snd-do",
+    "rec-event",
+    "snd-ack-event",
+    "snd-terminate",
+    "shutdown",
+    "create",
+];
+
+/// How tokens are read.
+#[derive(Clone, Copy, PartialEq, Eq)]
+enum Reading {
+    Script,
+    Begun,
+    Broken,
+}
+
+/// Says what may come at these bytes, and what stands there.
+pub(crate) fn say_syntax(said: &mut Said, mark: Mark) {
+    let text = said.source.text;
+    let prefix = between(text, 0, mark.from);
+    said.say("syntax: expected ", &[]);
+    match expected_behind(said.alloc, prefix) {
+        Ok(expected) => {
+            say_expected(said, expected.as_slice(), prefix);
+            say_found(said, expected.as_slice(), between(text, mark.from, mark.to));
+        }
+        Err(NoMemory) => said.lacks = true,
+    }
+}
+
+/// Says what may come: one name for each kind of construct, with commas between them, and `or` before the last.
+fn say_expected(said: &mut Said, expected: &[&'static str], prefix: &[u8]) {
+    let construct = construct_of(expected);
+    let ends = is_script(said, prefix);
+    let count = count_names(expected, construct, ends);
+    let mut position: usize = 0;
+    if !construct.name.is_empty() {
+        say_name(said, position, count, construct.name);
+        position = 1;
+    }
+    for word in expected {
+        if !has(construct.words, *word) {
+            say_name(said, position, count, shown(*word));
+            position = position.saturating_add(1);
+        }
+    }
+    if ends {
+        say_name(said, position, count, "the end of the script");
+    }
+}
+
+/// Whether the script may end here.
+fn is_script(said: &mut Said, prefix: &[u8]) -> bool {
+    match reading_of(said.alloc, prefix) {
+        Ok(reading) => reading == Reading::Script,
+        Err(NoMemory) => {
+            said.lacks = true;
+            false
+        }
+    }
+}
+
+/// How many names the list has.
+fn count_names(expected: &[&'static str], construct: Construct, ends: bool) -> usize {
+    let mut count: usize = 0;
+    for word in expected {
+        if !has(construct.words, *word) {
+            count = count.saturating_add(1);
+        }
+    }
+    if !construct.name.is_empty() {
+        count = count.saturating_add(1);
+    }
+    if ends {
+        count = count.saturating_add(1);
+    }
+    count
+}
+
+fn say_name(said: &mut Said, position: usize, count: usize, name: &str) {
+    said.say(before(position, count), &[]);
+    said.say(template_of(name), &[name.as_bytes()]);
+}
+
+fn say_found<'a>(said: &mut Said<'a>, expected: &[&'static str], found: &'a [u8]) {
+    if found.is_empty() {
+        return said.say(", but the script ends here", &[]);
+    }
+    said.say(", but found `%`", &[found]);
+    say_help(said, expected, found);
+}
+
+/// The candidates that may come behind the tokens of this text.
+fn expected_behind(alloc: Global, prefix: &[u8]) -> Result<Items<&'static str>, NoMemory> {
+    let mut expected = Items::new(alloc);
+    for candidate in CANDIDATES.as_slice() {
+        if reading_with(alloc, prefix, *candidate)? != Reading::Broken {
+            expected.push(*candidate)?;
+        }
+    }
+    Ok(expected)
+}
+
+/// How the tokens of the prefix and this one are read.
+fn reading_with(alloc: Global, prefix: &[u8], candidate: &str) -> Result<Reading, NoMemory> {
+    let mut text = Vec::from_slice(alloc, prefix)?;
+    text.push(b'\n')?;
+    text.extend_from_slice(candidate.as_bytes())?;
+    reading_of(alloc, text.as_slice())
+}
+
+fn reading_of(alloc: Global, text: &[u8]) -> Result<Reading, NoMemory> {
+    match lex(alloc, text) {
+        Ok(tokens) => match parse(alloc, &tokens) {
+            Ok(_) => Ok(Reading::Script),
+            Err(ParseFault::Syntax(token)) if token < tokens.len() => Ok(Reading::Broken),
+            Err(ParseFault::NoMemory) => Err(NoMemory),
+            Err(_) => Ok(Reading::Begun),
+        },
+        Err(LexFault::NoMemory) => Err(NoMemory),
+        Err(_) => Ok(Reading::Broken),
+    }
+}
+
+/// Says what helps if a word is misspelt, or a letter is of the other case.
+fn say_help<'a>(said: &mut Said<'a>, expected: &[&'static str], found: &'a [u8]) {
+    if begins_process(expected) && is_lower(found) {
+        let mut near = Near::to(said.alloc, found);
+        near.offer_words(ATOMS.as_slice());
+        return near.ask(said);
+    }
+    if has(expected, "X") && !has(expected, "x") && is_lower(found) {
+        return said.help(
+            "the names of processes and variables begin with an upper-case letter",
+            &[],
+        );
+    }
+    if has(expected, "x") && !has(expected, "X") && is_upper(found) {
+        said.help(
+            "the names of types and tools begin with a lower-case letter",
+            &[],
+        );
+    }
+}
+
+fn has(words: &[&'static str], word: &str) -> bool {
+    for each in words {
+        if each.as_bytes() == word.as_bytes() {
+            return true;
+        }
+    }
+    false
+}
+
+/// Whether a process may begin here. Words that begin one begin an expression too.
+fn begins_process(expected: &[&'static str]) -> bool {
+    has(expected, "tau") && !has(expected, "x")
+}
+
+/// A construct that may begin here, and the candidates for which it stands.
+#[derive(Clone, Copy)]
+struct Construct {
+    name: &'static str,
+    words: &'static [&'static str],
+}
+
+/// The construct that may begin here; one without a name if none may.
+fn construct_of(expected: &[&'static str]) -> Construct {
+    if begins_process(expected) {
+        return Construct {
+            name: "a process (an atom, a call, `(`, `let` or `if`)",
+            words: PROCESS.as_slice(),
+        };
+    }
+    if has(expected, "0") {
+        return Construct {
+            name: "an expression",
+            words: EXPRESSION.as_slice(),
+        };
+    }
+    if has(expected, "x") {
+        return Construct {
+            name: "a name that begins with a lower-case letter",
+            words: NAME.as_slice(),
+        };
+    }
+    if has(expected, "bool") {
+        return Construct {
+            name: "a type (`bool`, `int`, `str`, `list` or `term`)",
+            words: NAME.as_slice(),
+        };
+    }
+    Construct {
+        name: "",
+        words: &[],
+    }
+}
+
+fn shown(word: &'static str) -> &'static str {
+    for (key, name) in UNQUOTED.as_slice() {
+        if key.as_bytes() == word.as_bytes() {
+            return *name;
+        }
+    }
+    word
+}
+
+fn before(position: usize, count: usize) -> &'static str {
+    if position == 0 {
+        ""
+    } else if position < count.saturating_sub(1) {
+        ", "
+    } else {
+        " or "
+    }
+}
+
+/// A name of several words isn't quoted.
+fn template_of(name: &str) -> &'static str {
+    for byte in name.as_bytes() {
+        if *byte == b' ' {
+            return "%";
+        }
+    }
+    "`%`"
+}
+
+/// Says that the brackets or the body at this token are too deep.
+pub(crate) fn say_deep(said: &mut Said, token: usize) {
+    if said.source.is(token, "process") {
+        said.say("too deep: the body of this process is higher than 400", &[]);
+        return said.help("split it into several processes", &[]);
+    }
+    said.say(
+        "too deep: more than 128 of `(`, `[`, `let` and `if` are open behind this one",
+        &[],
+    );
+    said.help("move an inner part to a process of its own", &[]);
+}

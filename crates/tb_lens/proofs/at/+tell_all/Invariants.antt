@@ -1,0 +1,8 @@
+use Rattle.std.proofs.Common.{length, ◌≡◌, ℕ, List, [], Option, None, IfOk, map, ◌+◌, ◌-◌, ◌*◌, ◌<◌, ◌≤◌}
+use Rattle.tb_point.specs.Points.{BeginsWithPlace, IsPoint}
+use Rattle.tb_lens.specs.Told.{AtOutcome, IsLoaded, Says, TellsOf, TellsOfAll}
+use Rattle.tb_lens.proofs.at.+tell_all.Given as goal
+
+-- proposed from what the function passes where it calls itself
+abbrev pub decreases-tell_all : goal.decreases-tell_all
+decreases-tell_all g l = length l.scripts.now

@@ -1,0 +1,46 @@
+-- What `at` tells of the scripts in files.
+use Rattle.std.specs.Prelude.{◌≡◌, ◌≢◌, ℕ, ◌<◌, ◌≤◌, List, [], ◌∷◌, ◌++◌, length, Option, None, IfSome}
+use Rattle.tb_edge.specs.Sinks.{Writes}
+use Rattle.tb_body.specs.declared.program.Program.{Program}
+use Rattle.tb_script.specs.Findings.{IsFound, Program'}
+use Rattle.tb_point.specs.Points.{BeginsWithPlace, IsPoint}
+use Rattle.tb_point.specs.declared.point.Point.{Point}
+use Rattle.tb_lens.specs.declared.status.Status.{Status}
+use Rattle.tb_lens.specs.declared.status.Status.TheVariants.{Fine, Found, Trouble}
+
+-- a file of more bytes is too long for a script
+abbrev pub most_bytes : ℕ
+most_bytes = 1048576
+
+-- the bytes that the name holds, where the files tell them, and not too many
+abbrev pub IsLoaded : Option (List ℕ) → List ℕ → Type 0
+IsLoaded told bytes = IfSome told (λ held. bytes ≡ held) × (length bytes ≤ most_bytes)
+
+-- the name holds so many bytes, where the files tell them, and these are too many
+abbrev pub IsTooLong : Option (List ℕ) → ℕ → Type 0
+IsTooLong told len = (most_bytes < len) × IfSome told (λ held. len ≡ length held)
+
+-- What is told of the file of this name: nothing just where its script is accepted, and else the fault that `toolbus check` reports, behind its place.
+pub data TellsOf (told : Option (List ℕ)) (name text : List ℕ) : Type 0 where
+  accepted : (bytes : List ℕ) (program : Program) → IsLoaded told bytes → IsFound bytes (Program' program) → text ≡ [] → TellsOf told name text
+  refused : (bytes : List ℕ) (point : Point) → IsLoaded told bytes → IsPoint bytes point → BeginsWithPlace name bytes point.mark text → TellsOf told name text
+  long : (len : ℕ) → IsTooLong told len → BeginsWithPlace name [] None text → TellsOf told name text
+
+-- the same of each file, in order
+abbrev pub TellsOfAll : (List ℕ → Option (List ℕ)) → List (List ℕ) → List ℕ → Type 0
+TellsOfAll held [] text = text ≡ []
+TellsOfAll held (name ∷ names) text =
+    (first : List ℕ) × (rest : List ℕ) × TellsOf (held name) name first × TellsOfAll held names rest × (text ≡ first ++ rest)
+
+-- the status says whether anything was told
+abbrev pub Says : List ℕ → Status → Type 0
+Says text Fine = text ≡ []
+Says text Found = text ≢ []
+Says text Trouble = ⊥
+
+-- what is told is written, and nothing else
+pub record AtOutcome (held : List ℕ → Option (List ℕ)) (names : List (List ℕ)) (old new : Option (List ℕ)) (status : Status) : Type 0 where
+  pub text : List ℕ
+  pub tells : TellsOfAll held names text
+  pub says : Says text status
+  pub written : Writes old new text

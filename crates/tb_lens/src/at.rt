@@ -1,0 +1,105 @@
+//! `at`: what is wrong with scripts, and where.
+ghost use Rattle.std.specs.Prelude.{◌≡◌, ℕ, List, [], Option, None, IfOk, map};
+ghost use Rattle.tb_point.specs.Points.{BeginsWithPlace, IsPoint};
+ghost use Rattle.tb_lens.specs.Told.{AtOutcome, IsLoaded, Says, TellsOf, TellsOfAll};
+
+use crate::status::{Status, Trouble};
+use std::alloc::Global;
+use tb_edge::{Failed, Files, FilesFault, Loaded, Sink};
+use tb_hint::message_text;
+use tb_point::{Point, find_fault};
+use tb_script::ScriptFault;
+use tb_terms::NoMemory;
+
+/// A longer file of a script is refused.
+pub(crate) const MOST_BYTES: usize = 1_048_576;
+
+/// Tells what is wrong with the scripts in the files of these names, and where. Where a file can't be read,
+/// nothing is told of any.
+#[tactic(auto, using(crate::proofs::Tellings::outcome))]
+pub fn tell_at<F: Files, O: Sink>(
+    alloc: Global,
+    scripts: &[&str],
+    files: &mut F,
+    out: &mut O,
+) -> Result<Status, Trouble>
+    ensures { IfOk result (AtOutcome (F.held files.old) (map (λ name. name.now) scripts.now)
+        (O.taken out.old) (O.taken out.new)) }
+{
+    let text = tell_all(alloc, scripts, files)?;
+    match out.put(text.as_slice()) {
+        Ok(()) => Ok(status_of(text.as_slice())),
+        Err(Failed) => Err(Trouble::Out),
+    }
+}
+
+/// The status of this text: whether anything is told.
+fn status_of(text: &[u8]) -> Status
+    ensures { Says text.now result }
+{
+    if text.is_empty() {
+        return Status::Fine;
+    }
+    Status::Found
+}
+
+/// What is told of the scripts, in their order.
+fn tell_all<F: Files>(alloc: Global, scripts: &[&str], files: &mut F) -> Result<Vec<u8>, Trouble>
+    ensures tells { IfOk result (λ text. TellsOfAll (F.held files.old)
+        (map (λ name. name.now) scripts.now) text.items) }
+{
+    match scripts {
+        [] => Ok(Vec::new(alloc)),
+        [first, others @ ..] => {
+            let mut text = tell(alloc, first, files)?;
+            let rest = tell_all(alloc, others, files)?;
+            text.extend_from_slice(rest.as_slice())?;
+            Ok(text)
+        }
+    }
+}
+
+/// What is told of the script in the file of this name: nothing if it is accepted.
+fn tell<F: Files>(alloc: Global, name: &str, files: &mut F) -> Result<Vec<u8>, Trouble>
+    ensures tells { IfOk result (λ text. TellsOf (F.held files.old name.now) name.now text.items) }
+    ensures held { F.held files.new ≡ F.held files.old }
+{
+    match files.load(alloc, name, MOST_BYTES) {
+        Ok(Loaded::Bytes(bytes)) => Ok(tell_bytes(alloc, name, bytes.as_slice())?),
+        Ok(Loaded::TooLong(len)) => Ok(tell_long(alloc, name, len)?),
+        Err(FilesFault::Failed) => Err(Trouble::File(String::from_str(alloc, name)?)),
+        Err(FilesFault::NoMemory) => Err(Trouble::NoMemory),
+    }
+}
+
+/// What is told of a script with these bytes.
+fn tell_bytes(alloc: Global, name: &str, bytes: &[u8]) -> Result<Vec<u8>, NoMemory>
+    ensures { IfOk result (λ text. (told : Option (List ℕ)) → IsLoaded told bytes.now
+        → TellsOf told name.now text.items) }
+{
+    match find_fault(alloc, bytes) {
+        Ok(None) => Ok(Vec::new(alloc)),
+        Ok(Some(found)) => tell_point(alloc, name, bytes, &found),
+        Err(NoMemory) => Err(NoMemory),
+    }
+}
+
+/// What is told of a script with these bytes, which has this fault.
+fn tell_point(alloc: Global, name: &str, bytes: &[u8], found: &Point) -> Result<Vec<u8>, NoMemory>
+    requires { IsPoint bytes.now found.now }
+    ensures { IfOk result (λ text. (told : Option (List ℕ)) → IsLoaded told bytes.now
+        → TellsOf told name.now text.items) }
+{
+    message_text(alloc, name, bytes, found)
+}
+
+/// What is told of a file with so many bytes, too many for a script.
+fn tell_long(alloc: Global, name: &str, len: usize) -> Result<Vec<u8>, NoMemory>
+    ensures { IfOk result (λ text. BeginsWithPlace name.now [] None text.items) }
+{
+    let found = Point {
+        fault: ScriptFault::TooLong(len),
+        mark: None,
+    };
+    message_text(alloc, name, b"", &found)
+}

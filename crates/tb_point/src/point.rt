@@ -1,0 +1,38 @@
+//! Where a script is wrong.
+ghost use Rattle.std.specs.Prelude.{IfOk};
+ghost use Rattle.tb_script.specs.Loading.{HasFault};
+ghost use Rattle.tb_point.specs.Points.{IsAnswer};
+
+use crate::marks::mark_of;
+use std::alloc::Global;
+use tb_place::Mark;
+use tb_script::{ScriptFault, accept};
+use tb_terms::NoMemory;
+
+/// The fault of a script, and where it stands.
+#[derive(Drop)]
+pub struct Point {
+    pub fault: ScriptFault,
+    /// The bytes at which it stands, from the first one on: the others are for a mark.
+    pub mark: Option<Mark>,
+}
+
+/// What is wrong with the script that has these bytes; nothing if it is accepted.
+pub fn find_fault(alloc: Global, text: &[u8]) -> Result<Option<Point>, NoMemory>
+    ensures { IfOk result (IsAnswer text.now) }
+{
+    match accept(alloc, text) {
+        Ok(()) => Ok(None),
+        Err(fault) => point_of(alloc, text, fault),
+    }
+}
+
+fn point_of(alloc: Global, text: &[u8], fault: ScriptFault) -> Result<Option<Point>, NoMemory>
+    requires { HasFault text.now fault }
+    ensures { IfOk result (IsAnswer text.now) }
+{
+    match mark_of(alloc, text, &fault) {
+        Ok(mark) => Ok(Some(Point { fault, mark })),
+        Err(NoMemory) => Err(NoMemory),
+    }
+}
