@@ -171,10 +171,7 @@ static ROWS: [Row; 12] = [
         first: ASKS_AND_TELLS,
         second: Some(ASKS_AND_TAKES),
         on: On::Real,
-        logs: Some((
-            "snd-do 1.2 pipe(1),one\nfinish",
-            "rec-event 1.2 pipe(1),one\nfinish",
-        )),
+        logs: Some(("out 1 rec-do(one)\nfinish", "line 1 snd-event(one)\nfinish")),
         ..WELL
     },
     Row {
