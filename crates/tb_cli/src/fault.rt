@@ -1,8 +1,8 @@
 ghost use Rattle.std.specs.Prelude.{◌≡◌};
-ghost use Rattle.tb_line.specs.Lines.{line_text};
+ghost use Rattle.tb_message.specs.Messages.{message_text};
 ghost use Rattle.tb_cli.specs.Lines.{word_line};
 
-use tb_line::Line;
+use tb_message::Message;
 
 /// Why the arguments of the command line were rejected. Positions count from 1.
 #[derive(Clone, Copy, Debug, PartialEq, Eq)]
@@ -29,18 +29,18 @@ pub enum WordFault {
 
 impl WordFault {
     /// The words of its line.
-    pub fn line(&self) -> Line<'static>
-        ensures { line_text result ≡ word_line self.now }
+    pub fn message(&self) -> Message<'static>
+        ensures { message_text result ≡ word_line self.now }
     {
         match self {
-            WordFault::NoCommand => Line::plain(b"words: no command"),
-            WordFault::Unknown(position) => Line::numbered(b"words: unknown at ", *position),
-            WordFault::Missing => Line::plain(b"words: missing"),
-            WordFault::Extra(position) => Line::numbered(b"words: extra at ", *position),
-            WordFault::Number(position) => Line::numbered(b"words: number at ", *position),
-            WordFault::Range(position) => Line::numbered(b"words: range at ", *position),
-            WordFault::NotBuilt(position) => Line::numbered(b"words: not built at ", *position),
-            WordFault::NoMemory => Line::plain(b"no memory"),
+            WordFault::NoCommand => Message::plain(b"words: no command"),
+            WordFault::Unknown(position) => Message::numbered(b"words: unknown at ", *position),
+            WordFault::Missing => Message::plain(b"words: missing"),
+            WordFault::Extra(position) => Message::numbered(b"words: extra at ", *position),
+            WordFault::Number(position) => Message::numbered(b"words: number at ", *position),
+            WordFault::Range(position) => Message::numbered(b"words: range at ", *position),
+            WordFault::NotBuilt(position) => Message::numbered(b"words: not built at ", *position),
+            WordFault::NoMemory => Message::plain(b"no memory"),
         }
     }
 }

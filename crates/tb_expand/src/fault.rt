@@ -1,9 +1,9 @@
 ghost use Rattle.std.specs.Prelude.{◌≡◌};
-ghost use Rattle.tb_line.specs.Lines.{line_text};
+ghost use Rattle.tb_message.specs.Messages.{message_text};
 ghost use Rattle.tb_expand.specs.Lines.{expand_line};
 
 use std::alloc::{AllocError, AllocFailed};
-use tb_line::Line;
+use tb_message::Message;
 use tb_terms::{Ident, Items, NoMemory};
 
 /// Names of processes in a row.
@@ -23,15 +23,15 @@ pub enum ExpandFault {
 
 impl ExpandFault {
     /// The words of its line.
-    pub fn line(&self) -> Line<'_>
-        ensures { line_text result ≡ expand_line self.now }
+    pub fn message(&self) -> Message<'_>
+        ensures { message_text result ≡ expand_line self.now }
     {
         match self {
             ExpandFault::Recursion(names) => {
-                Line::of_names(b"script: recursion ", names.as_slice())
+                Message::of_names(b"script: recursion ", names.as_slice())
             }
-            ExpandFault::TooLarge(name) => Line::of_name(b"script: too large ", name),
-            ExpandFault::NoMemory => Line::plain(b"no memory"),
+            ExpandFault::TooLarge(name) => Message::of_name(b"script: too large ", name),
+            ExpandFault::NoMemory => Message::plain(b"no memory"),
         }
     }
 }

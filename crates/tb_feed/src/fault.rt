@@ -1,9 +1,9 @@
 ghost use Rattle.std.specs.Prelude.{◌≡◌};
-ghost use Rattle.tb_line.specs.Lines.{line_text};
+ghost use Rattle.tb_message.specs.Messages.{message_text};
 ghost use Rattle.tb_feed.specs.Lines.{feed_line};
 
 use std::alloc::{AllocError, AllocFailed};
-use tb_line::Line;
+use tb_message::Message;
 use tb_terms::NoMemory;
 
 /// Why a text is no feed.
@@ -19,13 +19,13 @@ pub enum FeedFault {
 
 impl FeedFault {
     /// The words of its line.
-    pub fn line(&self) -> Line<'static>
-        ensures { line_text result ≡ feed_line self.now }
+    pub fn message(&self) -> Message<'static>
+        ensures { message_text result ≡ feed_line self.now }
     {
         match self {
-            FeedFault::Line(number) => Line::numbered(b"feed: line ", *number as usize),
-            FeedFault::TooLong(bytes) => Line::numbered(b"feed: too long ", *bytes),
-            FeedFault::NoMemory => Line::plain(b"no memory"),
+            FeedFault::Line(number) => Message::numbered(b"feed: line ", *number as usize),
+            FeedFault::TooLong(bytes) => Message::numbered(b"feed: too long ", *bytes),
+            FeedFault::NoMemory => Message::plain(b"no memory"),
         }
     }
 }

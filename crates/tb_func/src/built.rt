@@ -1,3 +1,4 @@
+//! A pattern while it is built from its parts.
 ghost use Rattle.std.specs.Prelude.{◌≡◌, ◌++◌, ◌∷◌, [], IfOk, map};
 ghost use Rattle.tb_terms.specs.declared.pattern.Pattern.TheVariants as pattern;
 ghost use Rattle.tb_func.specs.Helpers.Parts.{as_pattern, as_patterns};

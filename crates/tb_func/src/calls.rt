@@ -1,3 +1,4 @@
+//! The value of a function for given arguments.
 ghost use Rattle.std.specs.Prelude.{◌≡◌, ◌∷◌, [], not, Some, IfOk, option_and_then, option_map};
 ghost use Rattle.tb_func.specs.Apply.{apply_of, given, one_given, two_given, negated, truths, logic, numbers, orders, timed, number_of, first_of, rest_of, joined, member_at, members_test};
 ghost use Rattle.tb_func.specs.Arguments.{bool_of, list_of, int_of, bool_term, of_both};

@@ -1,3 +1,4 @@
+//! The functions by name, with their signatures.
 ghost use Rattle.std.specs.Prelude.{◌≡◌};
 ghost use Rattle.tb_func.specs.Functions.{function_named, logic_named, arithmetic_named, order_named, list_named, time_named, either, signature_of, one, two};
 

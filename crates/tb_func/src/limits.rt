@@ -1,3 +1,4 @@
+//! Values within the limits of a term.
 ghost use Rattle.std.specs.Prelude.{◌≡◌, ◌&&◌, nat_le};
 ghost use Rattle.tb_terms.specs.Sizes.{most_term_size, most_term_levels};
 ghost use Rattle.tb_func.specs.Limits.{limited};

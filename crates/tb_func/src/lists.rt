@@ -1,3 +1,4 @@
+//! Functions of lists.
 ghost use Rattle.std.specs.Prelude.{◌≡◌, ◌++◌, IfOk, OnOk};
 ghost use Rattle.std.specs.List.{list_any};
 ghost use Rattle.tb_func.specs.Apply.{first_of, rest_of, member_at, joined, number_of};

@@ -1,3 +1,4 @@
+//! Terms with their size and levels.
 ghost use Rattle.std.specs.Prelude.{◌≡◌, ◌++◌, ◌∷◌, [], OnErr, OnOk, min, map, sum, option_map};
 ghost use Rattle.tb_terms.specs.Sizes.{term_size, term_levels, greatest};
 ghost use Rattle.tb_terms.specs.declared.term.Term.TheVariants as term;

@@ -1,3 +1,4 @@
+//! Functions of numbers and times.
 ghost use Rattle.std.specs.Prelude.{◌≡◌, ◌*◌, ◌+ℤ◌, ◌-ℤ◌, ◌*ℤ◌};
 ghost use Rattle.std.specs.Int.{div_ceil};
 ghost use Rattle.tb_func.specs.Numbers.{ranged, quotient, remainder, arithmetic, order, ticks, time};

@@ -1,3 +1,4 @@
+//! Patterns that don't stand for one term alone.
 ghost use Rattle.std.specs.Prelude.{◌≡◌, IsTrue};
 ghost use Rattle.tb_func.specs.Helpers.Opens.{is_open, has_open};
 

@@ -1,3 +1,4 @@
+//! Truth values, numbers and lists as terms.
 ghost use Rattle.std.specs.Prelude.{◌≡◌, [], IfOk, if◌then◌else◌, codes};
 ghost use Rattle.std.specs.Option.{option_copied};
 ghost use Rattle.tb_terms.specs.declared.term.Term.{out-Term};

@@ -1,3 +1,4 @@
+//! The pattern of an expression.
 ghost use Rattle.std.specs.Prelude.{◌≡◌, IfOk, map, option_and_then, option_map};
 ghost use Rattle.tb_terms.specs.declared.pattern.Pattern.TheVariants as pattern;
 ghost use Rattle.tb_func.specs.Helpers.Parts.{as_pattern, as_patterns};

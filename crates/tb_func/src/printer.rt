@@ -1,3 +1,4 @@
+//! The state of `printf` between two bytes of its format.
 ghost use Rattle.std.specs.Prelude.{◌≡◌, ◌++◌, ◌∷◌, [], ℕ, false, List, Some, None, Option, IfOk, OnOk, option_map, if◌then◌else◌};
 ghost use Rattle.std.specs.Fmt.{signed_decimal};
 ghost use Rattle.tb_func.specs.Printing.{shown};

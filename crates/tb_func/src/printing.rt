@@ -1,3 +1,4 @@
+//! The text that `printf` prints.
 ghost use Rattle.std.specs.Prelude.{◌≡◌, false, IsTrue, IfOk, option_map};
 ghost use Rattle.std.specs.List.{list_all};
 ghost use Rattle.std.specs.Vec.{vec_items};

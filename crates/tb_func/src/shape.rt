@@ -1,3 +1,4 @@
+//! The shapes of arguments and results.
 /// What a function takes at a position, or gives.
 #[derive(Clone, Copy, Debug, PartialEq, Eq)]
 pub enum Shape {

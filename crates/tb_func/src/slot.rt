@@ -1,3 +1,4 @@
+//! The slot of a variable.
 use tb_terms::{Sort, Term};
 
 /// The place of a variable: its sort, and the value that it has.

@@ -1,3 +1,4 @@
+//! The variables of a process.
 ghost use Rattle.std.specs.Prelude.{◌≡◌, ◌<◌, Some, IsTrue, IfOk, length, map};
 ghost use Rattle.std.specs.Option.{ForSome, option_copied};
 ghost use Rattle.tb_terms.specs.Sorts.{has_sort};

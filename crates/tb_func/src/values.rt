@@ -1,3 +1,4 @@
+//! The value of an expression.
 ghost use Rattle.std.specs.Prelude.{◌≡◌, IfOk, map, option_and_then, option_map};
 ghost use Rattle.tb_terms.specs.declared.term.Term.TheVariants as term;
 ghost use Rattle.tb_func.specs.Apply.{apply_of};

@@ -1,9 +1,10 @@
+//! Why bytes have no tokens.
 ghost use Rattle.std.specs.Prelude.{◌≡◌};
-ghost use Rattle.tb_line.specs.Lines.{line_text};
+ghost use Rattle.tb_message.specs.Messages.{message_text};
 ghost use Rattle.tb_lex.specs.Lines.{lex_line};
 
 use std::alloc::{AllocError, AllocFailed};
-use tb_line::Line;
+use tb_message::Message;
 use tb_terms::NoMemory;
 use thiserror::Error;
 
@@ -33,16 +34,16 @@ pub enum LexFault {
 
 impl LexFault {
     /// The words of its line.
-    pub fn line(&self) -> Line<'static>
-        ensures { line_text result ≡ lex_line self.now }
+    pub fn message(&self) -> Message<'static>
+        ensures { message_text result ≡ lex_line self.now }
     {
         match self {
-            LexFault::BadByte(at) => Line::numbered(b"script: byte ", *at),
-            LexFault::OpenString(at) => Line::numbered(b"script: open string ", *at),
-            LexFault::Real(at) => Line::numbered(b"script: real ", *at),
-            LexFault::IntRange(at) => Line::numbered(b"script: integer ", *at),
-            LexFault::TooMany => Line::plain(b"script: too many tokens"),
-            LexFault::NoMemory => Line::plain(b"no memory"),
+            LexFault::BadByte(at) => Message::numbered(b"script: byte ", *at),
+            LexFault::OpenString(at) => Message::numbered(b"script: open string ", *at),
+            LexFault::Real(at) => Message::numbered(b"script: real ", *at),
+            LexFault::IntRange(at) => Message::numbered(b"script: integer ", *at),
+            LexFault::TooMany => Message::plain(b"script: too many tokens"),
+            LexFault::NoMemory => Message::plain(b"no memory"),
         }
     }
 }

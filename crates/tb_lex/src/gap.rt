@@ -1,3 +1,4 @@
+//! Blanks and comments.
 ghost use Rattle.std.specs.Prelude.{◌≡◌, ◌≤◌, length, false};
 ghost use Rattle.tb_lex.specs.Helpers.Scanning.{gap_step, skip_gap};
 

@@ -1,3 +1,4 @@
+//! What begins with a byte.
 ghost use Rattle.std.specs.Prelude.{◌≡◌};
 ghost use Rattle.tb_lex.specs.Helpers.Scanning.{head_of};
 

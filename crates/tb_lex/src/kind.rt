@@ -1,3 +1,4 @@
+//! The kinds of tokens.
 use crate::{LowerWord, Symbol, UpperWord};
 use tb_terms::Text;
 

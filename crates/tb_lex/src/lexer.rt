@@ -1,3 +1,4 @@
+//! The tokens of a whole script.
 ghost use Rattle.std.specs.Prelude.{◌≡◌, ◌≢◌, ◌≤◌, ◌<◌, ◌⊎◌, List, length, IfOk, IfErr, IfSome, Ok, Err};
 ghost use Rattle.tb_lex.specs.declared.token.Token.{Token};
 ghost use Rattle.tb_lex.specs.declared.fault.LexFault.{LexFault};

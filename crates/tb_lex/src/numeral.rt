@@ -1,3 +1,4 @@
+//! Numbers of a script.
 ghost use Rattle.std.specs.Prelude.{◌≡◌, ◌≤◌, ◌<◌, ◌-◌, length, drop, IfOk, IsTrue, if◌then◌else◌};
 ghost use Rattle.tb_read.specs.Lexing.{is_negative};
 ghost use Rattle.tb_lex.specs.Helpers.Scanning.{number_from, number_at};

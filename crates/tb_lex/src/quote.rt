@@ -1,3 +1,4 @@
+//! Strings of a script.
 ghost use Rattle.std.specs.Prelude.{◌≡◌, ◌≤◌, ◌<◌, ◌+◌, ◌-◌, length, IfOk};
 ghost use Rattle.tb_read.specs.declared.quoted.Within.TheVariants as within;
 ghost use Rattle.tb_lex.specs.Helpers.Scanning.{string_fault, string_rest, string_at};

@@ -1,3 +1,4 @@
+//! Symbols of a script.
 ghost use Rattle.std.specs.Prelude.{◌≡◌, ◌≤◌, ℕ, length, Option, Some, None};
 ghost use Rattle.tb_lex.specs.Tokens.{symbol_text};
 ghost use Rattle.tb_lex.specs.Helpers.Scanning.{begins_with, colon_of, bars_of, greater_of, symbol_of};

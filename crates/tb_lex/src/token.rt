@@ -1,3 +1,4 @@
+//! Tokens, with their places.
 use crate::TokenKind;
 use tb_terms::Items;
 

@@ -1,3 +1,4 @@
+//! Names where they stand in a text.
 ghost use Rattle.std.specs.Prelude.{◌≡◌, IsTrue, IfOk};
 ghost use Rattle.tb_terms.specs.Names.{is_name, is_ident};
 

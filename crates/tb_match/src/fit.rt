@@ -1,3 +1,4 @@
+//! Matches of patterns that bind nothing.
 ghost use Rattle.std.specs.Prelude.{◌≡◌, ◌↔◌, [], map, is_some, IsTrue};
 ghost use Rattle.tb_terms.specs.declared.term.Term.{out-Term};
 ghost use Rattle.tb_match.specs.Matches.{match_term, match_list, match_all, match_appl, match_members, binds_if, is_plain, are_plain};

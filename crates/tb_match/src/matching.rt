@@ -1,3 +1,4 @@
+//! Matches, with the values that variables take.
 ghost use Rattle.std.specs.Prelude.{◌≡◌, [], ◌∷◌, map, IfOk};
 ghost use Rattle.tb_terms.specs.declared.term.Term.{out-Term};
 ghost use Rattle.tb_terms.specs.Sorts.{has_sort};

@@ -1,6 +1,6 @@
 use crate::status::{PairEdge, PairStatus};
 use tb_cli::WordFault;
-use tb_line::Line;
+use tb_message::Message;
 use tb_script::ScriptFault;
 
 /// Why a pair did not end well. That this could not be said is a `PairStatus` of its own.
@@ -25,7 +25,7 @@ pub enum PairFault {
 
 impl PairFault {
     ghost use Rattle.std.specs.Prelude.{◌≡◌};
-    ghost use Rattle.tb_line.specs.Lines.{line_text};
+    ghost use Rattle.tb_message.specs.Messages.{message_text};
     ghost use Rattle.tb_pair_top.specs.Lines.{fault_words};
     ghost use Rattle.tb_pair_top.specs.Statuses.{status_of};
 
@@ -46,18 +46,18 @@ impl PairFault {
     }
 
     /// The words of its line.
-    pub fn line(&self) -> Line<'_>
-        ensures { line_text result ≡ fault_words self.now }
+    pub fn message(&self) -> Message<'_>
+        ensures { message_text result ≡ fault_words self.now }
     {
         match self {
-            PairFault::Script(fault) => fault.line(),
-            PairFault::Words(fault) => fault.line(),
-            PairFault::File => Line::plain(b"outside: file"),
-            PairFault::Out => Line::plain(b"outside: out"),
-            PairFault::Clock => Line::plain(b"outside: clock"),
-            PairFault::Crew => Line::plain(b"outside: crew"),
-            PairFault::Limit => Line::plain(b"limit: events"),
-            PairFault::NoMemory => Line::plain(b"no memory"),
+            PairFault::Script(fault) => fault.message(),
+            PairFault::Words(fault) => fault.message(),
+            PairFault::File => Message::plain(b"outside: file"),
+            PairFault::Out => Message::plain(b"outside: out"),
+            PairFault::Clock => Message::plain(b"outside: clock"),
+            PairFault::Crew => Message::plain(b"outside: crew"),
+            PairFault::Limit => Message::plain(b"limit: events"),
+            PairFault::NoMemory => Message::plain(b"no memory"),
         }
     }
 }

@@ -26,7 +26,7 @@ fn report_fault<E: Sink>(fault: PairFault, err: &mut E) -> PairStatus
     ensures rose { result ≡ PairStatus.Outside PairEdge.Err
         → Rose (E.faults err.old) (E.faults err.new) }
 {
-    match put_line(b"toolbus_pair: ", &fault.line(), err) {
+    match put_line(b"toolbus_pair: ", &fault.message(), err) {
         Ok(()) => fault.status(),
         Err(Failed) => PairStatus::Outside(PairEdge::Err),
     }

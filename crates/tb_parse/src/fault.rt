@@ -1,9 +1,9 @@
 ghost use Rattle.std.specs.Prelude.{◌≡◌};
-ghost use Rattle.tb_line.specs.Lines.{line_text};
+ghost use Rattle.tb_message.specs.Messages.{message_text};
 ghost use Rattle.tb_parse.specs.Lines.{parse_line};
 
 use std::alloc::{AllocError, AllocFailed};
-use tb_line::Line;
+use tb_message::Message;
 use tb_terms::NoMemory;
 use thiserror::Error;
 
@@ -25,13 +25,13 @@ pub enum ParseFault {
 
 impl ParseFault {
     /// The words of its line.
-    pub fn line(&self) -> Line<'static>
-        ensures { line_text result ≡ parse_line self.now }
+    pub fn message(&self) -> Message<'static>
+        ensures { message_text result ≡ parse_line self.now }
     {
         match self {
-            ParseFault::Syntax(token) => Line::numbered(b"script: syntax at token ", *token),
-            ParseFault::TooDeep(token) => Line::numbered(b"script: too deep at token ", *token),
-            ParseFault::NoMemory => Line::plain(b"no memory"),
+            ParseFault::Syntax(token) => Message::numbered(b"script: syntax at token ", *token),
+            ParseFault::TooDeep(token) => Message::numbered(b"script: too deep at token ", *token),
+            ParseFault::NoMemory => Message::plain(b"no memory"),
         }
     }
 }

@@ -1,3 +1,4 @@
+//! A term is built from its tokens.
 ghost use Rattle.std.specs.Prelude.{◌≡◌, ◌++◌, IfOk, OnOk};
 ghost use Rattle.std.specs.Option.{option_to_list};
 ghost use Rattle.tb_read.specs.Helpers.Building.{build_step, built_from, nothing, name_of, opens, closed, with_part, whole};

@@ -1,3 +1,4 @@
+//! Why bytes are no term.
 use std::alloc::{AllocError, AllocFailed};
 use tb_terms::NoMemory;
 

@@ -1,3 +1,4 @@
+//! The kind of a token, by its first byte.
 ghost use Rattle.std.specs.Prelude.{◌≡◌};
 ghost use Rattle.tb_read.specs.Lexing.{kind_of};
 

@@ -1,3 +1,4 @@
+//! The next token of a text.
 ghost use Rattle.std.specs.Prelude.{◌≡◌, ◌≤◌, ◌<◌, length, IsTrue, IfOk};
 ghost use Rattle.std.specs.List.{prefix_len};
 ghost use Rattle.tb_terms.specs.Names.{is_name_byte};

@@ -1,3 +1,4 @@
+//! The limits of a term, measured on its tokens.
 ghost use Rattle.std.specs.Prelude.{◌≡◌, ◌≤◌, ◌<◌, ◌+◌, min};
 ghost use Rattle.tb_read.specs.Helpers.Limits.{token_size, tokens_size, token_level, tokens_levels, nested_after};
 

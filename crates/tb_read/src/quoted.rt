@@ -1,3 +1,4 @@
+//! Strings as a text has them, byte by byte.
 ghost use Rattle.std.specs.Prelude.{◌≡◌, ◌≤◌, ◌<◌, length, IfOk};
 ghost use Rattle.tb_read.specs.Lexing.{string_turn, between_turn, going_turn, unescaped, lead, string_rest, string_at};
 ghost use Rattle.tb_read.specs.Helpers.Answers.{Gives};

@@ -1,3 +1,4 @@
+//! The tokens of a whole text.
 ghost use Rattle.std.specs.Prelude.{◌≡◌, ◌≤◌, ◌<◌, [], length, IfOk, IfSome};
 ghost use Rattle.tb_read.specs.Helpers.Answers.{IsNext, HasScanned};
 

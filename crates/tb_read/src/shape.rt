@@ -1,3 +1,4 @@
+//! Which kind of token may come next.
 ghost use Rattle.std.specs.Prelude.{◌≡◌, OnOk, OnErr};
 ghost use Rattle.tb_read.specs.Scanning.{start, allows, after, may_end, is_begin, may_continue};
 

@@ -1,3 +1,4 @@
+//! A stack.
 ghost use Rattle.std.specs.Prelude.{◌≡◌, [], ◌∷◌, OnOk, OnErr, MatchOption};
 ghost use Rattle.std.specs.Option.{option_copied};
 ghost use Rattle.tb_read.specs.Helpers.Stacks.{top_of};

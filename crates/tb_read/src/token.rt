@@ -1,3 +1,4 @@
+//! The tokens of a term.
 use tb_terms::{Name, Text};
 
 /// What the text of a term is made of.

@@ -1,11 +1,11 @@
 ghost use Rattle.std.specs.Prelude.{◌≡◌};
-ghost use Rattle.tb_line.specs.Lines.{line_text};
+ghost use Rattle.tb_message.specs.Messages.{message_text};
 ghost use Rattle.tb_script.specs.Lines.{script_line};
 
 use std::alloc::{AllocError, AllocFailed};
 use tb_expand::ExpandFault;
 use tb_lex::LexFault;
-use tb_line::Line;
+use tb_message::Message;
 use tb_parse::ParseFault;
 use tb_terms::NoMemory;
 use tb_types::CheckFault;
@@ -33,18 +33,18 @@ pub enum ScriptFault {
 
 impl ScriptFault {
     /// The words of its line.
-    pub fn line(&self) -> Line<'_>
-        ensures { line_text result ≡ script_line self.now }
+    pub fn message(&self) -> Message<'_>
+        ensures { message_text result ≡ script_line self.now }
     {
         match self {
-            ScriptFault::Lex(fault) => fault.line(),
-            ScriptFault::Parse(fault) => fault.line(),
-            ScriptFault::Check(fault) => fault.line(),
-            ScriptFault::Expand(fault) => fault.line(),
-            ScriptFault::Roots(count) => Line::numbered(b"script: too many processes ", *count),
-            ScriptFault::TooLong(bytes) => Line::numbered(b"script: too long ", *bytes),
-            ScriptFault::NotBuilt(token) => Line::numbered(b"script: not built at token ", *token),
-            ScriptFault::NoMemory => Line::plain(b"no memory"),
+            ScriptFault::Lex(fault) => fault.message(),
+            ScriptFault::Parse(fault) => fault.message(),
+            ScriptFault::Check(fault) => fault.message(),
+            ScriptFault::Expand(fault) => fault.message(),
+            ScriptFault::Roots(count) => Message::numbered(b"script: too many processes ", *count),
+            ScriptFault::TooLong(bytes) => Message::numbered(b"script: too long ", *bytes),
+            ScriptFault::NotBuilt(token) => Message::numbered(b"script: not built at token ", *token),
+            ScriptFault::NoMemory => Message::plain(b"no memory"),
         }
     }
 }

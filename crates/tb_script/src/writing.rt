@@ -2,22 +2,22 @@
 
 ghost use Rattle.std.specs.Prelude.{◌≡◌, ◌++◌, ◌∷◌, OnOk, OnErr, decimal};
 ghost use Rattle.std.specs.List.{flat_map, join_with_byte};
-ghost use Rattle.tb_line.specs.Lines.{line_text, rest_text};
+ghost use Rattle.tb_message.specs.Messages.{message_text, rest_text};
 ghost use Rattle.tb_terms.specs.Helpers.Prefixes.{KeepsPrefix};
 ghost use Rattle.tb_script.specs.Lines.{script_line};
 
 use crate::ScriptFault;
 use itoa::Buffer;
-use tb_line::{Line, Rest};
+use tb_message::{Message, Rest};
 use tb_terms::{Ident, NoMemory};
 
-/// Writes the words of the line of a fault at the end: those of [`ScriptFault::line`], for a caller that collects bytes.
+/// Writes the words of the line of a fault at the end: those of [`ScriptFault::message`], for a caller that collects bytes.
 pub fn write_fault(fault: &ScriptFault, into: &mut Vec<u8>) -> Result<(), NoMemory>
     ensures ok { OnOk result (into.new.items ≡ into.old.items ++ script_line fault.now) }
     ensures err { OnErr result (into.new.items ≡ into.old.items) }
 {
     let kept = into.len();
-    match push_line(&fault.line(), into) {
+    match push_line(&fault.message(), into) {
         Ok(()) => Ok(()),
         Err(NoMemory) => {
             into.truncate(kept);
@@ -26,8 +26,8 @@ pub fn write_fault(fault: &ScriptFault, into: &mut Vec<u8>) -> Result<(), NoMemo
     }
 }
 
-fn push_line(line: &Line, into: &mut Vec<u8>) -> Result<(), NoMemory>
-    ensures ok { OnOk result (into.new.items ≡ into.old.items ++ line_text line.now) }
+fn push_line(line: &Message, into: &mut Vec<u8>) -> Result<(), NoMemory>
+    ensures ok { OnOk result (into.new.items ≡ into.old.items ++ message_text line.now) }
     ensures err { OnErr result (KeepsPrefix into.old.items into.new.items) }
 {
     into.extend_from_slice(line.words)?;

@@ -1,3 +1,4 @@
+//! Expressions of a script, and the functions that they apply.
 ghost use Rattle.std.specs.Prelude.{◌≡◌, IfOk};
 
 use crate::{Items, Name, NoMemory, Sort, Text};

@@ -1,3 +1,4 @@
+//! Names of processes and variables.
 ghost use Rattle.std.specs.Prelude.{◌≡◌, ◌↔◌, IsTrue, IfOk, Some, None, if◌then◌else◌};
 ghost use Rattle.tb_terms.specs.Names.{is_ident};
 

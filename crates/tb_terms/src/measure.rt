@@ -1,3 +1,4 @@
+//! The size and the levels of a term, and their limits.
 ghost use Rattle.std.specs.Prelude.{◌≡◌, ◌+◌, ◌↔◌, IsTrue, length, min, map, sum};
 ghost use Rattle.tb_terms.specs.Sizes.{term_size, term_levels, greatest, is_within_limits, IsWithinLimits};
 

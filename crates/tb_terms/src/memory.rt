@@ -1,3 +1,4 @@
+//! The answer to want of memory.
 use std::alloc::{AllocError, AllocFailed};
 
 /// Memory ran out. What the call was lent for writing is as before, unless its contract says

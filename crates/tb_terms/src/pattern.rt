@@ -1,3 +1,4 @@
+//! Patterns, which terms are matched against.
 ghost use Rattle.std.specs.Prelude.{◌≡◌, ◌↔◌, IsTrue, IfOk};
 
 use crate::{Items, Name, NoMemory, Sort, Term, same};

@@ -1,3 +1,4 @@
+//! Each term is proper.
 ghost use Rattle.std.specs.Prelude.{map, IsTrue};
 ghost use Rattle.std.specs.List.{list_all};
 ghost use Rattle.tb_terms.specs.Proper.{is_proper, has_64_bits};

@@ -1,3 +1,4 @@
+//! Sorts of variables.
 ghost use Rattle.std.specs.Prelude.{◌≡◌, ◌↔◌, IsTrue, IfOk};
 
 use crate::{Boxed, Items, Name, NoMemory};

@@ -1,3 +1,4 @@
+//! Terms, and their copies.
 ghost use Rattle.std.specs.Prelude.{◌≡◌, ◌↔◌, IsTrue, IfOk};
 
 use crate::{Items, Name, NoMemory, Text};

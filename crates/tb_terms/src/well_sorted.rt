@@ -1,3 +1,4 @@
+//! Which terms have a sort.
 ghost use Rattle.std.specs.Prelude.{◌≡◌, [], ◌∷◌, pos, IsTrue, IfOk};
 ghost use Rattle.std.specs.List.{list_all};
 ghost use Rattle.tb_terms.specs.declared.term.Term.{out-Term};

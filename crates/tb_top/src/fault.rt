@@ -1,12 +1,12 @@
 ghost use Rattle.std.specs.Prelude.{◌≡◌};
-ghost use Rattle.tb_line.specs.Lines.{line_text};
+ghost use Rattle.tb_message.specs.Messages.{message_text};
 ghost use Rattle.tb_top.specs.Lines.{bound_words, log_words};
 ghost use Rattle.tb_top.specs.Helpers.Parts.{EndsAs};
 
 use crate::status::{Bound, Edge, LogWrong, Status};
 use tb_cli::WordFault;
 use tb_feed::FeedFault;
-use tb_line::Line;
+use tb_message::Message;
 use tb_script::ScriptFault;
 use tb_sim::SimEnd;
 
@@ -37,7 +37,7 @@ pub enum Fault {
 
 impl Fault {
     ghost use Rattle.std.specs.Prelude.{◌≡◌};
-    ghost use Rattle.tb_line.specs.Lines.{line_text};
+    ghost use Rattle.tb_message.specs.Messages.{message_text};
     ghost use Rattle.tb_top.specs.Lines.{fault_words, bound_words, log_words};
     ghost use Rattle.tb_top.specs.Statuses.{status_of};
 
@@ -61,40 +61,40 @@ impl Fault {
     }
 
     /// The words of its line.
-    pub fn line(&self) -> Line<'_>
-        ensures { line_text result ≡ fault_words self.now }
+    pub fn message(&self) -> Message<'_>
+        ensures { message_text result ≡ fault_words self.now }
     {
         match self {
-            Fault::Script(fault) => fault.line(),
-            Fault::Feed(fault) => fault.line(),
-            Fault::Words(fault) => fault.line(),
-            Fault::File => Line::plain(b"outside: file"),
-            Fault::Out => Line::plain(b"outside: out"),
-            Fault::Clock => Line::plain(b"outside: clock"),
-            Fault::Crew => Line::plain(b"outside: crew"),
+            Fault::Script(fault) => fault.message(),
+            Fault::Feed(fault) => fault.message(),
+            Fault::Words(fault) => fault.message(),
+            Fault::File => Message::plain(b"outside: file"),
+            Fault::Out => Message::plain(b"outside: out"),
+            Fault::Clock => Message::plain(b"outside: clock"),
+            Fault::Crew => Message::plain(b"outside: crew"),
             Fault::Limit(bound) => bound_line(*bound),
-            Fault::NoMemory => Line::plain(b"no memory"),
+            Fault::NoMemory => Message::plain(b"no memory"),
             Fault::Log(wrong) => log_line(*wrong),
-            Fault::Stranger => Line::plain(b"tool: stranger"),
+            Fault::Stranger => Message::plain(b"tool: stranger"),
         }
     }
 }
 
-fn bound_line(bound: Bound) -> Line<'static>
-    ensures { line_text result ≡ bound_words bound }
+fn bound_line(bound: Bound) -> Message<'static>
+    ensures { message_text result ≡ bound_words bound }
 {
     match bound {
-        Bound::Steps => Line::plain(b"limit: steps"),
-        Bound::Events => Line::plain(b"limit: events"),
+        Bound::Steps => Message::plain(b"limit: steps"),
+        Bound::Events => Message::plain(b"limit: events"),
     }
 }
 
-fn log_line(wrong: LogWrong) -> Line<'static>
-    ensures { line_text result ≡ log_words wrong }
+fn log_line(wrong: LogWrong) -> Message<'static>
+    ensures { message_text result ≡ log_words wrong }
 {
     match wrong {
-        LogWrong::Line(number) => Line::numbered(b"log: line ", number as usize),
-        LogWrong::TooLong(len) => Line::numbered(b"log: too long ", len),
+        LogWrong::Line(number) => Message::numbered(b"log: line ", number as usize),
+        LogWrong::TooLong(len) => Message::numbered(b"log: too long ", len),
     }
 }
 

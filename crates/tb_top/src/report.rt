@@ -24,7 +24,7 @@ fn report_fault<E: Sink>(fault: Fault, err: &mut E) -> Status
         (E.taken err.old) (E.taken err.new) result }
     ensures rose { result ≡ Status.Outside Edge.Err → Rose (E.faults err.old) (E.faults err.new) }
 {
-    match put_line(b"toolbus: ", &fault.line(), err) {
+    match put_line(b"toolbus: ", &fault.message(), err) {
         Ok(()) => fault.status(),
         Err(Failed) => Status::Outside(Edge::Err),
     }

@@ -1,8 +1,8 @@
 ghost use Rattle.std.specs.Prelude.{◌≡◌};
-ghost use Rattle.tb_line.specs.Lines.{line_text};
+ghost use Rattle.tb_message.specs.Messages.{message_text};
 ghost use Rattle.tb_types.specs.Lines.{check_line};
 
-use tb_line::Line;
+use tb_message::Message;
 use thiserror::Error;
 
 /// The first condition that a script fails, and the first token, counted from 0, at which it does.
@@ -42,26 +42,26 @@ pub enum CheckFault {
 
 impl CheckFault {
     /// The words of its line.
-    pub fn line(&self) -> Line<'static>
-        ensures { line_text result ≡ check_line self.now }
+    pub fn message(&self) -> Message<'static>
+        ensures { message_text result ≡ check_line self.now }
     {
         match self {
-            CheckFault::Twice(token) => Line::numbered(b"script: twice at token ", *token),
-            CheckFault::NoProcess(token) => Line::numbered(b"script: no process at token ", *token),
-            CheckFault::NoTool(token) => Line::numbered(b"script: no tool at token ", *token),
+            CheckFault::Twice(token) => Message::numbered(b"script: twice at token ", *token),
+            CheckFault::NoProcess(token) => Message::numbered(b"script: no process at token ", *token),
+            CheckFault::NoTool(token) => Message::numbered(b"script: no tool at token ", *token),
             CheckFault::NoFunction(token) => {
-                Line::numbered(b"script: no function at token ", *token)
+                Message::numbered(b"script: no function at token ", *token)
             }
-            CheckFault::Arity(token) => Line::numbered(b"script: arity at token ", *token),
+            CheckFault::Arity(token) => Message::numbered(b"script: arity at token ", *token),
             CheckFault::Undeclared(token) => {
-                Line::numbered(b"script: undeclared at token ", *token)
+                Message::numbered(b"script: undeclared at token ", *token)
             }
             CheckFault::ResultInSend(token) => {
-                Line::numbered(b"script: result in send at token ", *token)
+                Message::numbered(b"script: result in send at token ", *token)
             }
-            CheckFault::NotResult(token) => Line::numbered(b"script: not result at token ", *token),
-            CheckFault::TypeClash(token) => Line::numbered(b"script: type clash at token ", *token),
-            CheckFault::NoMemory => Line::plain(b"no memory"),
+            CheckFault::NotResult(token) => Message::numbered(b"script: not result at token ", *token),
+            CheckFault::TypeClash(token) => Message::numbered(b"script: type clash at token ", *token),
+            CheckFault::NoMemory => Message::plain(b"no memory"),
         }
     }
 }

@@ -3,19 +3,19 @@ ghost use Rattle.std.specs.Prelude.{◌≡◌, ◌++◌, ◌∷◌, [], ◌≤�
 ghost use Rattle.std.specs.List.{flat_map, join_with_byte};
 ghost use Rattle.tb_edge.specs.Faults.{Rose};
 ghost use Rattle.tb_edge.specs.Sinks.{Writes, WritesPrefix};
-ghost use Rattle.tb_line.specs.Lines.{line_text, rest_text};
+ghost use Rattle.tb_message.specs.Messages.{message_text, rest_text};
 
 use itoa::Buffer;
 use tb_edge::{Failed, Sink};
-use tb_line::{Line, Rest};
+use tb_message::{Message, Rest};
 use tb_terms::Ident;
 
 /// Puts the prefix, the line and a newline.
-pub fn put_line<E: Sink>(prefix: &[u8], line: &Line, err: &mut E) -> Result<(), Failed>
+pub fn put_line<E: Sink>(prefix: &[u8], line: &Message, err: &mut E) -> Result<(), Failed>
     ensures ok { OnOk result
-        (Writes (E.taken err.old) (E.taken err.new) (prefix.now ++ line_text line.now ++ 10 ∷ [])) }
+        (Writes (E.taken err.old) (E.taken err.new) (prefix.now ++ message_text line.now ++ 10 ∷ [])) }
     ensures prefix { OnErr result (WritesPrefix (E.taken err.old) (E.taken err.new)
-        (prefix.now ++ line_text line.now ++ 10 ∷ [])) }
+        (prefix.now ++ message_text line.now ++ 10 ∷ [])) }
     ensures rose { OnErr result (Rose (E.faults err.old) (E.faults err.new)) }
     ensures calm { OnOk result (E.faults err.new ≡ E.faults err.old) }
     ensures never_falls { E.faults err.old ≤ E.faults err.new }
@@ -27,11 +27,11 @@ pub fn put_line<E: Sink>(prefix: &[u8], line: &Line, err: &mut E) -> Result<(), 
 }
 
 /// Puts the prefix and the line.
-fn put_text<E: Sink>(prefix: &[u8], line: &Line, err: &mut E) -> Result<(), Failed>
+fn put_text<E: Sink>(prefix: &[u8], line: &Message, err: &mut E) -> Result<(), Failed>
     ensures ok { OnOk result
-        (Writes (E.taken err.old) (E.taken err.new) (prefix.now ++ line_text line.now)) }
+        (Writes (E.taken err.old) (E.taken err.new) (prefix.now ++ message_text line.now)) }
     ensures prefix { OnErr result
-        (WritesPrefix (E.taken err.old) (E.taken err.new) (prefix.now ++ line_text line.now)) }
+        (WritesPrefix (E.taken err.old) (E.taken err.new) (prefix.now ++ message_text line.now)) }
     ensures rose { OnErr result (Rose (E.faults err.old) (E.faults err.new)) }
     ensures calm { OnOk result (E.faults err.new ≡ E.faults err.old) }
     ensures never_falls { E.faults err.old ≤ E.faults err.new }
@@ -42,10 +42,10 @@ fn put_text<E: Sink>(prefix: &[u8], line: &Line, err: &mut E) -> Result<(), Fail
     }
 }
 
-fn put_words<E: Sink>(line: &Line, err: &mut E) -> Result<(), Failed>
-    ensures ok { OnOk result (Writes (E.taken err.old) (E.taken err.new) (line_text line.now)) }
+fn put_words<E: Sink>(line: &Message, err: &mut E) -> Result<(), Failed>
+    ensures ok { OnOk result (Writes (E.taken err.old) (E.taken err.new) (message_text line.now)) }
     ensures prefix { OnErr result
-        (WritesPrefix (E.taken err.old) (E.taken err.new) (line_text line.now)) }
+        (WritesPrefix (E.taken err.old) (E.taken err.new) (message_text line.now)) }
     ensures rose { OnErr result (Rose (E.faults err.old) (E.faults err.new)) }
     ensures calm { OnOk result (E.faults err.new ≡ E.faults err.old) }
     ensures never_falls { E.faults err.old ≤ E.faults err.new }

@@ -1,12 +1,12 @@
 use Rattle.std.proofs.Common.{[], ◌∷◌, ◌++◌}
 use Rattle.std.proofs.lemmas.Result.{on_err_weaker}
 use Rattle.tb_edge.proofs.Puts.{WritesPrefix-append, WritesPrefix-more}
-use Rattle.tb_line.specs.Lines.{line_text}
+use Rattle.tb_message.specs.Messages.{message_text}
 use Rattle.tb_write.proofs.line.put_line.Goals as goal
 
 pub returns-in-Ok-clause-prefix : goal.returns-in-Ok-clause-prefix
 returns-in-Ok-clause-prefix g c =
-    on_err_weaker c.put.result (WritesPrefix-append (g.E.Sink.taken c.args.err.now) (g.E.Sink.taken c.put_text.new.err) (g.E.Sink.taken c.put.new.self) (c.args.prefix.now ++ line_text c.args.line.now) (10 ∷ []) c.in-Ok.ensures.ok) c.put.ensures.prefix
+    on_err_weaker c.put.result (WritesPrefix-append (g.E.Sink.taken c.args.err.now) (g.E.Sink.taken c.put_text.new.err) (g.E.Sink.taken c.put.new.self) (c.args.prefix.now ++ message_text c.args.line.now) (10 ∷ []) c.in-Ok.ensures.ok) c.put.ensures.prefix
 
 pub returns-in-Err-clause-prefix : goal.returns-in-Err-clause-prefix
-returns-in-Err-clause-prefix g c = WritesPrefix-more (g.E.Sink.taken c.args.err.now) (g.E.Sink.taken c.put_text.new.err) (c.args.prefix.now ++ line_text c.args.line.now) (10 ∷ []) c.in-Err.ensures.prefix
+returns-in-Err-clause-prefix g c = WritesPrefix-more (g.E.Sink.taken c.args.err.now) (g.E.Sink.taken c.put_text.new.err) (c.args.prefix.now ++ message_text c.args.line.now) (10 ∷ []) c.in-Err.ensures.prefix

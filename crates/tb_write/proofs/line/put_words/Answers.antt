@@ -1,6 +1,6 @@
 use Rattle.std.proofs.lemmas.Result.{on_err_weaker}
 use Rattle.tb_edge.proofs.Puts.{WritesPrefix-append, WritesPrefix-more}
-use Rattle.tb_line.specs.Lines.{rest_text}
+use Rattle.tb_message.specs.Messages.{rest_text}
 use Rattle.tb_write.proofs.line.put_words.Goals as goal
 
 pub returns-in-Ok-clause-prefix : goal.returns-in-Ok-clause-prefix

@@ -1,13 +1,14 @@
+//! The words of a message, and the ways to make one.
 ghost use Rattle.std.specs.Prelude.{◌≡◌, ◌++◌, decimal};
 ghost use Rattle.std.specs.List.{join_with_byte};
-ghost use Rattle.tb_line.specs.Lines.{line_text};
+ghost use Rattle.tb_message.specs.Messages.{message_text};
 
 use std::slice::from_ref;
 use tb_terms::Ident;
 
 /// The words of a line, without what the program puts in front of them and without the newline.
 #[derive(Clone, Copy)]
-pub struct Line<'a> {
+pub struct Message<'a> {
     /// Words that are the same each time, with the blank that parts them from the rest.
     pub words: &'a [u8],
     /// What stands behind them.
@@ -24,41 +25,41 @@ pub enum Rest<'a> {
     Names(&'a [Ident]),
 }
 
-impl<'a> Line<'a> {
+impl<'a> Message<'a> {
     /// The words alone.
-    pub fn plain(words: &'a [u8]) -> Line<'a>
-        ensures { line_text result ≡ words.now }
+    pub fn plain(words: &'a [u8]) -> Message<'a>
+        ensures { message_text result ≡ words.now }
     {
-        Line {
+        Message {
             words,
             rest: Rest::Nothing,
         }
     }
 
     /// The words and a number.
-    pub fn numbered(words: &'a [u8], number: usize) -> Line<'a>
-        ensures { line_text result ≡ words.now ++ decimal number }
+    pub fn numbered(words: &'a [u8], number: usize) -> Message<'a>
+        ensures { message_text result ≡ words.now ++ decimal number }
     {
-        Line {
+        Message {
             words,
             rest: Rest::Number(number),
         }
     }
 
     /// The words and names.
-    pub fn of_names(words: &'a [u8], names: &'a [Ident]) -> Line<'a>
-        ensures { line_text result ≡ words.now ++ join_with_byte 44 names.now }
+    pub fn of_names(words: &'a [u8], names: &'a [Ident]) -> Message<'a>
+        ensures { message_text result ≡ words.now ++ join_with_byte 44 names.now }
     {
-        Line {
+        Message {
             words,
             rest: Rest::Names(names),
         }
     }
 
     /// The words and one name.
-    pub fn of_name(words: &'a [u8], name: &'a Ident) -> Line<'a>
-        ensures { line_text result ≡ words.now ++ name.now }
+    pub fn of_name(words: &'a [u8], name: &'a Ident) -> Message<'a>
+        ensures { message_text result ≡ words.now ++ name.now }
     {
-        Line::of_names(words, from_ref(name))
+        Message::of_names(words, from_ref(name))
     }
 }
