@@ -102,12 +102,11 @@ fn measured(alloc: Global, copy: &Term, is_same: bool) -> Result<Vec<u8>, Fault>
 /// Whether each call says of the bytes that they are a name.
 fn is_name(alloc: Global, args: &[Vec<u8>]) -> Result<Vec<u8>, Fault> {
     let bytes = one(args)?;
-    let copied = Name::from_bytes(alloc, bytes)?.is_some();
-    let moved = match Name::from_vec(Vec::from_slice(alloc, bytes)?) {
-        Some(name) => name.into_vec().as_slice() == bytes,
-        None => false,
+    let (copied, shared) = match Name::from_bytes(alloc, bytes)? {
+        Some(name) => (true, name.share()?.as_bytes() == bytes),
+        None => (false, false),
     };
-    agreed(alloc, [copied, moved, is_name_bytes(bytes)])
+    agreed(alloc, [copied, shared, is_name_bytes(bytes)])
 }
 
 /// Whether each call says of the bytes that they are an identifier.

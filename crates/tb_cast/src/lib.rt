@@ -42,7 +42,7 @@ fn roots_of(alloc: Global, roots: &[Root]) -> Result<Vec<u32>, NoMemory> {
 fn tools_of(alloc: Global, tools: &[Tool]) -> Result<Vec<Name>, NoMemory> {
     let mut all = Vec::new(alloc);
     for tool in tools {
-        all.push(tool.name.copy(alloc)?)?;
+        all.push(tool.name.share()?)?;
     }
     Ok(all)
 }

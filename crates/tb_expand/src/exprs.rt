@@ -26,7 +26,7 @@ fn kind_expr(alloc: Global, blocks: &Blocks, kind: &AstKind) -> Result<Expr, NoM
         AstKind::Str(text) => Ok(Expr::Str(text.copy(alloc)?)),
         AstKind::Appl(name, parts) => {
             let parts = exprs_of(alloc, blocks, parts.as_slice())?;
-            Ok(named(alloc, name, parts)?)
+            Ok(named(name, parts)?)
         }
         AstKind::Var(name) => Ok(Expr::Var(slot_of(blocks, name.as_bytes()))),
         AstKind::Result(name) => Ok(Expr::Result(slot_of(blocks, name.as_bytes()))),
@@ -48,14 +48,14 @@ pub(crate) fn exprs_of(alloc: Global, blocks: &Blocks, asts: &[Ast]) -> Result<E
 }
 
 /// A name with its arguments: a call where it is a function's.
-fn named(alloc: Global, name: &Name, parts: Exprs) -> Result<Expr, NoMemory>
+fn named(name: &Name, parts: Exprs) -> Result<Expr, NoMemory>
     ensures { IfOk result (λ e. e ≡ named name.now parts) }
 {
     if parts.is_empty() {
-        return Ok(Expr::Appl(name.copy(alloc)?, parts));
+        return Ok(Expr::Appl(name.share()?, parts));
     }
     match function(name) {
         Some(func) => Ok(Expr::Call(func, parts)),
-        None => Ok(Expr::Appl(name.copy(alloc)?, parts)),
+        None => Ok(Expr::Appl(name.share()?, parts)),
     }
 }

@@ -61,7 +61,7 @@ fn build(alloc: Global, e: &Expr, s: &Store) -> Result<Option<Part>, NoMemory>
         Expr::Hole(sort) => Ok(Some(hole(sort.copy(alloc)?))),
         Expr::Appl(name, parts) => {
             let built = build_all(alloc, parts.as_slice(), s)?;
-            application(alloc, name, built)
+            application(name, built)
         }
         Expr::Call(func, parts) => {
             let built = build_all(alloc, parts.as_slice(), s)?;
@@ -124,14 +124,14 @@ fn result_variable(alloc: Global, slot: u32, s: &Store) -> Result<Option<Pattern
 }
 
 #[tactic(auto, using(crate::proofs::OpenLemmas::fixed_terms_fixed, crate::proofs::OpenLemmas::fixed_terms_open))]
-fn application(alloc: Global, name: &Name, parts: Option<Parts>) -> Result<Option<Part>, NoMemory>
+fn application(name: &Name, parts: Option<Parts>) -> Result<Option<Part>, NoMemory>
     ensures { IfOk result (λ v. option_map as_pattern v
         ≡ option_and_then (appl_pattern name.now) (option_map as_patterns parts)) }
 {
     let Some(parts) = parts else {
         return Ok(None);
     };
-    let name = name.copy(alloc)?;
+    let name = name.share()?;
     match parts {
         Parts::Values(values) => Ok(value(values.application(name).limited())),
         Parts::Open(several) => Ok(Some(open_application(name, several))),

@@ -69,7 +69,7 @@ fn eval_measured(alloc: Global, e: &Expr, s: &Store) -> Result<Option<Measured>,
         Expr::Result(_) | Expr::Hole(_) => Ok(None),
         Expr::Appl(name, parts) => {
             let values = eval_all(alloc, parts.as_slice(), s)?;
-            application(alloc, name, values)
+            application(name, values)
         }
         Expr::Call(func, parts) => {
             let values = eval_all(alloc, parts.as_slice(), s)?;
@@ -113,17 +113,13 @@ pub(crate) fn variable(alloc: Global, slot: u32, s: &Store) -> Result<Option<Ter
     }
 }
 
-fn application(
-    alloc: Global,
-    name: &Name,
-    parts: Option<MeasuredParts>,
-) -> Result<Option<Measured>, NoMemory>
+fn application(name: &Name, parts: Option<MeasuredParts>) -> Result<Option<Measured>, NoMemory>
     ensures { IfOk result (λ v. option_map (λ m. m.term) v
         ≡ option_and_then (λ ts. limited (term.Appl name.now ts))
         (option_map (λ p. p.terms.items) parts)) }
 {
     match parts {
-        Some(parts) => Ok(parts.application(name.copy(alloc)?).limited()),
+        Some(parts) => Ok(parts.application(name.share()?).limited()),
         None => Ok(None),
     }
 }

@@ -91,7 +91,7 @@ pub(crate) fn heard_line(
             if name_at(kinds, *kind) != tool.as_bytes() {
                 return Ok(None);
             }
-            Ok(Some(line_of_name(alloc, b"snd-connect", tool.copy(alloc)?)?))
+            Ok(Some(line_of_name(alloc, b"snd-connect", tool.share()?)?))
         }
         _ => Ok(None),
     }

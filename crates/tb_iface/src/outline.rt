@@ -20,7 +20,7 @@ pub(crate) fn outline(alloc: Global, expr: &Expr, sorts: &[Sort]) -> Result<Patt
         Expr::Result(slot) => Ok(Pattern::Hole(slot_sort(alloc, sorts, *slot)?)),
         Expr::Hole(sort) => Ok(Pattern::Hole(sort.copy(alloc)?)),
         Expr::Appl(name, parts) => {
-            let name = name.copy(alloc)?;
+            let name = name.share()?;
             Ok(Pattern::Appl(name, outlines(alloc, parts.as_slice(), sorts)?))
         }
         Expr::Call(func, _) => Ok(Pattern::Hole(sort_of(alloc, signature(*func).result)?)),

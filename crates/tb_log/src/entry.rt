@@ -26,7 +26,7 @@ impl ToolLine {
         match self {
             ToolLine::Value(term) => Ok(ToolLine::Value(term.copy(alloc)?)),
             ToolLine::Event(terms) => Ok(ToolLine::Event(copy_terms(alloc, terms)?)),
-            ToolLine::Connect(name) => Ok(ToolLine::Connect(name.copy(alloc)?)),
+            ToolLine::Connect(name) => Ok(ToolLine::Connect(name.share()?)),
             ToolLine::Disconnect => Ok(ToolLine::Disconnect),
             ToolLine::Bad => Ok(ToolLine::Bad),
         }

@@ -47,7 +47,7 @@ fn tools_of(alloc: Global, defs: &[ToolDef]) -> Result<Tools, NoMemory>
 fn tool_of(alloc: Global, def: &ToolDef) -> Result<Tool, NoMemory>
     ensures { IfOk result (λ tool. tool ≡ declared_tool def.now) }
 {
-    let name = def.name.copy(alloc)?;
+    let name = def.name.share()?;
     let command = match &def.command {
         Some(command) => Some(command.copy(alloc)?),
         None => None,

@@ -292,7 +292,7 @@ fn next_term(alloc: Global, bench: &Bench, name: &Name) -> Result<Term, NoMemory
 {
     let number = Term::Int(i64::from(bench.next_tool()));
     let parts = Items::from_vec(vec![in alloc; number]?);
-    Ok(Term::Appl(name.copy(alloc)?, parts))
+    Ok(Term::Appl(name.share()?, parts))
 }
 
 /// The tool of a kind at a stage that has the smallest number, where the slot takes it.

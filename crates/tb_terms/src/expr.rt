@@ -66,7 +66,7 @@ impl Expr {
             Expr::Result(slot) => Ok(Expr::Result(*slot)),
             Expr::Hole(sort) => Ok(Expr::Hole(sort.copy(alloc)?)),
             Expr::Appl(name, parts) => {
-                let name = name.copy(alloc)?;
+                let name = name.share()?;
                 Ok(Expr::Appl(name, copy_all(alloc, parts.as_slice())?))
             }
             Expr::Call(func, parts) => Ok(Expr::Call(*func, copy_all(alloc, parts.as_slice())?)),

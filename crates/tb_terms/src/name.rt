@@ -6,26 +6,28 @@ ghost use Rattle.tb_terms.specs.Names.{is_name, is_name_byte};
 use crate::{Items, NoMemory};
 use std::alloc::Global;
 use std::marker::Model;
+use std::sync::Arc;
 
 /// The name of a term, a tool, a sort or an atom: a lower-case ASCII letter, followed by ASCII
-/// letters, digits, `-` and `_`. Contracts see it as its bytes.
+/// letters, digits, `-` and `_`. Contracts see it as its bytes. Its copies share the bytes.
 #[derive(Drop)]
 pub struct Name {
-    bytes: Vec<u8>,
+    bytes: Arc<Vec<u8>>,
 }
 
 /// Names in a row.
 pub type Names = Items<Name>;
 
 impl Model for Name {
+    ghost use Rattle.std.specs.Arc.{arc_value};
     ghost use Rattle.std.specs.Prelude.{List, ℕ, IsTrue};
     ghost use Rattle.tb_terms.specs.Names.{is_name};
 
     ghost Value = { List ℕ };
 
-    ghost view = { λ name. name.bytes.items };
+    ghost view = { λ name. (arc_value name.bytes).items };
 
-    ghost invariant = { λ name. IsTrue (is_name name.bytes.items) };
+    ghost invariant = { λ name. IsTrue (is_name (arc_value name.bytes).items) };
 }
 
 impl Name {
@@ -34,7 +36,7 @@ impl Name {
         requires { IsTrue (is_name bytes.now) }
         ensures { IfOk result (λ name. name ≡ bytes.now) }
     {
-        let bytes = Vec::from_slice(alloc, bytes)?;
+        let bytes = Arc::new(alloc, Vec::from_slice(alloc, bytes)?)?;
         Ok(Name { bytes })
     }
 
@@ -47,23 +49,6 @@ impl Name {
             return Ok(None);
         }
         Ok(Some(Name::new(alloc, bytes)?))
-    }
-
-    /// The name with these bytes, where they are one. Takes no memory.
-    pub fn from_vec(bytes: Vec<u8>) -> Option<Name>
-        ensures { result ≡ (if is_name bytes.items then Some bytes.items else None) }
-    {
-        if !is_name_bytes(bytes.as_slice()) {
-            return None;
-        }
-        Some(Name { bytes })
-    }
-
-    /// Its bytes, given back without taking memory.
-    pub fn into_vec(self) -> Vec<u8>
-        ensures { result.items ≡ self }
-    {
-        self.bytes
     }
 
     /// Its bytes.
@@ -81,11 +66,12 @@ impl Name {
         self.as_bytes() == other.as_bytes()
     }
 
-    /// The same name in memory of its own.
-    pub fn copy(&self, alloc: Global) -> Result<Name, NoMemory>
+    /// The same name, which shares the bytes and takes no memory. An error only where 2^63 names share them.
+    pub fn share(&self) -> Result<Name, NoMemory>
         ensures { IfOk result (λ copy. copy ≡ self.now) }
     {
-        Name::new(alloc, self.as_bytes())
+        let bytes = Arc::try_clone(&self.bytes)?;
+        Ok(Name { bytes })
     }
 }
 

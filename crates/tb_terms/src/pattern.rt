@@ -33,7 +33,7 @@ impl Pattern {
             Pattern::Hole(sort) => Ok(Pattern::Hole(sort.copy(alloc)?)),
             Pattern::Result(slot, sort) => Ok(Pattern::Result(*slot, sort.copy(alloc)?)),
             Pattern::Appl(name, parts) => {
-                let name = name.copy(alloc)?;
+                let name = name.share()?;
                 Ok(Pattern::Appl(name, copy_all(alloc, parts.as_slice())?))
             }
             Pattern::List(parts) => Ok(Pattern::List(copy_all(alloc, parts.as_slice())?)),

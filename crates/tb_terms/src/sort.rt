@@ -35,7 +35,7 @@ impl Sort {
                 Ok(Sort::List(Boxed::new(alloc, members)?))
             }
             Sort::Any => Ok(Sort::Any),
-            Sort::Tool(name) => Ok(Sort::Tool(name.copy(alloc)?)),
+            Sort::Tool(name) => Ok(Sort::Tool(name.share()?)),
         }
     }
 

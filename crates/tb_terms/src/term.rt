@@ -37,7 +37,7 @@ impl Term {
             Term::Int(number) => Ok(Term::Int(*number)),
             Term::Str(text) => Ok(Term::Str(text.copy(alloc)?)),
             Term::Appl(name, parts) => {
-                let name = name.copy(alloc)?;
+                let name = name.share()?;
                 Ok(Term::Appl(name, copy_all(alloc, parts.as_slice())?))
             }
             Term::List(parts) => Ok(Term::List(copy_all(alloc, parts.as_slice())?)),

@@ -103,5 +103,5 @@ fn initial_of_tool(alloc: Global, name: &Name) -> Result<Term, NoMemory>
 {
     let mut number = Items::new(alloc);
     number.push(Term::Int(0))?;
-    Ok(Term::Appl(name.copy(alloc)?, number))
+    Ok(Term::Appl(name.share()?, number))
 }

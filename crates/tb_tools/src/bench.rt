@@ -370,7 +370,7 @@ impl Bench {
         ensures err { OnErr result (self.new ≡ self.old) }
     {
         let number = self.next_tool;
-        let live = LaneTool::new(self.alloc, tool.copy(self.alloc)?, number, Stage::Live)?;
+        let live = LaneTool::new(self.alloc, tool.share()?, number, Stage::Live)?;
         let command = command.copy(self.alloc)?;
         self.idle = false;
         let row = &mut self.lanes[index_of(lane)];

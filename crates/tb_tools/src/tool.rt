@@ -59,7 +59,7 @@ impl LaneTool {
     {
         let mut parts = Items::new(alloc);
         parts.push(Term::Int(i64::from(number)))?;
-        let term = Term::Appl(name.copy(alloc)?, parts);
+        let term = Term::Appl(name.share()?, parts);
         Ok(LaneTool {
             number,
             name,
@@ -237,7 +237,7 @@ impl LaneTool {
         ensures err { OnErr result (self.new ≡ self.old) }
     {
         let word = Name::new(alloc, b"rec-ack-event")?;
-        let copy = Term::Appl(word.copy(alloc)?, self.received.copy_at(alloc, place)?);
+        let copy = Term::Appl(word.share()?, self.received.copy_at(alloc, place)?);
         let line = Term::Appl(word, self.received.remove(place));
         Ok(KeptOut::of(Out::Line(line), Out::Line(copy)))
     }

@@ -47,7 +47,10 @@ impl CheckFault {
     {
         match self {
             CheckFault::Twice(token) => Message::numbered(b"script: twice at token ", *token),
-            CheckFault::NoProcess(token) => Message::numbered(b"script: no process at token ", *token),
+            CheckFault::NoProcess(token) => Message::numbered(
+                b"script: no process at token ",
+                *token,
+            ),
             CheckFault::NoTool(token) => Message::numbered(b"script: no tool at token ", *token),
             CheckFault::NoFunction(token) => {
                 Message::numbered(b"script: no function at token ", *token)
@@ -59,8 +62,14 @@ impl CheckFault {
             CheckFault::ResultInSend(token) => {
                 Message::numbered(b"script: result in send at token ", *token)
             }
-            CheckFault::NotResult(token) => Message::numbered(b"script: not result at token ", *token),
-            CheckFault::TypeClash(token) => Message::numbered(b"script: type clash at token ", *token),
+            CheckFault::NotResult(token) => Message::numbered(
+                b"script: not result at token ",
+                *token,
+            ),
+            CheckFault::TypeClash(token) => Message::numbered(
+                b"script: type clash at token ",
+                *token,
+            ),
             CheckFault::NoMemory => Message::plain(b"no memory"),
         }
     }

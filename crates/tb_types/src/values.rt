@@ -52,7 +52,7 @@ fn closed_kind(alloc: Global, kind: &AstKind) -> Result<Expr, NoMemory>
         AstKind::Str(text) => Ok(Expr::Str(text.copy(alloc)?)),
         AstKind::Appl(name, parts) => {
             let exprs = closed_parts(alloc, parts.as_slice())?;
-            application(alloc, applied(name, parts.len()), name, exprs)
+            application(applied(name, parts.len()), name, exprs)
         }
         AstKind::Var(_) => Ok(Expr::Hole(Sort::Any)),
         AstKind::Result(_) => Ok(Expr::Hole(Sort::Any)),
@@ -72,16 +72,11 @@ fn closed_parts(alloc: Global, parts: &[Ast]) -> Result<Exprs, NoMemory>
     Ok(exprs)
 }
 
-fn application(
-    alloc: Global,
-    func: Option<Func>,
-    name: &Name,
-    parts: Exprs,
-) -> Result<Expr, NoMemory>
+fn application(func: Option<Func>, name: &Name, parts: Exprs) -> Result<Expr, NoMemory>
     ensures { IfOk result (λ e. e ≡ application func name.now parts) }
 {
     match func {
-        None => Ok(Expr::Appl(name.copy(alloc)?, parts)),
+        None => Ok(Expr::Appl(name.share()?, parts)),
         Some(func) => Ok(Expr::Call(func, parts)),
     }
 }
