@@ -1,7 +1,5 @@
-ghost use Rattle.std.specs.Prelude.{◌≡◌, ◌∷◌, ◌+◌, Some, IfOk, min, map, sum, option_and_then, option_map};
+ghost use Rattle.std.specs.Prelude.{◌≡◌, ◌∷◌, ◌+◌, Some, IfOk, option_and_then, option_map};
 ghost use Rattle.std.specs.Option.{option_copied};
-ghost use Rattle.std.below.core.specs.declared.int.usize.TheConstants.{MAX};
-ghost use Rattle.tb_terms.specs.Sizes.{term_size};
 ghost use Rattle.tb_func.specs.Patterns.{pattern_of};
 ghost use Rattle.tb_func.specs.Values.{value_of, all_of};
 ghost use Rattle.tb_algebra.specs.Atoms.{act_in, sent_exprs, matched_exprs, limited_together, values_together, patterns_of, accepted};
@@ -11,7 +9,7 @@ use std::slice;
 use tb_body::{Act, Atom};
 use tb_func::{Store, eval, pattern};
 use tb_match::{Binds, match_list};
-use tb_terms::{Expr, Items, MOST_TERM_SIZE, NoMemory, Patterns, Term, Terms, size};
+use tb_terms::{Expr, Items, MOST_TERM_SIZE, NoMemory, Patterns, Term, Terms, total_size};
 
 /// The values that the act sends or looks at, where each is there and they are together no larger
 /// than a term may be.
@@ -98,16 +96,6 @@ fn limited_together(terms: Terms) -> Option<Terms>
     } else {
         None
     }
-}
-
-fn total_size(terms: &[Term]) -> usize
-    ensures { result ≡ min (sum (map term_size terms.now)) MAX }
-{
-    let mut total: usize = 0;
-    for term in terms {
-        total = total.saturating_add(size(term));
-    }
-    total
 }
 
 /// The patterns of an act that receives, or that looks at notes.

@@ -1,11 +1,10 @@
 ghost use Rattle.std.specs.Prelude.{◌≡◌, slice_get};
 ghost use Rattle.std.specs.List.{list_all};
-ghost use Rattle.tb_terms.specs.Sizes.{is_within_limits};
 ghost use Rattle.tb_body.specs.Programs.{are_actuals, has_command, have_sorts, is_act_in_program, is_body_in_program, is_program_in_range, is_root_in_range, takes};
 
 use crate::{Act, Atom, Body, Root, Tool};
 use sqlite_items::at;
-use tb_terms::{Sort, Term, has_sort, is_within_limits};
+use tb_terms::{Sort, Term, are_within_limits, has_sort};
 
 /// How many roots a program may have.
 pub const MOST_ROOTS: usize = 10_000;
@@ -121,17 +120,6 @@ fn have_sorts(sorts: &[Sort], terms: &[Term]) -> bool
                 }
             }
             None => return false,
-        }
-    }
-    true
-}
-
-fn are_within_limits(terms: &[Term]) -> bool
-    ensures { result ≡ list_all is_within_limits terms.now }
-{
-    for term in terms {
-        if !is_within_limits(term) {
-            return false;
         }
     }
     true

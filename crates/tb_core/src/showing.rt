@@ -13,9 +13,8 @@ use crate::bus::LiveBus;
 use tb_algebra::Walker;
 use tb_bus::{Action, OwnAction};
 use tb_living::seen_size;
-use tb_log::total_size;
 use tb_search::{Candidate, Finding};
-use tb_terms::size;
+use tb_terms::{size, total_size};
 
 impl<W: Walker> LiveBus<W> {
     /// How large the terms are that are seen of a move that was found, or the greatest usize where that is greater.

@@ -1,11 +1,11 @@
 ghost use Rattle.std.specs.Prelude.{◌≡◌};
-ghost use Rattle.std.specs.List.{list_all};
 ghost use Rattle.tb_terms.specs.declared.term.Term.{out-Term};
-ghost use Rattle.tb_terms.specs.Sizes.{is_within_limits};
 ghost use Rattle.tb_lane.specs.ToolLines.{are_within, only, value_line, event_line, connect_line, named_line, name_line, disconnect_line, line_by_name, line_of};
 
-use tb_log::{MOST_TOOL_NAME, ToolLine, total_size};
-use tb_terms::{MOST_TERM_SIZE, Name, Term, Terms, is_within_limits};
+use tb_log::{MOST_TOOL_NAME, ToolLine};
+use tb_terms::{
+    MOST_TERM_SIZE, Name, Term, Terms, are_within_limits, is_within_limits, total_size,
+};
 
 /// The line that the term is; `Bad` where it is none.
 pub(crate) fn line_of(term: Term) -> ToolLine
@@ -101,16 +101,5 @@ fn only(mut parts: Terms) -> Option<Term>
 fn are_within(parts: &[Term]) -> bool
     ensures { result ≡ are_within parts.now }
 {
-    all_within(parts) && total_size(parts) <= MOST_TERM_SIZE
-}
-
-fn all_within(parts: &[Term]) -> bool
-    ensures { result ≡ list_all is_within_limits parts.now }
-{
-    for part in parts {
-        if !is_within_limits(part) {
-            return false;
-        }
-    }
-    true
+    are_within_limits(parts) && total_size(parts) <= MOST_TERM_SIZE
 }

@@ -1,11 +1,10 @@
 //! Numbers of a script.
-ghost use Rattle.std.specs.Prelude.{◌≡◌, ◌≤◌, ◌<◌, ◌-◌, length, drop, IfOk, IsTrue, if◌then◌else◌};
-ghost use Rattle.tb_read.specs.Lexing.{is_negative};
+ghost use Rattle.std.specs.Prelude.{◌≡◌, ◌≤◌, ◌<◌, ◌-◌, length, IfOk};
 ghost use Rattle.tb_lex.specs.Helpers.Scanning.{number_from, number_at};
 ghost use Rattle.tb_lex.specs.Helpers.Answers.{Gives};
 
 use crate::{LexFault, TokenKind};
-use tb_read::{digits_len, digits_value, is_real, number_of};
+use tb_read::{digits_len, digits_value, is_negative, is_real, number_of, without_sign};
 
 /// The number with whose sign or first digit the bytes begin, and the bytes behind it.
 pub(crate) fn number_at(total: usize, bytes: &[u8]) -> Result<(TokenKind<'_>, &[u8]), LexFault>
@@ -17,22 +16,6 @@ pub(crate) fn number_at(total: usize, bytes: &[u8]) -> Result<(TokenKind<'_>, &[
     let unsigned = without_sign(negative, bytes);
     let (digits, rest) = unsigned.split_at(digits_len(unsigned));
     number_from(total - bytes.len(), negative, digits, rest)
-}
-
-fn is_negative(bytes: &[u8]) -> bool
-    ensures { result ≡ is_negative bytes.now }
-{
-    match bytes.split_first() {
-        Some((first, _rest)) => *first == b'-',
-        None => false,
-    }
-}
-
-fn without_sign(negative: bool, bytes: &[u8]) -> &[u8]
-    requires { IsTrue negative → 0 < length bytes.now }
-    ensures { result.now ≡ drop (if negative then 1 else 0) bytes.now }
-{
-    if negative { &bytes[1..] } else { bytes }
 }
 
 fn number_from<'a>(

@@ -17,9 +17,9 @@ use crate::done::Done;
 use std::alloc::Global;
 use tb_body::Tool;
 use tb_bus::{Exchange, ToolAction};
-use tb_log::{LabelKind, ToolLine, total_size};
+use tb_log::{LabelKind, ToolLine};
 use tb_match::{Bind, Binds};
-use tb_terms::{Items, Name, NoMemory, Term, Terms, size};
+use tb_terms::{Items, Name, NoMemory, Term, Terms, size, total_size};
 use tb_tools::Bench;
 
 /// Speaks with a tool, as was found. Where memory ran out the lanes are as before.

@@ -12,7 +12,7 @@ mod step_line;
 mod text;
 
 pub use entry::{Entries, Entry, Input, Label, LabelKind, Out, Place, Reply, ToolLine, Why};
-pub use log::{Log, input_size, out_size, total_size};
+pub use log::{Log, input_size, out_size};
 pub use pieces::piece;
 pub use proper::{show_proper_entry, show_proper_log};
 pub use seen::{Seen, SeenLabel};

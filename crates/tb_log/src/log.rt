@@ -1,6 +1,5 @@
-ghost use Rattle.std.specs.Prelude.{◌≡◌, ◌≤◌, ◌<◌, ◌+◌, ◌++◌, ◌∷◌, [], IsTrue, IsOk, OnOk, OnErr, Some, min, map, sum, length, take, drop, reverse, slice_get, vec_len, vec_capacity};
+ghost use Rattle.std.specs.Prelude.{◌≡◌, ◌≤◌, ◌<◌, ◌+◌, ◌++◌, ◌∷◌, [], IsTrue, IsOk, OnOk, OnErr, Some, min, length, take, drop, reverse, slice_get, vec_len, vec_capacity};
 ghost use Rattle.std.below.core.specs.declared.int.usize.TheConstants.{MAX};
-ghost use Rattle.tb_terms.specs.Sizes.{term_size};
 ghost use Rattle.tb_log.specs.Limits.{entry_size, input_size, tool_line_size, out_size, has_room, terms_size};
 ghost use Rattle.tb_log.specs.Seens.{entry_seen};
 
@@ -9,7 +8,7 @@ use crate::kept::{Kept, KeptStep, Other};
 use crate::seen::Seen;
 use std::alloc::Global;
 use std::marker::Model;
-use tb_terms::{NoMemory, Term, Terms, size};
+use tb_terms::{NoMemory, Term, Terms, size, total_size};
 
 /// How large all terms of a log may be together.
 const MOST_SIZE: usize = 16_777_216;
@@ -313,15 +312,4 @@ pub fn out_size(out: &Out) -> usize
         Out::Line(term) => size(term),
         Out::End => 0,
     }
-}
-
-/// The sizes of these terms together, or the greatest usize where that is greater.
-pub fn total_size(terms: &[Term]) -> usize
-    ensures { result ≡ min (sum (map term_size terms.now)) MAX }
-{
-    let mut total: usize = 0;
-    for term in terms {
-        total = total.saturating_add(size(term));
-    }
-    total
 }

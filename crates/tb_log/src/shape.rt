@@ -1,13 +1,10 @@
 ghost use Rattle.std.specs.Prelude.{◌≡◌, ◌≤◌, ◌↔◌, length, IsTrue};
-ghost use Rattle.std.specs.List.{All};
 ghost use Rattle.std.specs.Str.{bytes_eq};
-ghost use Rattle.tb_terms.specs.Sizes.{IsWithinLimits};
 ghost use Rattle.tb_terms.specs.declared.term.Term.{out-Term};
 ghost use Rattle.tb_log.specs.Shapes.{InShape, IsInputInShape, IsToolLineInShape, IsOutInShape, IsForTool, IsLabelInShape, IsLane, AreParts, HasPlaces, has_terms, has_parts, nowhere};
 
 use crate::entry::{Entry, Input, Label, LabelKind, Out, Place, ToolLine};
-use crate::log::total_size;
-use tb_terms::{MOST_TERM_SIZE, Term, is_within_limits};
+use tb_terms::{MOST_TERM_SIZE, Term, are_within_limits, is_within_limits, total_size};
 
 /// How many lanes there are. They are numbered from 1.
 pub const LANES: usize = 16;
@@ -148,15 +145,4 @@ fn are_parts(terms: &[Term]) -> bool
     ensures { IsTrue result ↔ AreParts terms.now }
 {
     are_within_limits(terms) && total_size(terms) <= MOST_TERM_SIZE
-}
-
-fn are_within_limits(terms: &[Term]) -> bool
-    ensures { IsTrue result ↔ All IsWithinLimits terms.now }
-{
-    for term in terms {
-        if !is_within_limits(term) {
-            return false;
-        }
-    }
-    true
 }

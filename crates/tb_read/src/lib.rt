@@ -22,6 +22,6 @@ pub use laws::{
 };
 pub use lex::{is_blank, is_name_byte};
 pub use limits::Limits;
-pub use number::{digits_len, digits_value, is_real, number_of};
+pub use number::{digits_len, digits_value, is_negative, is_real, number_of, without_sign};
 pub use quoted::{Turn, Within, string_turn};
 pub use read::{read_term, read_within};

@@ -23,7 +23,8 @@ pub(crate) fn number_at(total: usize, bytes: &[u8]) -> Result<(Token, &[u8]), Te
     number_from(total, position, negative, digits, rest)
 }
 
-fn without_sign(negative: bool, bytes: &[u8]) -> &[u8]
+/// What stands behind the sign, where there is one.
+pub fn without_sign(negative: bool, bytes: &[u8]) -> &[u8]
     requires { IsTrue negative → 0 < length bytes.now }
     ensures { result.now ≡ drop (if negative then 1 else 0) bytes.now }
 {
@@ -54,7 +55,8 @@ fn number_from<'a>(
     }
 }
 
-fn is_negative(bytes: &[u8]) -> bool
+/// Whether a minus sign comes first.
+pub fn is_negative(bytes: &[u8]) -> bool
     ensures { result ≡ is_negative bytes.now }
 {
     match bytes.split_first() {

@@ -19,7 +19,9 @@ mod write;
 pub use expr::{Expr, Exprs, Func, copy_exprs};
 pub use ident::{Ident, is_ident_bytes};
 pub use laws::texts_are_short;
-pub use measure::{MOST_TERM_LEVELS, MOST_TERM_SIZE, depth, is_within_limits, size};
+pub use measure::{
+    MOST_TERM_LEVELS, MOST_TERM_SIZE, are_within_limits, depth, is_within_limits, size, total_size,
+};
 pub use memory::NoMemory;
 pub use name::{Name, Names, is_name_bytes};
 pub use pattern::{Pattern, Patterns, copy_patterns, same_pattern_lists};

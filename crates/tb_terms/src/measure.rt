@@ -1,5 +1,6 @@
 //! The size and the levels of a term, and their limits.
 ghost use Rattle.std.specs.Prelude.{◌≡◌, ◌+◌, ◌↔◌, IsTrue, length, min, map, sum};
+ghost use Rattle.std.specs.List.{All, list_all};
 ghost use Rattle.tb_terms.specs.Sizes.{term_size, term_levels, greatest, is_within_limits, IsWithinLimits};
 
 use crate::Term;
@@ -22,6 +23,30 @@ pub fn is_within_limits(term: &Term) -> bool
             size(term) <= MOST_TERM_SIZE && depth(term) <= MOST_TERM_LEVELS
         }
     }
+}
+
+/// Whether each of these terms is within the limits of size and levels.
+pub fn are_within_limits(terms: &[Term]) -> bool
+    ensures test { result ≡ list_all is_within_limits terms.now }
+    ensures limits { IsTrue result ↔ All IsWithinLimits terms.now }
+{
+    for term in terms {
+        if !is_within_limits(term) {
+            return false;
+        }
+    }
+    true
+}
+
+/// The sizes of these terms together. The greatest `usize` stands for all greater numbers.
+pub fn total_size(terms: &[Term]) -> usize
+    ensures { result ≡ min (sum (map term_size terms.now)) usize.MAX }
+{
+    let mut total = 0usize;
+    for term in terms {
+        total = total.saturating_add(size(term));
+    }
+    total
 }
 
 /// One for each node, and the bytes of the names and strings. The greatest `usize` stands for all

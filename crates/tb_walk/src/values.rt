@@ -1,7 +1,5 @@
-ghost use Rattle.std.specs.Prelude.{◌≡◌, ◌∷◌, [], ◌++◌, Some, None, IfOk, min, map, sum, option_map, if◌then◌else◌};
+ghost use Rattle.std.specs.Prelude.{◌≡◌, ◌∷◌, [], ◌++◌, Some, None, IfOk, option_map, if◌then◌else◌};
 ghost use Rattle.std.specs.Option.{option_copied};
-ghost use Rattle.std.below.core.specs.declared.int.usize.TheConstants.{MAX};
-ghost use Rattle.tb_terms.specs.Sizes.{term_size};
 ghost use Rattle.tb_func.specs.Values.{all_of, value_of};
 ghost use Rattle.tb_algebra.specs.Atoms.{act_in, limited_together, sent_exprs, values_together};
 ghost use Rattle.tb_algebra.specs.Settings.{tested};
@@ -12,7 +10,7 @@ use std::alloc::Global;
 use tb_algebra::{sent_values, tested};
 use tb_body::{Act, Atom};
 use tb_func::{Store, eval};
-use tb_terms::{Expr, MOST_TERM_SIZE, NoMemory, Term, Terms, size};
+use tb_terms::{Expr, MOST_TERM_SIZE, NoMemory, Term, Terms, total_size};
 
 /// What the test says now. Numbers are compared without a term.
 pub(crate) fn says(alloc: Global, store: &Store, test: &Expr) -> Result<Option<bool>, NoMemory>
@@ -125,24 +123,5 @@ fn limited_together(terms: Terms) -> Option<Terms>
         Some(terms)
     } else {
         None
-    }
-}
-
-fn total_size(terms: &[Term]) -> usize
-    ensures { result ≡ min (sum (map term_size terms.now)) MAX }
-{
-    let mut total: usize = 0;
-    for term in terms {
-        total = total.saturating_add(weight(term));
-    }
-    total
-}
-
-fn weight(term: &Term) -> usize
-    ensures { result ≡ min (term_size term.now) MAX }
-{
-    match term {
-        Term::Int(_) => 1,
-        _ => size(term),
     }
 }
