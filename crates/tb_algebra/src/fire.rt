@@ -1,3 +1,4 @@
+//! What is left of a running term once one of its offers is taken.
 ghost use Rattle.std.specs.Prelude.{◌≡◌, ℕ, ◌<◌, ◌≤◌, List, Some, IfOk, IsTrue, length, option_map};
 ghost use Rattle.tb_func.specs.declared.slot.Slot.{Slot};
 ghost use Rattle.tb_algebra.specs.declared.node.Node.{Node as PlanNode};

@@ -1,3 +1,4 @@
+//! The result of the search for an offer, and what is left once it is taken.
 use crate::running::Running;
 use tb_func::Store;
 

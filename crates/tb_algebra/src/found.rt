@@ -1,3 +1,4 @@
+//! An atom that may come next, with the store that a `let` made for it, and copies of such atoms.
 ghost use Rattle.std.specs.Prelude.{◌≡◌, IfOk};
 ghost use Rattle.tb_algebra.specs.Helpers.Candidates.{offer_of};
 

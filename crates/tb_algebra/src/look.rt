@@ -1,3 +1,4 @@
+//! The search for the atoms that a running term may do next.
 ghost use Rattle.std.specs.Prelude.{◌≡◌, ◌∷◌, [], ◌++◌, ◌-◌, ◌<◌, IfOk, OnOk, IsTrue, length, map};
 ghost use Rattle.tb_algebra.specs.Atoms.{is_ready, times_of};
 ghost use Rattle.tb_algebra.specs.Helpers.Runnings.{entered_term, term_of, is_on};

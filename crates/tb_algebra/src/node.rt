@@ -1,3 +1,4 @@
+//! The nodes of a plan: one for each operator of a body.
 use tb_body::Settings;
 use tb_terms::Expr;
 

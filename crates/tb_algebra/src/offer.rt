@@ -1,3 +1,5 @@
+//! What is seen of an atom that may come next: its number, its age and whether it is ready.
+
 /// An atom that a process may do next.
 #[derive(Clone, Copy, Debug, PartialEq, Eq)]
 pub struct Offer {

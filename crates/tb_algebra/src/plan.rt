@@ -1,3 +1,4 @@
+//! The plan of a body: its operators in a list, each after its parts.
 ghost use Rattle.std.specs.Prelude.{◌≡◌, ◌-◌, ◌<◌, Some, IsTrue, IfOk, length, slice_get};
 ghost use Rattle.std.specs.Coded.{codes};
 ghost use Rattle.std.specs.Option.{option_copied};

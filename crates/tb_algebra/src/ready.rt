@@ -1,3 +1,4 @@
+//! Whether the times of an atom hold.
 ghost use Rattle.std.specs.Prelude.{◌≡◌, IfOk, option_and_then};
 ghost use Rattle.tb_func.specs.Arguments.{int_of};
 ghost use Rattle.tb_func.specs.Values.{value_of};

@@ -1,3 +1,4 @@
+//! The walker that rewrites what is left of its process.
 ghost use Rattle.std.specs.Prelude.{◌≡◌, IfOk, IsTrue, map};
 ghost use Rattle.tb_algebra.specs.Helpers.Selections.{selected_at, selected_of, is_fired_on};
 ghost use Rattle.tb_algebra.specs.Helpers.OfferViews.{shown, offer_view};

@@ -1,3 +1,4 @@
+//! The term that is left of a process, over the nodes of its plan.
 ghost use Rattle.std.specs.Prelude.{◌≡◌, IfOk};
 
 use std::alloc::Global;

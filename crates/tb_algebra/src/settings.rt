@@ -1,3 +1,4 @@
+//! Tests, the settings of a `let`, and the bindings of variables.
 ghost use Rattle.std.specs.Prelude.{◌≡◌, Some, IsTrue, IfOk, map, option_map};
 ghost use Rattle.tb_algebra.specs.Binds.{takes_binds, with_binds};
 ghost use Rattle.tb_algebra.specs.Settings.{given_by, well_sorted, start_value, tested, with_settings};

@@ -1,3 +1,4 @@
+//! The values and patterns of an act, and what the act binds.
 ghost use Rattle.std.specs.Prelude.{◌≡◌, ◌∷◌, ◌+◌, Some, IfOk, option_and_then, option_map};
 ghost use Rattle.std.specs.Option.{option_copied};
 ghost use Rattle.tb_func.specs.Patterns.{pattern_of};

@@ -1,3 +1,4 @@
+//! The trait of a walker: a process on its way through its body.
 ghost use Rattle.std.specs.Prelude.{◌≡◌, ◌<◌, Some, None, IfOk, OnOk, OnErr, IsTrue, length, slice_get, option_and_then, is_some};
 ghost use Rattle.std.specs.Option.{ForSome};
 ghost use Rattle.tb_algebra.specs.Binds.{takes_binds};

@@ -1,3 +1,4 @@
+//! The bells of a bus, and the threads that sleep on them.
 use crate::bell::Bell;
 use crate::yields::Yields;
 use std::sync::Wait;

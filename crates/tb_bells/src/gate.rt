@@ -1,3 +1,4 @@
+//! A gate that admits one thread at a time.
 use crate::yields::Yields;
 use std::hint::spin_loop;
 use std::sync::{Mutex, MutexGuard, Wait};

@@ -1,3 +1,4 @@
+//! When a waiting thread may yield its processor.
 use libc::types::timespec;
 use std::sync::atomic::{AtomicU32, Ordering};
 use std::thread::yield_now;

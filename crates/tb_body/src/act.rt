@@ -1,3 +1,4 @@
+//! What an atom does when it happens.
 ghost use Rattle.std.specs.Prelude.{◌≡◌, IfOk};
 
 use std::alloc::Global;

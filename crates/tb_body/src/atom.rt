@@ -1,3 +1,4 @@
+//! Atoms of a body, and the times at which they may happen.
 ghost use Rattle.std.specs.Prelude.{◌≡◌, IfOk};
 
 use crate::Act;

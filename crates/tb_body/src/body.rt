@@ -1,3 +1,4 @@
+//! The body of a process: its tree, its atoms and the sorts of its slots, within limits.
 ghost use Rattle.std.specs.Prelude.{◌≡◌, IsTrue, IfOk, IfSome, is_some};
 ghost use Rattle.tb_body.specs.InRange.{is_body_in_range, is_in_range};
 

@@ -1,3 +1,4 @@
+//! The checks that acts and roots fit the processes and tools of their program.
 ghost use Rattle.std.specs.Prelude.{◌≡◌, slice_get};
 ghost use Rattle.std.specs.List.{list_all};
 ghost use Rattle.tb_body.specs.Programs.{are_actuals, has_command, have_sorts, is_act_in_program, is_body_in_program, is_program_in_range, is_root_in_range, takes};

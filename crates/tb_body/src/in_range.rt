@@ -1,3 +1,4 @@
+//! Whether the tree and the atoms of a body are in range of each other and within the limits.
 ghost use Rattle.std.specs.Prelude.{◌≡◌, ◌++◌, OnOk, nat_le};
 ghost use Rattle.std.specs.List.{list_all};
 ghost use Rattle.tb_body.specs.Acts.{is_act_in_body, is_atom_in_body};

@@ -1,3 +1,4 @@
+//! Which expressions may appear as values, as tests and where an atom receives.
 ghost use Rattle.std.specs.Prelude.{◌≡◌, map};
 ghost use Rattle.std.specs.List.{list_all};
 ghost use Rattle.tb_func.specs.Functions.{signature_of};

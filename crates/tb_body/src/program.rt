@@ -1,3 +1,4 @@
+//! A program: the bodies of its processes, its tools and the processes with which it starts.
 ghost use Rattle.std.specs.Prelude.{◌≡◌, IsTrue, IfSome, is_some};
 ghost use Rattle.tb_body.specs.Programs.{is_program_in_range};
 

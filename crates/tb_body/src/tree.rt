@@ -1,3 +1,4 @@
+//! The tree of a body, by the operators of the algebra, and the settings of a `let`.
 ghost use Rattle.std.specs.Prelude.{◌≡◌, IfOk};
 
 use std::alloc::Global;

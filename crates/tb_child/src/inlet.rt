@@ -1,3 +1,4 @@
+//! The inlet of a lane of child programs, which reads their output line by line.
 ghost use Rattle.std.specs.Prelude.{◌≡◌, ◌≤◌, length};
 
 use crate::arrivals::{Arrival, Arrivals};

@@ -1,3 +1,4 @@
+//! The outlet of a lane of child programs, which starts them and writes to their input.
 ghost use Rattle.std.specs.Prelude.{◌≡◌, ◌<◌, ◌≤◌, length, IfSome};
 
 use crate::arrivals::{Arrival, Arrivals};

@@ -1,3 +1,4 @@
+//! The calls that make lanes of child programs.
 ghost use Rattle.std.specs.Prelude.{◌≡◌, IfOk, vec_len};
 
 use crate::arrivals::Arrivals;

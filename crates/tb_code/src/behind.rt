@@ -1,3 +1,4 @@
+//! What comes of a part when one of its atoms happens.
 ghost use Rattle.std.specs.Prelude.{◌≡◌};
 ghost use Rattle.tb_code.specs.Entries.{followed};
 

@@ -1,3 +1,4 @@
+//! The code of a body: its numbered positions, and the compiler that makes them.
 ghost use Rattle.std.specs.Prelude.{◌≡◌, ◌++◌, ◌∷◌, [], ◌-◌, ◌<◌, Some, IfOk, IfSome, OnOk, length, suc, slice_get, slice_set};
 ghost use Rattle.std.specs.Coded.{codes, coded_list};
 ghost use Rattle.std.specs.Option.{option_copied};

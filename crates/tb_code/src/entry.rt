@@ -1,3 +1,4 @@
+//! The entries of a list: what may come next at a position.
 use crate::Behind;
 
 /// What may come next, and where it stands.

@@ -1,3 +1,4 @@
+//! The lists of what may come next at each position of a code, as far as they are kept.
 ghost use Rattle.std.specs.Prelude.{◌≡◌, ◌<◌, ◌≤◌, ◌+◌, ◌++◌, ◌∷◌, [], List, Some, IfOk, IfSome, OnOk, length, map, slice_get};
 ghost use Rattle.tb_algebra.specs.Atoms.{times_of};
 ghost use Rattle.tb_algebra.specs.Processes.{fresh};

@@ -1,3 +1,4 @@
+//! The nodes of a code: the operator at each position, and the frame in which it lies.
 use tb_body::Settings;
 use tb_terms::Expr;
 

@@ -1,3 +1,4 @@
+//! An operator over two parts while the position of its second part isn't known.
 ghost use Rattle.std.specs.Prelude.{◌≡◌};
 ghost use Rattle.tb_code.specs.Helpers.Twos.{frame_of_first, op_of};
 

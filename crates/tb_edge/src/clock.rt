@@ -1,3 +1,4 @@
+//! The trait of a clock, which gives ticks.
 ghost use Rattle.std.specs.Prelude.{◌≡◌, ℕ, ◌^◌, ◌<◌, ◌≤◌, Option};
 ghost use Rattle.tb_edge.specs.Faults.{Rose};
 ghost use Rattle.tb_edge.specs.Ends.{ClockView, clock_after, has_ended, MayBeat, StaysAt};

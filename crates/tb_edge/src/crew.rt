@@ -1,3 +1,4 @@
+//! The trait of a crew, which does jobs concurrently in threads, and the calls that run these threads.
 ghost use Rattle.std.specs.Prelude.{◌≡◌, ℕ, ◌^◌, ◌<◌, ◌≤◌, IfOk, IfErr, OnOk};
 ghost use Rattle.std.specs.List.{All};
 ghost use Rattle.std.specs.Bool.{OnFalse, OnTrue};

@@ -1,3 +1,4 @@
+//! The numbers of the calls that must fail.
 ghost use Rattle.std.specs.Prelude.{◌≡◌};
 ghost use Rattle.tb_edge.specs.InMemory.{fails_at};
 

@@ -1,3 +1,4 @@
+//! The trait of files, from which bytes are read by name.
 ghost use Rattle.std.specs.Prelude.{◌≡◌, ℕ, ◌^◌, ◌<◌, ◌≤◌, List, Option, IfOk, IsErrOf};
 ghost use Rattle.tb_edge.specs.Faults.{Rose};
 ghost use Rattle.tb_edge.specs.FilesHeld.{IsWithin, IsOf, asked_after};

@@ -1,3 +1,4 @@
+//! What an inlet gives and an outlet takes, as contracts see it.
 use crate::Bytes;
 use tb_terms::Text;
 

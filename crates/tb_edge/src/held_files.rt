@@ -1,3 +1,4 @@
+//! Files that are held in memory, and the search for a name among them.
 ghost use Rattle.std.specs.Prelude.{◌≡◌, IfOk};
 ghost use Rattle.std.specs.Option.{option_copied, option_map};
 ghost use Rattle.tb_edge.specs.InMemory.{held_in, loaded_of};

@@ -1,3 +1,4 @@
+//! The trait of an inlet, the read end of a lane.
 ghost use Rattle.std.specs.Prelude.{◌≡◌, ℕ, ◌^◌, ◌<◌, ◌≤◌, Option, length};
 ghost use Rattle.tb_edge.specs.Faults.{Rose};
 ghost use Rattle.tb_edge.specs.Ends.{InletView, inlet_after, MayGive};

@@ -1,3 +1,4 @@
+//! The trait of a job, the whole work of one worker.
 use std::sync::Wait;
 
 /// The whole work of one worker.

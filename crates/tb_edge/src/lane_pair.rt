@@ -1,3 +1,4 @@
+//! The two ends of one lane.
 use crate::{Inlet, Outlet};
 
 /// The two ends of one lane.

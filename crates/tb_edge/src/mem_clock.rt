@@ -1,3 +1,4 @@
+//! A clock in memory that never waits and fails in given calls.
 ghost use Rattle.std.specs.Prelude.{◌≡◌, ◌≤◌, false};
 ghost use Rattle.tb_edge.specs.InMemory.{mem_beat, mem_clock_after};
 

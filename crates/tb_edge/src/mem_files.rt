@@ -1,3 +1,4 @@
+//! Files in memory whose loads fail in given calls.
 ghost use Rattle.std.specs.Prelude.{◌≡◌, ◌≤◌, []};
 ghost use Rattle.tb_edge.specs.InMemory.{IsUnlessNoMemory, mem_answer, mem_files_after};
 

@@ -1,3 +1,4 @@
+//! A sink in memory with a capacity, which fails in given calls.
 ghost use Rattle.std.specs.Prelude.{◌≡◌, ◌≤◌, [], IfOk, OnErr, is_ok, Some};
 ghost use Rattle.tb_edge.specs.Sinks.{WritesPrefix};
 ghost use Rattle.tb_edge.specs.InMemory.{is_put, mem_sink_after};

@@ -1,3 +1,4 @@
+//! The clock of the runtime, whose ticks last 100 milliseconds at least.
 ghost use Rattle.std.specs.Prelude.{◌≡◌};
 
 use crate::{Beat, Clock};

@@ -1,3 +1,4 @@
+//! The files of the runtime.
 ghost use Rattle.std.specs.Prelude.{◌≡◌, ◌+◌, ◌++◌, ◌<◌, ◌≤◌, [], IfOk, length, vec_len, take, nat_le, if◌then◌else◌};
 ghost use Rattle.std.specs.Io.KnownBytes.{Consumes, IsAtEnd};
 ghost use Rattle.tb_edge.specs.FilesHeld.{IsWithin, IsOf};

@@ -1,3 +1,4 @@
+//! A clock in memory that never fails and never waits.
 ghost use Rattle.std.specs.Prelude.{◌≡◌, false};
 ghost use Rattle.tb_edge.specs.InMemory.{sure_beat, sure_clock_after};
 

@@ -1,3 +1,4 @@
+//! Files in memory that never fail.
 ghost use Rattle.std.specs.Prelude.{◌≡◌, [], IsOkUnless, IfOk};
 ghost use Rattle.tb_edge.specs.InMemory.{surely_held_in, loaded_of, sure_files_after};
 

@@ -1,3 +1,4 @@
+//! A sink that discards all bytes and never fails.
 ghost use Rattle.std.specs.Prelude.{◌≡◌, IsOk};
 
 use crate::{Failed, Sink};

@@ -1,3 +1,4 @@
+//! A crew of threads, which is ready if enough threads can start.
 ghost use Rattle.std.specs.Prelude.{◌≡◌, ◌^◌, ◌<◌, ◌≤◌, if◌then◌else◌};
 ghost use Rattle.std.specs.Bool.{OnFalse, OnTrue};
 ghost use Rattle.std.specs.Thread.{IsSync};

@@ -1,3 +1,4 @@
+//! The active marks: how they change when a process sends and receives under other marks.
 ghost use Rattle.std.specs.Prelude.{◌≡◌, ℕ, true, false, [], ◌∷◌, OnOk};
 ghost use Rattle.std.specs.List.{list_any};
 ghost use Rattle.tb_index.specs.declared.mark.Mark.{Mark as TheMark};

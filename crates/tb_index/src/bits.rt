@@ -1,3 +1,4 @@
+//! A set of numbers, kept as bits, in which the next number is found quickly.
 ghost use Rattle.std.specs.Prelude.{◌≡◌, ◌≢◌, ℕ, ◌+◌, ◌*◌, ◌/◌, ◌<◌, ◌≤◌, ◌==◌, Some, None, IfSome, [], max, length, slice_index, OnOk};
 ghost use Rattle.std.specs.Int.{bit_at};
 ghost use Rattle.tb_index.specs.Helpers.Bits.{bit_in, IsNextBit, IsTwoRows, most_words};

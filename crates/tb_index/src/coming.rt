@@ -1,3 +1,4 @@
+//! The step that gives a process its new marks in addition to its old ones.
 ghost use Rattle.std.specs.Prelude.{◌≡◌, OnOk, OnErr};
 ghost use Rattle.tb_index.specs.Helpers.Pairs.{AreOf, AreAdded, AreCountedIf, AreOpened, AllOpened, AreHeard, SamePairs};
 

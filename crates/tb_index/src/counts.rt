@@ -1,3 +1,4 @@
+//! The counts of an index: which processes send how many terms, whatever the first begins with.
 ghost use Rattle.std.specs.Prelude.{◌≡◌, ℕ, true, false, OnOk};
 ghost use Rattle.tb_index.specs.declared.mark.Mark.{Mark as TheMark};
 ghost use Rattle.tb_index.specs.Marks.{has_mark, open_head, wide};

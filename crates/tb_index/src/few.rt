@@ -1,3 +1,4 @@
+//! The slots of an index, in which the pairs of a mark are found by its hash.
 ghost use Rattle.std.specs.Prelude.{◌≡◌, ◌&&◌, ◌||◌, ◌<◌, ◌≤◌, ℕ, not, length, OnOk, OnErr};
 ghost use Rattle.tb_index.specs.declared.mark.Mark.{Mark as TheMark};
 ghost use Rattle.tb_index.specs.Helpers.Pairs.{is_pair, in_few, slot_of, slots, IsFirst};

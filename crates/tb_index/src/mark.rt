@@ -1,3 +1,4 @@
+//! Marks of messages and patterns.
 ghost use Rattle.std.specs.Prelude.{◌≡◌, ℕ, true, length, fold, take};
 ghost use Rattle.std.specs.Int.{w64, cast_unsigned};
 ghost use Rattle.tb_index.specs.Marks.{mixed, number_head, name_head, term_head, pattern_head, first_term_head, first_pattern_head, sent_mark, received_mark, wide, is_mark, has_mark};

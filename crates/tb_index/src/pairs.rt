@@ -1,3 +1,4 @@
+//! The pairs of a mark and a process, in slots and in order.
 ghost use Rattle.std.specs.Prelude.{◌≡◌, ◌&&◌, ◌||◌, ◌==◌, ℕ, true, false, not, OnOk, OnErr, Option, Some, None};
 ghost use Rattle.tb_index.specs.declared.mark.Mark.{Mark as TheMark};
 ghost use Rattle.tb_index.specs.Marks.{has_mark};

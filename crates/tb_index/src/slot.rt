@@ -1,3 +1,4 @@
+//! A slot: a few pairs of a mark and a process, in no order.
 ghost use Rattle.std.specs.Prelude.{◌≡◌, ◌&&◌, ◌||◌, ◌<◌, ℕ, not, true, false, [], length, slice_index_or, OnOk, OnErr, IfSome, IfNone};
 ghost use Rattle.tb_index.specs.declared.mark.Mark.{Mark as TheMark};
 ghost use Rattle.tb_index.specs.Helpers.Pairs.{is_pair, is_of, is_in, IsFirst, earlier};

@@ -1,3 +1,4 @@
+//! The inbox of a process: its subscriptions, and the notes that wait for it.
 ghost use Rattle.std.specs.Prelude.{◌≡◌, ◌↔◌, ◌<◌, ◌≤◌, ◌+◌, length, slice_get, Some, IsTrue, IfOk, OnOk, OnErr};
 ghost use Rattle.std.specs.Option.{ForSome};
 ghost use Rattle.tb_match.specs.Matches.{are_plain};

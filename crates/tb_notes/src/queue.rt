@@ -1,3 +1,4 @@
+//! The first note of a queue that matches.
 ghost use Rattle.std.specs.Prelude.{◌≡◌, ◌<◌, length, IfOk};
 ghost use Rattle.std.specs.Option.{ForSome};
 ghost use Rattle.tb_notes.specs.Inboxes.{first_match};

@@ -1,3 +1,4 @@
+//! The search among the subscriptions of a process.
 ghost use Rattle.std.specs.Prelude.{◌≡◌, ◌<◌, length, remove, false, IsTrue, MatchOption};
 ghost use Rattle.std.specs.List.{list_any, list_all};
 ghost use Rattle.tb_match.specs.Matches.{are_plain};

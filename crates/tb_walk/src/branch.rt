@@ -1,3 +1,4 @@
+//! The branches of a process: the positions that it has entered.
 use tb_terms::Items;
 
 /// A part of the body that has been entered, and of which nothing has happened yet.

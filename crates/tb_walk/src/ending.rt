@@ -1,3 +1,4 @@
+//! What follows when a branch has ended.
 ghost use Rattle.std.specs.Prelude.{◌≡◌, ◌<◌, ◌≤◌, ◌++◌, ◌||◌, [], IfSome, Some, drop, false, length};
 ghost use Rattle.std.specs.Option.{option_to_list};
 ghost use Rattle.tb_algebra.specs.Processes.{fresh};

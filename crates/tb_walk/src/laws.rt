@@ -1,3 +1,4 @@
+//! The theorem that a walk has no branches if and only if its process has ended.
 ghost use Rattle.std.specs.Prelude.{◌≡◌, ◌↔◌, [], None};
 ghost use Rattle.tb_code.specs.declared.code.Code.{Code};
 ghost use Rattle.tb_walk.specs.WalkViews.{IsOnCode, walking_of};

@@ -1,3 +1,4 @@
+//! The search for the atoms that a row of branches may do next.
 ghost use Rattle.std.specs.Prelude.{◌≡◌, ◌∷◌, [], ◌++◌, ◌-◌, ◌<◌, ℕ, All, IfOk, OnOk, flat_map, map};
 ghost use Rattle.tb_algebra.specs.Atoms.{is_ready, times_of};
 ghost use Rattle.tb_algebra.specs.Processes.{fresh, If, When, Let};

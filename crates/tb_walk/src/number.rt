@@ -1,3 +1,4 @@
+//! Numbers and comparisons that are evaluated without a term.
 ghost use Rattle.std.specs.Prelude.{◌≡◌, ◌∷◌, [], Some, IfSome, map, option_and_then};
 ghost use Rattle.tb_terms.specs.declared.term.Term.TheVariants as term;
 ghost use Rattle.tb_func.specs.Apply.{apply_of};

@@ -1,3 +1,4 @@
+//! The patterns of an act, with a short path for messages and notes.
 ghost use Rattle.std.specs.Prelude.{◌≡◌, ◌∷◌, [], ◌++◌, Some, None, IfOk, OnOk, option_map, if◌then◌else◌};
 ghost use Rattle.std.specs.Option.{option_copied};
 ghost use Rattle.tb_terms.specs.declared.pattern.Pattern.TheVariants as pattern;

@@ -1,3 +1,4 @@
+//! Lists that are emptied and keep their memory.
 ghost use Rattle.std.specs.Prelude.{◌≡◌, [], IfOk};
 
 use std::alloc::Global;

@@ -1,3 +1,4 @@
+//! What becomes of a row when one of its branches ends or is replaced.
 ghost use Rattle.std.specs.Prelude.{◌≡◌, ◌<◌, ◌≤◌, ◌++◌, ◌+◌, ◌∷◌, [], Some, IfOk, IfSome, OnOk, slice_get, take, drop, length, suc};
 ghost use Rattle.std.specs.Option.{option_to_list};
 ghost use Rattle.tb_algebra.specs.Processes.{fresh};

@@ -1,3 +1,4 @@
+//! An atom that a look found, and copies of such atoms.
 ghost use Rattle.std.specs.Prelude.{◌≡◌, IfOk};
 ghost use Rattle.tb_walk.specs.Helpers.Sights.{offer_of};
 

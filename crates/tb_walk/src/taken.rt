@@ -1,3 +1,4 @@
+//! An offer that is taken, and how the walk goes on by it.
 ghost use Rattle.std.specs.Prelude.{◌≡◌, ◌<◌, Some, length, slice_get, slice_set};
 ghost use Rattle.tb_algebra.specs.Helpers.OfferViews.{or_own};
 ghost use Rattle.tb_algebra.specs.Offers.{Offered};

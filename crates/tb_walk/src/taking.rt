@@ -1,3 +1,4 @@
+//! The choice of an offer, with and without a fresh look, and the bindings of variables.
 ghost use Rattle.std.specs.Prelude.{◌≡◌, ◌<◌, length, slice_get, Some, IfOk, IsTrue, true};
 ghost use Rattle.std.specs.Option.{ForSome};
 ghost use Rattle.tb_algebra.specs.Binds.{takes_binds, with_binds};

@@ -1,3 +1,4 @@
+//! The walker that keeps the positions at which its process is.
 ghost use Rattle.std.specs.Prelude.{◌≡◌, length};
 
 use crate::look::look_row;
