@@ -1,3 +1,4 @@
+//! The reasons why a call wasn't made.
 use std::alloc::{AllocError, AllocFailed};
 use tb_lex::LexFault;
 use tb_parse::ParseFault;

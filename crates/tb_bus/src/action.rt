@@ -1,3 +1,4 @@
+//! The actions of atoms that are ready, and how a process speaks with a tool.
 use tb_match::Binds;
 use tb_terms::{Patterns, Term, Terms};
 

@@ -1,3 +1,4 @@
+//! The values of an exchange between a process and a tool.
 use tb_match::Binds;
 
 /// How a process may speak with a tool.

@@ -1,3 +1,4 @@
+//! Theorems about the traces of a bus, and about the buses that a program reaches.
 ghost use Rattle.std.specs.Prelude.{◌≡◌, ◌≢◌, ◌≤◌, ◌<◌, ◌++◌, ℕ, List, [], None, Contains, length, true, false};
 ghost use Rattle.std.specs.List.{All, AllPairs};
 ghost use Rattle.tb_log.specs.Lanes.{handed};

@@ -1,3 +1,4 @@
+//! The program, the commands and the limit with which a bus starts.
 use tb_body::Program;
 use tb_terms::Texts;
 

@@ -1,3 +1,4 @@
+//! The bytes that a text with escapes means.
 use std::alloc::{AllocError, Global};
 
 /// What the next byte belongs to.

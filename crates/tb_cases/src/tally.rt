@@ -1,3 +1,5 @@
+//! The count of the rows that passed and of the rows that failed.
+
 /// How many rows passed and failed.
 #[derive(Clone, Copy)]
 pub struct Tally {

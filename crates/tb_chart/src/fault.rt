@@ -1,3 +1,4 @@
+//! The reasons why there is no chart.
 use std::alloc::AllocFailed;
 use tb_terms::NoMemory;
 

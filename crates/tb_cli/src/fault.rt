@@ -1,3 +1,4 @@
+//! The reasons why the arguments of the command line are rejected.
 ghost use Rattle.std.specs.Prelude.{◌≡◌};
 ghost use Rattle.tb_message.specs.Messages.{message_text};
 ghost use Rattle.tb_cli.specs.Lines.{word_line};

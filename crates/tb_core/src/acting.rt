@@ -1,3 +1,4 @@
+//! The results of steps that print, create a process or shut the bus down, and the entries of steps in the log.
 ghost use Rattle.std.specs.Prelude.{◌≡◌, ◌∷◌, [], IfOk};
 ghost use Rattle.tb_bus.specs.Effects.{number_term};
 ghost use Rattle.tb_bus.specs.Steps.{finish_reason, halt_reason, nowhere};

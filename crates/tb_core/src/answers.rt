@@ -1,3 +1,4 @@
+//! The answers of a core, and the reasons why it rejects a call.
 ghost use Rattle.std.specs.Prelude.{◌≡◌};
 ghost use Rattle.tb_core.specs.declared.answers.CoreFault.TheVariants.{NoMemory as OutOfMemory};
 

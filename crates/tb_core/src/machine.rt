@@ -1,3 +1,4 @@
+//! The core: a bus with its log, of which each call makes one event at most.
 ghost use Rattle.std.specs.Option.{ForSome, is_some};
 ghost use Rattle.std.below.core.specs.declared.int.usize.TheConstants.{MAX};
 ghost use Rattle.std.specs.Prelude.{◌≡◌, IsSome, Some, min, ◌≤◌, ◌<◌, ◌+◌, ◌↔◌, ◌∷◌, [], ◌++◌, length, IsTrue, IfOk, OnOk, OnErr, IsErrOf, true, false, if◌then◌else◌};

@@ -1,3 +1,4 @@
+//! The forms in which a chart is written, and the call that writes one.
 use crate::html::{write_data, write_html};
 use crate::svg::write_svg;
 use crate::text::write_text;

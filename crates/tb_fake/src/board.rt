@@ -1,3 +1,4 @@
+//! The state of the sixteen outlets, which all ends of the lanes share.
 use crate::record::{Kind, Record};
 use sqlite_items::Items;
 use std::alloc::Global;

@@ -1,3 +1,4 @@
+//! The cues of inlets and the calls of outlets that must fail.
 ghost use Rattle.std.specs.Prelude.{◌≡◌, ◌==◌, IfOk, map};
 ghost use Rattle.std.specs.List.{filter};
 ghost use Rattle.tb_fake.specs.Fakes.{cues_on, fails_on};

@@ -1,3 +1,4 @@
+//! A clock without ticks that ends once all outlets are closed.
 ghost use Rattle.std.specs.Prelude.{◌≡◌, true};
 
 use crate::board::{Board, Sign};

@@ -1,3 +1,4 @@
+//! An inlet that gives its cues.
 ghost use Rattle.std.specs.Prelude.{◌≡◌, ◌≤◌, false, length, Some};
 ghost use Rattle.tb_edge.specs.Ends.{inlet_after, MayGive};
 ghost use Rattle.tb_fake.specs.Fakes.{IsGiving, IsNext, inlet_next, gave_by};

@@ -1,3 +1,4 @@
+//! An outlet with a capacity, which keeps what it takes and fails in given calls.
 ghost use Rattle.std.specs.Prelude.{◌≡◌, ◌≤◌, [], length, is_ok, IfOk};
 ghost use Rattle.tb_edge.specs.InMemory.{fails_at};
 ghost use Rattle.tb_fake.specs.Fakes.{taken_by, takes, outlet_with, outlet_after};

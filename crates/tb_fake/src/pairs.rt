@@ -1,3 +1,4 @@
+//! Sixteen lanes of fake ends, with a clock and records.
 ghost use Rattle.std.specs.Prelude.{◌≡◌, false, IfOk, map};
 ghost use Rattle.tb_fake.specs.Pairs.{all_lanes, fresh_pair};
 

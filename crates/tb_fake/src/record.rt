@@ -1,3 +1,4 @@
+//! What one outlet took, and its limits.
 use crate::board::Board;
 use sqlite_items::Items;
 use std::alloc::Global;

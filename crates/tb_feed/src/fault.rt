@@ -1,3 +1,4 @@
+//! The reasons why a text is no feed.
 ghost use Rattle.std.specs.Prelude.{◌≡◌};
 ghost use Rattle.tb_message.specs.Messages.{message_text};
 ghost use Rattle.tb_feed.specs.Lines.{feed_line};

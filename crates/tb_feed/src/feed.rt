@@ -1,3 +1,4 @@
+//! A feed: a list of inputs for a simulation.
 ghost use Rattle.std.specs.Prelude.{◌≡◌, ◌<◌, [], length, slice_get, IfOk, Some};
 ghost use Rattle.std.specs.List.{All};
 ghost use Rattle.tb_feed.specs.Feeds.{MayBeFed};

@@ -1,3 +1,4 @@
+//! Theorems about lines and texts of feeds.
 ghost use Rattle.std.specs.Prelude.{◌≡◌, ℕ, List};
 ghost use Rattle.tb_log.specs.declared.entry.Input.{Input};
 ghost use Rattle.tb_feed.specs.Feeds.{MayBeFed, Says, IsFeedOf, IsFirstBad};

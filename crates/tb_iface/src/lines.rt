@@ -1,3 +1,4 @@
+//! The lines that an act may send to a tool or take from it.
 ghost use Rattle.std.specs.Prelude.{◌≡◌, ◌∷◌, [], IsTrue, IfOk, codes, option_to_list, slice_get};
 ghost use Rattle.tb_bus.specs.Exchanges.{name_of};
 ghost use Rattle.tb_iface.specs.Interfaces.{hears, line, line_if, tells};

@@ -1,3 +1,4 @@
+//! The pattern of all values that an expression may have.
 ghost use Rattle.std.specs.Prelude.{◌≡◌, IfOk, map};
 ghost use Rattle.tb_func.specs.Fitting.{sort_of};
 ghost use Rattle.tb_iface.specs.Outlines.{may_be, may_be_sort, outline, slot_sort};

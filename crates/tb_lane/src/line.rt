@@ -1,3 +1,4 @@
+//! The line of a tool that a term is.
 ghost use Rattle.std.specs.Prelude.{◌≡◌};
 ghost use Rattle.tb_terms.specs.declared.term.Term.{out-Term};
 ghost use Rattle.tb_lane.specs.ToolLines.{are_within, only, value_line, event_line, connect_line, named_line, name_line, disconnect_line, line_by_name, line_of};

@@ -1,3 +1,4 @@
+//! The line of a tool that some bytes are.
 ghost use Rattle.std.specs.Prelude.{◌≢◌, IfOk, OnOk};
 ghost use Rattle.tb_log.specs.Shapes.{IsToolLineInShape};
 ghost use Rattle.tb_lane.specs.ToolLines.{IsToolLine};

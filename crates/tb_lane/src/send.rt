@@ -1,3 +1,4 @@
+//! The text of an item that is sent, and the call that sends it on an outlet.
 ghost use Rattle.std.specs.Prelude.{◌≡◌, ◌+◌, ◌^◌, ◌<◌, ◌≤◌, ◌++◌, [], ◌∷◌, true, false, OnOk, OnErr, vec_len, vec_capacity};
 ghost use Rattle.tb_edge.specs.Ends.{and_taken};
 ghost use Rattle.tb_edge.specs.Faults.{Rose};

@@ -1,3 +1,4 @@
+//! Lists whose memory serves again for messages.
 ghost use Rattle.std.specs.Prelude.{◌≡◌, [], IfOk};
 
 use std::alloc::Global;

@@ -1,3 +1,4 @@
+//! The result of a step: the terms in its entry of the log, and the bindings of its process.
 use tb_log::LabelKind;
 use tb_match::Binds;
 use tb_terms::Terms;

@@ -1,3 +1,4 @@
+//! Changes of the inboxes of processes, and the delivery of a note to each process that wants it.
 ghost use Rattle.std.specs.Prelude.{◌≡◌, ◌<◌, ◌≢◌, ℕ, List, length, map, true, IfOk, IsTrue, OnOk, OnErr, slice_get, slice_index, Some};
 ghost use Rattle.std.specs.List.{All};
 ghost use Rattle.tb_terms.specs.declared.term.Term.{Term};

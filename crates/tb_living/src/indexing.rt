@@ -1,3 +1,4 @@
+//! The marks of the living processes, and the index that holds them.
 ghost use Rattle.std.specs.Prelude.{◌≡◌, ◌≢◌, ◌++◌, ℕ, [], Bool, IfOk, OnOk, not, true, false};
 ghost use Rattle.std.specs.List.{All};
 ghost use Rattle.tb_index.specs.Indexes.{HasRoom, IsTurned};

@@ -1,3 +1,4 @@
+//! The actions for which a living process is ready.
 ghost use Rattle.std.specs.Prelude.{◌≡◌, ◌<◌, ◌++◌, ◌∷◌, ℕ, List, [], length, slice_get, IfOk, IsTrue, OnOk, OnErr, Some, is_some, option_and_then, option_map, true, false};
 ghost use Rattle.std.specs.List.{All};
 ghost use Rattle.std.specs.Option.{ForSome};

@@ -1,3 +1,4 @@
+//! The plans of bodies, and the processes with which a program starts.
 ghost use Rattle.std.specs.Prelude.{◌≡◌, ◌<◌, ◌+◌, ◌∷◌, ℕ, List, [], length, Some, IfOk, IsTrue, map, slice_get, true};
 ghost use Rattle.std.specs.Option.{ForSome};
 ghost use Rattle.std.specs.List.{All};

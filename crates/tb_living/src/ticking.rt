@@ -1,3 +1,4 @@
+//! A tick for all living processes.
 ghost use Rattle.std.specs.List.{All};
 ghost use Rattle.tb_living.specs.Ticking.{AreTicked, CanTick, HasTicked, IsBefore};
 

@@ -1,3 +1,4 @@
+//! The reasons why the file of a script has no program.
 use tb_script::ScriptFault;
 
 /// Why the file of a script gives no program.

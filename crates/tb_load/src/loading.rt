@@ -1,3 +1,4 @@
+//! The program of the script in a file.
 ghost use Rattle.std.specs.Prelude.{◌≡◌, ◌≤◌, [], ◌∷◌, IfOk, IfErr, Err};
 ghost use Rattle.tb_edge.specs.Faults.{Rose};
 ghost use Rattle.tb_script.specs.Findings.{IsFound, Program'};

@@ -1,3 +1,4 @@
+//! Theorems about what the seats of a shared bus see.
 ghost use Rattle.std.specs.Prelude.{◌≡◌, ◌≤◌, ◌++◌, List, length, true};
 ghost use Rattle.tb_log.specs.declared.entry.Entry.{Entry};
 ghost use Rattle.tb_core.specs.Cores.{CoreState, Call, entries_of};

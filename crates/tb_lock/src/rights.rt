@@ -1,3 +1,4 @@
+//! The rights of a seat, which permit its calls.
 ghost use Rattle.std.specs.Prelude.{◌≡◌, ◌↔◌, IsTrue};
 ghost use Rattle.tb_log.specs.Shapes.{IsLane};
 ghost use Rattle.tb_lock.specs.Rights.{AreAmong, all_rights, no_rights, lane_alone, reader_rights, writer_rights, stepper_rights, ticker_rights};

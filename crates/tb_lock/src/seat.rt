@@ -1,3 +1,4 @@
+//! A seat: the right to take part in a shared bus, and what its holder knows of the bus.
 use atomic_table::Badge;
 use std::marker::Model;
 

@@ -1,3 +1,4 @@
+//! A bus that threads share.
 ghost use Rattle.std.specs.Prelude.{◌≡◌, ◌<◌, [], IfOk, IfErr, false, true};
 ghost use Rattle.tb_log.specs.Shapes.{IsInputInShape, IsLane};
 ghost use Rattle.tb_core.specs.Cores.{HandIn, MakeStep, HandOut, IsStep};

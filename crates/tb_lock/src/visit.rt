@@ -1,3 +1,4 @@
+//! A visit inside the gate of a shared bus, for several successive turns.
 ghost use Rattle.std.specs.Prelude.{◌≡◌, true};
 ghost use Rattle.tb_core.specs.Cores.{MakeStep, IsStep};
 ghost use Rattle.tb_lock.specs.Rights.{has, right_to};

@@ -1,3 +1,4 @@
+//! Tests of bells, gates and yields, with threads.
 use std::sync::Wait;
 use std::sync::atomic::{AtomicU64, Ordering};
 use std::thread::{join, yield_now};

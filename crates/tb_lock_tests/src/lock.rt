@@ -1,3 +1,4 @@
+//! Tests of a shared bus, with threads.
 ghost use Rattle.std.specs.Prelude.{◌≡◌, ◌≤◌, IfOk};
 ghost use Rattle.tb_core.specs.Cores.{most_entries};
 ghost use Rattle.tb_lock.specs.Seats.{first_seat};

@@ -1,3 +1,4 @@
+//! Memory that serves again for each line that is read.
 ghost use Rattle.std.specs.Prelude.{◌≡◌, []};
 
 use std::alloc::Global;

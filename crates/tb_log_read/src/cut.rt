@@ -1,3 +1,4 @@
+//! Cuts of a list of bytes: at a separator, and before its last byte.
 ghost use Rattle.std.specs.Prelude.{◌≡◌, ◌≤◌, length};
 ghost use Rattle.tb_log_read.specs.Helpers.Cutting.{prefix, behind, without_last};
 

@@ -1,3 +1,4 @@
+//! The reasons why bytes are no text of a log.
 use std::alloc::{AllocError, AllocFailed};
 use tb_terms::NoMemory;
 

@@ -1,3 +1,4 @@
+//! The entry of one line, with its number.
 ghost use Rattle.std.specs.Prelude.{◌≡◌, ◌≤◌, ◌<◌, ◌^◌, ◌↔◌, ℕ, Some, IsTrue, IfOk, IfSome};
 ghost use Rattle.tb_log.specs.LogText.{entry_text};
 ghost use Rattle.tb_log.specs.Shapes.{InShape};

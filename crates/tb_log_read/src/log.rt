@@ -1,3 +1,4 @@
+//! The log of some bytes, line by line.
 ghost use Rattle.std.specs.Prelude.{◌≡◌, ◌<◌, ◌≤◌, ◌⊎◌, ◌++◌, ℕ, List, Ok, Err, length, take, IfOk, IfErr};
 ghost use Rattle.tb_log.specs.LogText.{log_text};
 ghost use Rattle.tb_log.specs.declared.entry.Entry.{Entry};

@@ -1,3 +1,4 @@
+//! The numbers and the places in a line.
 ghost use Rattle.std.specs.Prelude.{◌≡◌};
 ghost use Rattle.tb_log_read.specs.Helpers.Numbers.{number64, number32, number8, place_of};
 

@@ -1,3 +1,4 @@
+//! The search for the next part of a list, which ends at a comma outside brackets and strings.
 ghost use Rattle.std.specs.Prelude.{◌≡◌, ◌≤◌, ◌<◌, ◌+◌, ◌∷◌, length, IfSome};
 ghost use Rattle.std.specs.Option.{option_copied};
 ghost use Rattle.tb_log_read.specs.Helpers.Parts.{depth_of, after, plain_after, is_cut, part_len, parts, more_parts};

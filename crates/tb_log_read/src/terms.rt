@@ -1,3 +1,4 @@
+//! The terms in a line.
 ghost use Rattle.std.specs.Prelude.{◌≡◌, ◌↔◌, [], IsTrue, IfOk};
 ghost use Rattle.tb_read.specs.declared.fault.TermFault.{TermFault};
 ghost use Rattle.tb_log_read.specs.Helpers.Terms.{term_of, terms_of, label_terms};

@@ -1,3 +1,4 @@
+//! The bytes of a string whose escapes are decoded.
 ghost use Rattle.std.specs.Prelude.{◌≡◌, false, IfOk};
 ghost use Rattle.tb_log_read.specs.Helpers.Unescaping.{unescaped_from, letter_byte};
 

@@ -1,3 +1,4 @@
+//! The words that name kinds of steps and reasons of dropped inputs.
 ghost use Rattle.std.specs.Prelude.{◌≡◌};
 ghost use Rattle.std.specs.Str.{bytes_eq};
 ghost use Rattle.tb_log_read.specs.Helpers.Words.{kind_of, plain_kind, tool_or_down_kind, why_of};

@@ -1,3 +1,4 @@
+//! The entry of a line, by its words.
 ghost use Rattle.std.specs.Prelude.{◌≡◌, false, IfOk};
 ghost use Rattle.tb_log_read.specs.Helpers.Cutting.{behind, without_last};
 ghost use Rattle.tb_log_read.specs.Helpers.Unescaping.{unescaped_from};

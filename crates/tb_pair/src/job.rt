@@ -1,3 +1,4 @@
+//! The workers of a pipe, as jobs.
 ghost use Rattle.std.specs.Prelude.{◌≡◌, IfOk, IfErr, OnOk};
 ghost use Rattle.std.specs.List.{All};
 ghost use Rattle.tb_edge.specs.Faults.{Rose};

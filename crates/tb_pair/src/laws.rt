@@ -1,3 +1,4 @@
+//! Theorems about the pipe, the ticks and the seats of a pair.
 ghost use Rattle.std.specs.Prelude.{◌≡◌, ◌+◌, ◌++◌, ℕ, List, [], ◌∷◌, map, length, true, Option};
 ghost use Rattle.std.specs.List.{fold};
 ghost use Rattle.atomic_table.specs.Seated.{TableId};

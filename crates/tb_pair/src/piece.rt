@@ -1,3 +1,4 @@
+//! The pieces that a pipe carries.
 ghost use Rattle.std.specs.Prelude.{◌≡◌};
 ghost use Rattle.tb_terms.specs.Sizes.{IsWithinLimits};
 

@@ -1,3 +1,4 @@
+//! The worker that reads a pipe and delivers its terms to a bus as events.
 ghost use Rattle.std.specs.Prelude.{◌≡◌, ◌++◌, ◌∷◌, [], List, true, MatchOption};
 ghost use Rattle.rtrb.specs.Ring.{received, SameConsumer};
 ghost use Rattle.tb_lock.specs.Rights.{In, Out as Outs, has};

@@ -1,3 +1,4 @@
+//! The worker that delivers the ticks of one clock to two buses.
 ghost use Rattle.std.specs.Prelude.{◌≡◌, ◌+◌, ◌&&◌, ℕ, None, is_some, MatchOption};
 ghost use Rattle.tb_lock.specs.Seats.{SeatView};
 ghost use Rattle.tb_run.specs.Helpers.Ticking.{EndsAll};

@@ -1,3 +1,4 @@
+//! The worker that takes the items of a lane and sends their terms through a pipe.
 ghost use Rattle.std.specs.Prelude.{◌≡◌, true, MatchOption};
 ghost use Rattle.rtrb.specs.Ring.{sent, SameProducer};
 ghost use Rattle.tb_log.specs.Shapes.{IsOutInShape};

@@ -1,3 +1,5 @@
+//! The reasons why a pair or one of its buses ended.
+
 /// Why one bus of a pair ended.
 #[derive(Clone, Copy, Debug, PartialEq, Eq)]
 pub enum BusWhy {

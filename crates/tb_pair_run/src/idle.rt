@@ -1,3 +1,4 @@
+//! The job of the calling thread while a pair runs, which does nothing.
 use std::sync::Wait;
 use tb_edge::Job;
 

@@ -1,3 +1,4 @@
+//! The reasons why a pair didn't end well.
 use crate::status::{PairEdge, PairStatus};
 use tb_cli::WordFault;
 use tb_message::Message;

@@ -1,3 +1,4 @@
+//! The statuses with which the program of a pair ends.
 use tb_cli::WordFault;
 use tb_script::ScriptFault;
 

@@ -1,3 +1,4 @@
+//! The program of a pair, from its arguments to its status.
 ghost use Rattle.std.specs.Prelude.{◌≡◌, Err, Ok, IfErr, map, string_bytes, vec_len};
 ghost use Rattle.tb_cli.specs.Words.{asked_pair};
 ghost use Rattle.tb_cli.specs.Table.{IsPairWithin};

@@ -1,3 +1,4 @@
+//! The texts of processes, with the names of their bodies and the places of their atoms.
 use crate::write::{put, put_number};
 use tb_terms::{Ident, Items, NoMemory};
 

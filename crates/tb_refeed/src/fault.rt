@@ -1,3 +1,4 @@
+//! The reasons why a log gives no feed.
 use std::alloc::AllocError;
 use tb_log_read::LogFault;
 use tb_terms::NoMemory;

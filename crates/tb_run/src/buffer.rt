@@ -1,3 +1,4 @@
+//! A buffer with capacity for any line that is sent.
 ghost use Rattle.std.specs.Prelude.{◌≤◌, vec_capacity};
 ghost use Rattle.tb_lane.specs.Sending.{most_line_text};
 

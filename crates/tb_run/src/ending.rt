@@ -1,3 +1,4 @@
+//! The reason why a run ends, from those of its workers.
 ghost use Rattle.std.specs.Prelude.{◌≡◌};
 ghost use Rattle.std.specs.List.{list_any};
 ghost use Rattle.tb_run.specs.Reasons.{reason_of, of_log, of_ends, of_clock, is_no_memory, is_full_end};

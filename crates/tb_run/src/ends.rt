@@ -1,3 +1,5 @@
+//! The reasons why workers and runs end.
+
 /// Why a worker ended.
 #[derive(Clone, Copy, Debug, PartialEq, Eq)]
 pub enum WorkEnd {

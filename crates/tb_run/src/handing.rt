@@ -1,3 +1,4 @@
+//! Calls that deliver an input and wake the threads that may go on, and the stop after a rejected call.
 ghost use Rattle.std.specs.Prelude.{◌≡◌, true};
 ghost use Rattle.tb_log.specs.Shapes.{IsInputInShape};
 ghost use Rattle.tb_core.specs.Cores.{HandIn};

@@ -1,3 +1,4 @@
+//! Moves of lane ends and seats between pairs, works and workers.
 ghost use Rattle.std.specs.Prelude.{◌≡◌, ◌≤◌, ◌+◌, ◌++◌, [], ◌∷◌, length, List, map, vec_len, vec_capacity};
 ghost use Rattle.std.specs.List.{filter_map};
 ghost use Rattle.tb_run.specs.declared.worker.Work.{Work};

@@ -1,3 +1,4 @@
+//! The parts that all workers of a bus share.
 ghost use Rattle.std.specs.Prelude.{◌≡◌};
 
 use std::alloc::Global;

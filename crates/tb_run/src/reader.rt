@@ -1,3 +1,4 @@
+//! The worker that reads the inlet of a lane and delivers its items.
 ghost use Rattle.std.specs.Prelude.{◌≡◌, true, MatchOption};
 ghost use Rattle.tb_log.specs.Shapes.{IsLane};
 ghost use Rattle.tb_lock.specs.Rights.{In, has};

@@ -1,3 +1,4 @@
+//! The worker that makes the steps of a bus.
 ghost use Rattle.std.specs.Prelude.{◌≡◌, true, MatchOption};
 ghost use Rattle.tb_core.specs.Cores.{MakeStep, IsStep};
 ghost use Rattle.tb_lock.specs.Rights.{Steps as ToStep, has};

@@ -1,3 +1,4 @@
+//! The tick worker as a job.
 use crate::ends::WorkEnd;
 use crate::post::Post;
 use crate::ticker::tick_worker;

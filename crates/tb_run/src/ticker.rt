@@ -1,3 +1,4 @@
+//! The worker that delivers the ticks of a clock.
 ghost use Rattle.std.specs.Prelude.{◌≡◌, true, MatchOption};
 ghost use Rattle.tb_lock.specs.Rights.{Ticks as ToTick, has};
 ghost use Rattle.tb_run.specs.Workers.{TicksBus};

@@ -1,3 +1,4 @@
+//! The kinds of work, and a worker of a bus as a job.
 ghost use Rattle.tb_run.specs.Jobs.{IsReady, WorkDone};
 
 use crate::buffer::Buffer;

@@ -1,3 +1,4 @@
+//! The worker that writes the items of a lane to its outlet.
 ghost use Rattle.std.specs.Prelude.{◌≡◌, ◌≤◌, true, None, MatchOption, OnOk, OnErr, vec_capacity};
 ghost use Rattle.tb_log.specs.Shapes.{IsLane};
 ghost use Rattle.tb_lane.specs.Sending.{most_line_text};

@@ -1,3 +1,4 @@
+//! The check that a script is accepted, which makes no program.
 ghost use Rattle.std.specs.Prelude.{ℕ, List};
 ghost use Rattle.tb_body.specs.declared.body.Body.{Body};
 ghost use Rattle.tb_types.specs.Conditions.{Proper};

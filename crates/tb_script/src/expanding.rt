@@ -1,3 +1,4 @@
+//! The bodies of the processes of a script.
 ghost use Rattle.tb_types.specs.Conditions.{Proper};
 ghost use Rattle.tb_expand.specs.Faults.{HasNoCycle};
 ghost use Rattle.tb_script.specs.Helpers.Making.{HasBodies, MayHaveBodies};

@@ -1,3 +1,4 @@
+//! The reasons why a text has no program.
 ghost use Rattle.std.specs.Prelude.{◌≡◌};
 ghost use Rattle.tb_message.specs.Messages.{message_text};
 ghost use Rattle.tb_script.specs.Lines.{script_line};

@@ -1,3 +1,4 @@
+//! The program of a text.
 ghost use Rattle.std.specs.Prelude.{◌≡◌, ℕ, List};
 ghost use Rattle.tb_types.specs.Conditions.{Proper};
 ghost use Rattle.tb_script.specs.Loading.{HasLoaded};

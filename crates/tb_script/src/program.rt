@@ -1,3 +1,4 @@
+//! The program of a script whose names and bodies are known.
 ghost use Rattle.std.specs.Prelude.{◌≡◌, IfOk, map};
 ghost use Rattle.tb_types.specs.Conditions.{Proper};
 ghost use Rattle.tb_script.specs.Programs.{declared_tool};

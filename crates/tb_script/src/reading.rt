@@ -1,3 +1,4 @@
+//! The script that a text parses as.
 ghost use Rattle.std.specs.Prelude.{ℕ, List};
 ghost use Rattle.tb_script.specs.Helpers.Making.{HasOnlyTokens, HasReadScript};
 

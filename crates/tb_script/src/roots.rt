@@ -1,3 +1,4 @@
+//! The processes with which a script starts, with the values of their arguments.
 ghost use Rattle.std.specs.Prelude.{◌≡◌, ◌<◌, IfOk, IsSome, All, Some, map, length};
 ghost use Rattle.std.specs.List.{AllZip};
 ghost use Rattle.tb_types.specs.Values.{closed_value};

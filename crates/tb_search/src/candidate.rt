@@ -1,3 +1,4 @@
+//! The moves that a search finds.
 use tb_bus::Exchange;
 use tb_match::Binds;
 use tb_notes::Found;

@@ -1,3 +1,4 @@
+//! The check that a process may create another.
 ghost use Rattle.std.specs.Prelude.{◌≡◌};
 ghost use Rattle.tb_bus.specs.Effects.{may_create};
 

@@ -1,3 +1,4 @@
+//! A living process, and its offers that are ready for an action.
 use tb_bus::Action;
 use tb_index::Marks;
 use tb_notes::Inbox;

@@ -1,3 +1,5 @@
+//! The values that a bus keeps in addition to its processes.
+
 /// What a bus keeps beside its processes.
 #[derive(Clone, Copy, Debug, PartialEq, Eq)]
 pub struct Marks {

@@ -1,3 +1,4 @@
+//! The checks that values have the sorts of formals and slots.
 ghost use Rattle.std.specs.Prelude.{◌≡◌, slice_get};
 ghost use Rattle.tb_body.specs.Programs.{have_sorts};
 ghost use Rattle.tb_algebra.specs.Binds.{has_slot_sort};

@@ -1,3 +1,4 @@
+//! The processes that want a note.
 ghost use Rattle.std.specs.Prelude.{◌≡◌, IfOk};
 ghost use Rattle.tb_search.specs.Candidates.{wanting_if_room, rows_of};
 

@@ -1,3 +1,5 @@
+//! The ends and the progress of a simulation.
+
 /// How a simulation ended.
 #[derive(Clone, Copy, Debug, PartialEq, Eq)]
 pub enum SimEnd {

@@ -1,3 +1,4 @@
+//! Theorems about simulations and their logs.
 ghost use Rattle.std.specs.Prelude.{◌≡◌, ◌++◌, List};
 ghost use Rattle.std.specs.List.{All};
 ghost use Rattle.tb_log.specs.declared.entry.Input.{Input};

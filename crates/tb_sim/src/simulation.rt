@@ -1,3 +1,4 @@
+//! The simulation of a bus with a feed.
 ghost use Rattle.std.specs.Prelude.{◌≡◌, ◌&&◌, ◌==◌, ◌≤◌, [], drop, IfOk, IsSome, OnOk, OnErr, IsErrOf, false, None};
 ghost use Rattle.tb_bus.specs.Buses.{start};
 ghost use Rattle.tb_bus.specs.Steps.{steps as steps_of};

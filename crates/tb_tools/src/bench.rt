@@ -1,3 +1,4 @@
+//! The bench: the sixteen lanes with their tools.
 ghost use Rattle.std.specs.Prelude.{◌≡◌, ◌≤◌, ◌<◌, ◌+◌, ◌-◌, length, pos, IsTrue, IsSome, IfOk, OnOk, OnErr, Some, option_map, map, count_by};
 ghost use Rattle.std.specs.Option.{option_copied, ForSome};
 ghost use Rattle.tb_log.specs.Shapes.{IsLane, lane_count};

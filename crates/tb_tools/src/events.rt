@@ -1,3 +1,4 @@
+//! The events of one tool.
 ghost use Rattle.std.specs.Prelude.{◌≡◌, ◌<◌, [], ◌∷◌, ◌++◌, length, remove, slice_get, slice_index_or, IfOk, OnOk, OnErr, IfSome, Some};
 ghost use Rattle.std.specs.Option.{option_copied, ForSome};
 ghost use Rattle.std.specs.List.{position_from};

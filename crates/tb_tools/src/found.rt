@@ -1,3 +1,4 @@
+//! The results of searches for an event and for a tool.
 ghost use Rattle.std.specs.Prelude.{◌≡◌};
 ghost use Rattle.tb_tools.specs.Finding.{smaller};
 

@@ -1,3 +1,4 @@
+//! An item that is queued for sending, kept twice: for the tool and for the log.
 ghost use Rattle.std.specs.Prelude.{◌≡◌, IfOk};
 ghost use Rattle.tb_log.specs.declared.entry.Out.TheVariants.{End};
 

@@ -1,3 +1,4 @@
+//! A lane: its state, its tool and the items that are queued for sending.
 ghost use Rattle.std.specs.Prelude.{◌≡◌, ◌<◌, ◌+◌, ℕ, length, slice_get, option_map, IsSome, IfOk, OnOk, OnErr, Some, None, false, replicate, if◌then◌else◌};
 ghost use Rattle.std.specs.Option.{option_copied};
 ghost use Rattle.tb_log.specs.declared.entry.Out.{Out};

@@ -1,3 +1,4 @@
+//! The stages of a tool, its evaluation and the states of a lane.
 use tb_terms::Term;
 
 /// How far a tool is.

@@ -1,3 +1,4 @@
+//! The lines to a tool.
 ghost use Rattle.std.specs.Prelude.{◌≡◌, [], ◌∷◌, IsTrue, IfOk, codes, replicate};
 ghost use Rattle.tb_terms.specs.Names.{is_name};
 ghost use Rattle.tb_tools.specs.Acts.{tool_line, last_line};

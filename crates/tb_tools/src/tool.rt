@@ -1,3 +1,4 @@
+//! A tool on a lane.
 ghost use Rattle.std.specs.Prelude.{◌≡◌, ◌↔◌, ◌<◌, ◌++◌, ◌∷◌, [], ◌||◌, length, remove, pos, Some, IfOk, OnOk, OnErr, IsSome, IsTrue};
 ghost use Rattle.std.specs.Option.{option_copied};
 ghost use Rattle.tb_terms.specs.Same.{is_same_term};

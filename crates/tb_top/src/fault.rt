@@ -1,3 +1,4 @@
+//! The reasons why a command didn't end well.
 ghost use Rattle.std.specs.Prelude.{◌≡◌};
 ghost use Rattle.tb_message.specs.Messages.{message_text};
 ghost use Rattle.tb_top.specs.Lines.{bound_words, log_words};

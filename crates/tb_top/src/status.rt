@@ -1,3 +1,4 @@
+//! The statuses with which the program ends.
 use tb_cli::WordFault;
 use tb_feed::FeedFault;
 use tb_script::ScriptFault;

@@ -1,3 +1,4 @@
+//! The program `toolbus`, from its arguments to its status.
 ghost use Rattle.std.specs.Prelude.{◌≡◌, Err, Ok, map, string_bytes, vec_len};
 ghost use Rattle.tb_cli.specs.Words.{asked};
 ghost use Rattle.tb_cli.specs.Table.{IsWithin};

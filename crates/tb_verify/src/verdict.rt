@@ -1,3 +1,4 @@
+//! The verdict on a log, and the reasons why there is none.
 use tb_terms::NoMemory;
 
 /// The verdict on a log of a program.
