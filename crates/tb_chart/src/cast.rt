@@ -1,4 +1,4 @@
-//! What a script says of those who take part in a log.
+//! The definitions of a script whose processes and tools take part in a log.
 
 use tb_terms::{Ident, Name};
 

@@ -29,7 +29,7 @@ pub struct Chart<'a> {
 }
 
 /// Returns the chart of the entries in the span. The entries before it only say who is there. A fault names the first entry that
-/// speaks of a process or of a tool that isn't there.
+/// names a process or a tool that doesn't exist.
 pub fn chart_of<'a>(
     alloc: Global,
     cast: &Cast,

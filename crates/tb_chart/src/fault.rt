@@ -5,9 +5,9 @@ use tb_terms::NoMemory;
 /// Why there is no chart.
 #[derive(Clone, Copy)]
 pub enum ChartFault {
-    /// The first line, counted from 1, that speaks of a process or of a tool that isn't there.
+    /// The first line, counted from 1, that names a process or a tool that doesn't exist.
     Line(u64),
-    /// There wasn't memory enough; it says nothing of the log.
+    /// Out of memory. This says nothing of the log.
     NoMemory,
 }
 

@@ -1,4 +1,4 @@
-//! What becomes of a lane as a log goes on: enough to say which lane a tool is on.
+//! The state of a lane as a log goes on, as far as the lane of a tool depends on it.
 
 /// A lane.
 #[derive(Clone, Copy)]

@@ -1,4 +1,4 @@
-//! Message sequence charts: what a log says of processes and tools, as lifelines and rows.
+//! Message sequence charts: the processes and the tools of a log as lifelines, and its entries as rows.
 #![tactic(auto)]
 
 mod cast;

@@ -105,7 +105,7 @@ impl Lines {
     }
 }
 
-/// Puts where the lifeline of a process is.
+/// Sets where the lifeline of a process is.
 fn put_place(places: &mut Vec<Option<usize>>, number: u32, line: usize) -> Result<(), NoMemory> {
     for _ in places.len()..number as usize {
         places.push(None)?;

@@ -35,7 +35,7 @@ impl<'a> Scene<'a> {
         })
     }
 
-    /// Goes on by an entry. Returns whether those of whom the entry speaks are there.
+    /// Goes on by an entry. Returns whether the processes and tools that the entry names are there.
     pub(crate) fn follow(&mut self, entry: &Entry) -> Result<bool, NoMemory> {
         match entry {
             Entry::Did(label) => self.follow_step(label),

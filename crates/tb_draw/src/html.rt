@@ -67,7 +67,7 @@ fn push_bodies(cast: &Cast, into: &mut Vec<u8>) -> Result<(), NoMemory> {
     Ok(())
 }
 
-/// The first byte of each atom's token, and the one behind it.
+/// The first byte of each atom's token, and the byte after the token.
 fn push_sites(sites: &[Site], into: &mut Vec<u8>) -> Result<(), NoMemory> {
     push_text(b"[", into)?;
     for (index, site) in sites.iter().enumerate() {

@@ -66,7 +66,7 @@ fn word_of(entry: &Entry) -> &'static [u8] {
     }
 }
 
-/// How many words of an entry's line say its number, its kind, and who takes part.
+/// How many words of an entry's line give its number, its kind, and who takes part.
 fn skipped_words(entry: &Entry) -> usize {
     match entry {
         Entry::Did(label) => match label.kind {
@@ -80,7 +80,7 @@ fn skipped_words(entry: &Entry) -> usize {
     }
 }
 
-/// What is behind so many words of a line, each with its blank.
+/// The part of a line after so many words, each with its space.
 fn behind_words(line: &[u8], words: usize) -> &[u8] {
     let mut left = words;
     for (place, byte) in line.iter().enumerate() {
@@ -116,7 +116,7 @@ fn kind_name(cast: &Cast, kind: Option<u32>) -> &[u8] {
     }
 }
 
-/// Writes which process or which lane a lifeline is of. Where they stand close, a process has its number alone.
+/// Writes which process or which lane a lifeline is of. If lifelines are close, a process has only its number.
 pub(crate) fn push_head_place(
     chart: &Chart,
     spot: Spot,

@@ -1,6 +1,6 @@
 //! The page around the data of a chart: it draws the rows in sight, and answers keys and pointer.
 
-/// What comes before the data.
+/// The part of the page before the data.
 pub(crate) const PAGE_BEFORE: &[u8] = br##"<!DOCTYPE html>
 <html lang="en">
 <head>
@@ -74,7 +74,7 @@ svg g.hit text,svg g.on text{stroke:none}
 <footer id="status"></footer>
 <script id="data" type="application/json">"##;
 
-/// What comes behind them.
+/// The part of the page after the data.
 pub(crate) const PAGE_AFTER: &[u8] = br##"</script>
 <script>
 'use strict';

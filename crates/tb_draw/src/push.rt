@@ -27,7 +27,7 @@ pub(crate) fn push_number(number: u64, into: &mut Vec<u8>) -> Result<(), NoMemor
     Ok(())
 }
 
-/// Appends a text in which each `#` stands for the next of these numbers.
+/// Appends a text in which each `#` represents the next of these numbers.
 pub(crate) fn push_filled(
     text: &[u8],
     numbers: &[usize],
@@ -52,7 +52,7 @@ fn push_nth(numbers: &[usize], index: usize, into: &mut Vec<u8>) -> Result<(), N
     }
 }
 
-/// Appends so many blanks.
+/// Appends so many spaces.
 pub(crate) fn push_blanks(count: usize, into: &mut Vec<u8>) -> Result<(), NoMemory> {
     for _ in 0..count {
         into.push(b' ')?;
@@ -68,7 +68,7 @@ pub(crate) fn push_formed(form: Form, text: &[u8], into: &mut Vec<u8>) -> Result
     Ok(())
 }
 
-/// Appends a text in this form. If it has more characters than this, a sign stands for the last of them.
+/// Appends a text in this form. If it has more characters than this, a sign represents the last of them.
 pub(crate) fn push_short(
     form: Form,
     most: usize,

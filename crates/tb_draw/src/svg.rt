@@ -1,4 +1,4 @@
-//! A chart as SVG: time goes down, and what an arrow means is told by its line and its tip, so that no colour is needed.
+//! A chart as SVG: time goes down. The line and the tip of an arrow show its meaning, so no colour is needed.
 
 use crate::label::{Texts, head_name, push_head_place};
 use crate::push::{Form, chars, push_filled, push_formed, push_number, push_short, push_text};
@@ -94,7 +94,7 @@ pub(crate) fn write_svg(
     push_text(b"</svg>\n", into)
 }
 
-/// The distance between lifelines: the more there are, the closer they stand.
+/// The distance between lifelines: the more there are, the closer they are.
 fn step_of(columns: usize) -> usize {
     match columns {
         0..=12 => 150,
@@ -103,7 +103,7 @@ fn step_of(columns: usize) -> usize {
     }
 }
 
-/// Whether so many lifelines stand so close that less is written at them.
+/// Whether so many lifelines are so close that less is written at them.
 pub(crate) fn is_narrow(columns: usize) -> bool {
     columns > 12
 }
@@ -375,7 +375,7 @@ fn line_class(kind: ArrowKind) -> &'static [u8] {
     }
 }
 
-/// The tip of an arrow: what waits for an answer or is taken at once has a full one.
+/// The tip of an arrow. The tip of a message, a question or a note is filled.
 fn tip_of(kind: ArrowKind, is_rightward: bool) -> &'static [u8] {
     match (kind, is_rightward) {
         (ArrowKind::Message | ArrowKind::Question | ArrowKind::Note, true) => {

@@ -1,4 +1,4 @@
-//! A chart for a terminal: a line for each row, with its text behind the lifelines.
+//! A chart for a terminal: a line for each row, with its text after the lifelines.
 
 use crate::label::{Texts, head_name, push_head_place};
 use crate::push::{Form, chars, push_blanks, push_number, push_short, push_text};
@@ -187,7 +187,7 @@ fn push_places(
     push_line(sheet, into)
 }
 
-/// Appends a text in the middle of its column. If it is too long, a sign stands for its end.
+/// Appends a text in the middle of its column. If it is too long, a sign represents its end.
 fn push_centred(
     ruler: Ruler,
     column: usize,
@@ -241,7 +241,7 @@ fn push_row(
     push_text(b" ", into)
 }
 
-/// Puts a byte at a position, if it is within the line.
+/// Writes a byte at a position, if it is within the line.
 fn put(line: &mut Vec<u8>, at: usize, byte: u8) {
     if let Some(place) = line.get_mut(at) {
         *place = byte;
@@ -254,7 +254,7 @@ fn put_all(line: &mut Vec<u8>, from: usize, to: usize, byte: u8) {
     }
 }
 
-/// Puts an arrow between two lifelines, or a mark on one.
+/// Writes an arrow between two lifelines, or a mark on one.
 fn put_arrow(figure: Figure, from: usize, to: usize, line: &mut Vec<u8>) {
     let byte = line_byte(figure);
     if from < to {

@@ -40,7 +40,7 @@ static RESULTS: [(&str, &str); 3] = [
     ),
 ];
 
-/// The text beside this word in a table.
+/// The text of this word in a table.
 fn text_of(
     table: &'static [(&'static str, &'static str)],
     word: &[u8],
@@ -139,7 +139,7 @@ pub(crate) fn say_not_result(said: &mut Said, token: usize) {
     );
 }
 
-/// Says that a variable with `?` or a placeholder stands where nothing is taken or matched.
+/// Says that a variable with `?` or a placeholder is where nothing is taken or matched.
 pub(crate) fn say_misplaced(said: &mut Said, token: usize) {
     let source = said.source;
     let text = source.word(token);

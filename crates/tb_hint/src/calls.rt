@@ -41,7 +41,7 @@ fn say_calls(said: &mut Said, script: &Script, names: &[Ident]) {
     }
 }
 
-/// The name behind the one at this position, or the first.
+/// The name after the one at this position, or the first.
 fn name_behind(names: &[Ident], position: usize) -> &[u8] {
     match at(names, position.saturating_add(1)) {
         Some(next) => next.as_bytes(),

@@ -1,10 +1,10 @@
-//! The sentence about an expression that doesn't fit where it stands.
+//! The sentence about an expression that doesn't fit its place.
 
 use crate::given::say_given;
 use crate::said::Said;
 use crate::wanted::say_wanted;
 
-/// Says what is asked for at this token, and what stands there.
+/// Says what is expected at this token, and what is there.
 pub(crate) fn say_clash(said: &mut Said, token: usize) {
     say_wanted(said, token);
     said.say(", but ", &[]);

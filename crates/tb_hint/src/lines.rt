@@ -19,7 +19,7 @@ pub(crate) fn push_marked(text: &[u8], mark: Mark, into: &mut Vec<u8>) -> Result
     Ok(())
 }
 
-/// What stands behind the last newline.
+/// The part after the last newline.
 fn last_line(bytes: &[u8]) -> &[u8] {
     for position in (0..bytes.len()).rev() {
         if bytes[position] == b'\n' {
@@ -29,7 +29,7 @@ fn last_line(bytes: &[u8]) -> &[u8] {
     bytes
 }
 
-/// What stands before the first newline.
+/// The part before the first newline.
 fn first_line(bytes: &[u8]) -> &[u8] {
     for (position, byte) in bytes.iter().enumerate() {
         if *byte == b'\n' {
@@ -55,7 +55,7 @@ fn shown(byte: u8) -> u8 {
     }
 }
 
-/// Adds blanks that take as many columns as the text: a tab for a tab, two blanks for a wide character.
+/// Adds whitespace that takes as many columns as the text: a tab for a tab, two spaces for a wide character.
 fn push_blanks(bytes: &[u8], into: &mut Vec<u8>) -> Result<(), NoMemory> {
     match str::from_utf8(bytes) {
         Ok(text) => push_text_blanks(text, into),

@@ -36,7 +36,7 @@ pub fn message_text(
     Ok(lines)
 }
 
-/// All that stands behind the place.
+/// All that follows the place.
 fn rest_of(alloc: Global, name: &str, text: &[u8], point: &Point) -> Result<Vec<u8>, NoMemory> {
     match lex(alloc, text) {
         Ok(tokens) => rest_by(alloc, name, text, &tokens, point),

@@ -16,7 +16,7 @@ pub(crate) struct Near<'a> {
     name: &'a [u8],
     best: &'a [u8],
     distance: usize,
-    /// Whether memory was lacking for a comparison.
+    /// Whether memory ran out at a comparison.
     lacks: bool,
 }
 

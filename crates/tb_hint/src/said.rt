@@ -14,9 +14,9 @@ pub(crate) struct Said<'a> {
     pub alloc: Global,
     pub source: Source<'a>,
     pub sentence: Vec<u8>,
-    /// The lines behind the sentence and its mark.
+    /// The lines after the sentence and its mark.
     pub rest: Vec<u8>,
-    /// Whether memory was lacking for a piece.
+    /// Whether memory ran out at a piece.
     pub lacks: bool,
 }
 

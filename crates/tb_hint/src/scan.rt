@@ -1,4 +1,4 @@
-//! What stands round a token: what it is an argument of, and what is defined and declared there.
+//! The surroundings of a token: what it is an argument of, and what is defined and declared there.
 
 use crate::source::{Source, is_upper};
 
@@ -30,7 +30,7 @@ pub(crate) fn head_of(source: &Source, token: usize) -> Option<Head> {
     None
 }
 
-/// How many arguments stand behind this token.
+/// How many arguments follow this token.
 pub(crate) fn count_arguments(source: &Source, token: usize) -> usize {
     if !source.is(token.saturating_add(1), "(") {
         return 0;
@@ -106,7 +106,7 @@ pub(crate) fn is_result(source: &Source, parameter: usize) -> bool {
     source.is(type_end(source, parameter), "?")
 }
 
-/// The token behind the type of the name at this token.
+/// The token after the type of the name at this token.
 fn type_end(source: &Source, declared: usize) -> usize {
     let mut depth: usize = 0;
     for position in declared.saturating_add(2)..source.tokens.len() {

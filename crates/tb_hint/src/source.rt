@@ -12,7 +12,7 @@ pub(crate) struct Source<'a> {
 }
 
 impl<'a> Source<'a> {
-    /// The text of a token; nothing behind all tokens.
+    /// The text of a token. After all tokens it is empty.
     pub(crate) fn word(&self, token: usize) -> &'a [u8] {
         match at(self.tokens, token) {
             Some(token) => between(self.text, token.from, token.to),

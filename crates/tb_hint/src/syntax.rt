@@ -16,15 +16,15 @@ static CANDIDATES: [&str; 40] = [
     "}", ",", ".", ":", ":=", "=", "?", "+", "*", "||", ">>", "<", ">", "list", "bool",
 ];
 
-/// What stands in place of a whole process where one may begin.
+/// The tokens with which a process may begin. One name represents them.
 static PROCESS: [&str; 6] = ["tau", "create", "X", "(", "let", "if"];
 
-/// What stands in place of an expression where one may begin.
+/// The tokens with which an expression may begin. One name represents them.
 static EXPRESSION: [&str; 13] = [
     "0", "\"\"", "x", "X", "[", "<", "tau", "delay", "int", "list", "bool", "command", "create",
 ];
 
-/// What stands in place of a name or a type where one may stand.
+/// The tokens that a name or a type may be. One name represents them.
 static NAME: [&str; 8] = [
     "x", "tau", "delay", "int", "list", "bool", "command", "create",
 ];
@@ -69,7 +69,7 @@ enum Reading {
     Broken,
 }
 
-/// Says what may come at these bytes, and what stands there.
+/// Says what may come at these bytes, and what is there.
 pub(crate) fn say_syntax(said: &mut Said, mark: Mark) {
     let text = said.source.text;
     let prefix = between(text, 0, mark.from);
@@ -145,7 +145,7 @@ fn say_found<'a>(said: &mut Said<'a>, expected: &[&'static str], found: &'a [u8]
     say_help(said, expected, found);
 }
 
-/// The candidates that may come behind the tokens of this text.
+/// The candidates that may come after the tokens of this text.
 fn expected_behind(alloc: Global, prefix: &[u8]) -> Result<Items<&'static str>, NoMemory> {
     let mut expected = Items::new(alloc);
     for candidate in CANDIDATES.as_slice() {
@@ -212,7 +212,7 @@ fn begins_process(expected: &[&'static str]) -> bool {
     has(expected, "tau") && !has(expected, "x")
 }
 
-/// A construct that may begin here, and the candidates for which it stands.
+/// A construct that may begin here, and the candidates that it represents.
 #[derive(Clone, Copy)]
 struct Construct {
     name: &'static str,

@@ -1,4 +1,4 @@
-//! What is asked of an expression where it stands.
+//! What is expected of an expression at its place.
 
 use crate::arguments::signature_of;
 use crate::said::Said;
@@ -6,7 +6,7 @@ use crate::scan::{Head, declaration_of, definition_of, head_of, is_result, param
 use crate::source::is_upper;
 use tb_func::Shape;
 
-/// What an argument of an atom or of a time is asked for: its word, the argument's number from 0, and a sentence.
+/// What is expected of an argument of an atom or of a time: its word, the argument's number from 0, and a sentence.
 /// Its `%` are the word and the first argument.
 static WANTED: [(&str, usize, &str); 15] = [
     ("printf", 0, "the format of `%` must be a str"),
@@ -43,7 +43,7 @@ fn wanted_by(word: &[u8], argument: usize) -> Option<&'static str> {
     None
 }
 
-/// Says what is asked of the expression that begins at this token.
+/// Says what is expected of the expression that begins at this token.
 pub(crate) fn say_wanted(said: &mut Said, token: usize) {
     let source = said.source;
     if source.has_before(token, 1, ":=") {

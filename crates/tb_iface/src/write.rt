@@ -133,7 +133,7 @@ fn push_type(sort: &Sort, into: &mut Vec<u8>) -> Result<(), NoMemory>
     }
 }
 
-/// The type of lists whose members have this sort.
+/// The type of lists whose members have this type.
 #[cycle(types)]
 fn push_list_type(members: &Sort, into: &mut Vec<u8>) -> Result<(), NoMemory>
     ensures ok { OnOk result

@@ -1,4 +1,4 @@
-//! `at`: what is wrong with scripts, and where.
+//! `at`: the error of each script, and its place.
 ghost use Rattle.std.specs.Prelude.{◌≡◌, ℕ, List, [], Option, None, IfOk, map};
 ghost use Rattle.tb_point.specs.Points.{BeginsWithPlace, IsPoint};
 ghost use Rattle.tb_lens.specs.Told.{AtOutcome, IsLoaded, Says, TellsOf, TellsOfAll};
@@ -11,11 +11,11 @@ use tb_point::{Point, find_fault};
 use tb_script::ScriptFault;
 use tb_terms::NoMemory;
 
-/// A longer file of a script is refused.
+/// A longer file of a script is rejected.
 pub(crate) const MOST_BYTES: usize = 1_048_576;
 
-/// Tells what is wrong with the scripts in the files of these names, and where. Where a file can't be read,
-/// nothing is told of any.
+/// Reports the error of each script in the files of these names, and its place. If a file can't be read, the call
+/// writes nothing.
 #[tactic(auto, using(crate::proofs::Tellings::outcome))]
 pub fn tell_at<F: Files, O: Sink>(
     alloc: Global,
@@ -33,7 +33,7 @@ pub fn tell_at<F: Files, O: Sink>(
     }
 }
 
-/// The status of this text: whether anything is told.
+/// The status of this text: whether an error is reported.
 fn status_of(text: &[u8]) -> Status
     ensures { Says text.now result }
 {
@@ -43,7 +43,7 @@ fn status_of(text: &[u8]) -> Status
     Status::Found
 }
 
-/// What is told of the scripts, in their order.
+/// The reports on the scripts, in their order.
 fn tell_all<F: Files>(alloc: Global, scripts: &[&str], files: &mut F) -> Result<Vec<u8>, Trouble>
     ensures tells { IfOk result (λ text. TellsOfAll (F.held files.old)
         (map (λ name. name.now) scripts.now) text.items) }
@@ -59,7 +59,7 @@ fn tell_all<F: Files>(alloc: Global, scripts: &[&str], files: &mut F) -> Result<
     }
 }
 
-/// What is told of the script in the file of this name: nothing if it is accepted.
+/// The report on the script in the file of this name: empty if the script is accepted.
 fn tell<F: Files>(alloc: Global, name: &str, files: &mut F) -> Result<Vec<u8>, Trouble>
     ensures tells { IfOk result (λ text. TellsOf (F.held files.old name.now) name.now text.items) }
     ensures held { F.held files.new ≡ F.held files.old }
@@ -72,7 +72,7 @@ fn tell<F: Files>(alloc: Global, name: &str, files: &mut F) -> Result<Vec<u8>, T
     }
 }
 
-/// What is told of a script with these bytes.
+/// The report on a script with these bytes.
 fn tell_bytes(alloc: Global, name: &str, bytes: &[u8]) -> Result<Vec<u8>, NoMemory>
     ensures { IfOk result (λ text. (told : Option (List ℕ)) → IsLoaded told bytes.now
         → TellsOf told name.now text.items) }
@@ -84,7 +84,7 @@ fn tell_bytes(alloc: Global, name: &str, bytes: &[u8]) -> Result<Vec<u8>, NoMemo
     }
 }
 
-/// What is told of a script with these bytes, which has this fault.
+/// The report on a script with these bytes, which has this fault.
 fn tell_point(alloc: Global, name: &str, bytes: &[u8], found: &Point) -> Result<Vec<u8>, NoMemory>
     requires { IsPoint bytes.now found.now }
     ensures { IfOk result (λ text. (told : Option (List ℕ)) → IsLoaded told bytes.now
@@ -93,7 +93,7 @@ fn tell_point(alloc: Global, name: &str, bytes: &[u8], found: &Point) -> Result<
     message_text(alloc, name, bytes, found)
 }
 
-/// What is told of a file with so many bytes, too many for a script.
+/// The report on a file with so many bytes, too many for a script.
 fn tell_long(alloc: Global, name: &str, len: usize) -> Result<Vec<u8>, NoMemory>
     ensures { IfOk result (λ text. BeginsWithPlace name.now [] None text.items) }
 {

@@ -12,7 +12,7 @@ use tb_log::Entry;
 use tb_log_read::{LogFault, read_log};
 use tb_script::ScriptFault;
 
-/// What a chart is asked for.
+/// The requested chart.
 #[derive(Clone, Copy)]
 pub struct ChartRequest<'a> {
     pub script: &'a str,
@@ -45,7 +45,7 @@ pub fn tell_chart<F: Files, O: Sink, E: Sink>(
     }
 }
 
-/// Tells with which line a log goes wrong.
+/// Reports the line at which a log goes wrong.
 fn tell_line<E: Sink>(
     alloc: Global,
     log: &str,
@@ -94,7 +94,7 @@ fn drawn_entries(
     Ok(text)
 }
 
-/// What is behind the last slash.
+/// The part after the last slash.
 fn file_name(path: &[u8]) -> &[u8] {
     let mut start: usize = 0;
     for (place, byte) in path.iter().enumerate() {

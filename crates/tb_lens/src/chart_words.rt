@@ -1,4 +1,4 @@
-//! What the words of the command line after `chart` ask for.
+//! The request of the arguments after `chart`.
 
 use crate::chart::ChartRequest;
 use clap::{Arg, ArgAction, ArgMatches, Command, value_parser};
@@ -53,7 +53,7 @@ fn connect_option<'a>(alloc: Global) -> Arg<'a> {
         .help("A command with which the bus began, as given to toolbus. The option can be repeated")
 }
 
-/// What the words of `chart` ask for.
+/// Returns what the arguments of `chart` request.
 pub(crate) fn chart_request<'a>(asked: &ArgMatches<'a>) -> ChartRequest<'a> {
     let from = asked.get_one::<u64>("from");
     let to = asked.get_one::<u64>("to");

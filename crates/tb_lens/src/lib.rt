@@ -1,4 +1,4 @@
-//! The whole of `toolbus_lens`, from the words of the command line on: a module for each command.
+//! The whole of `toolbus_lens`, from its arguments on: a module for each command.
 #![tactic(auto)]
 
 mod at;

@@ -10,7 +10,7 @@ use tb_place::all_places;
 use tb_plain::Names;
 use tb_script::{ScriptFault, load};
 
-/// A longer file of a log is refused.
+/// A longer file of a log is rejected.
 const MOST_LOG_BYTES: usize = 67_108_864;
 
 /// A script that was read.

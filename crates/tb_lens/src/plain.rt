@@ -8,7 +8,7 @@ use std::alloc::Global;
 use tb_edge::{Files, Sink};
 use tb_plain::Plain;
 
-/// Reads a log of a script line by line, and writes for each line what it tells people.
+/// Reads a log of a script line by line, and writes each line for people.
 pub fn tell_plain<F: Files, I: Source, O: Sink>(
     alloc: Global,
     script: &str,

@@ -1,4 +1,4 @@
-//! What the words of the command line ask for.
+//! The commands that the arguments request.
 
 use crate::at::tell_at;
 use crate::chart::tell_chart;
@@ -12,8 +12,8 @@ use clap::{Arg, ArgAction, Command, Error};
 use std::alloc::{AllocError, Global};
 use tb_edge::{Failed, Files, Sink};
 
-/// Does what the words ask for, of which the first is the name of the program. What it tells goes to `out`; what
-/// keeps it from telling goes to `err`.
+/// Does what the arguments request, of which the first is the name of the program. Results go to `out`, and the reason
+/// why there are none goes to `err`.
 pub fn lens<F: Files, I: Source, O: Sink, E: Sink>(
     alloc: Global,
     words: &[String],
@@ -95,7 +95,7 @@ fn answer<F: Files, I: Source, O: Sink, E: Sink>(
     }
 }
 
-/// Tells the help or the version, or what is wrong with the words.
+/// Writes the help or the version, or what is wrong with the arguments.
 fn tell_usage<O: Sink, E: Sink>(
     alloc: Global,
     error: &Error,
@@ -116,7 +116,7 @@ fn tell_usage<O: Sink, E: Sink>(
     }
 }
 
-/// Puts the line of what failed. Nothing is to be done where that fails too.
+/// Writes the line of a failure. If the write fails too, nothing more is done.
 fn report<E: Sink>(trouble: &Trouble, err: &mut E) -> Status {
     let _ = err.put(b"toolbus_lens: ");
     let _ = match trouble {
@@ -137,7 +137,7 @@ fn report<E: Sink>(trouble: &Trouble, err: &mut E) -> Status {
     Status::Trouble
 }
 
-/// A text with a name behind it.
+/// A text with a name after it.
 fn put_named<E: Sink>(before: &[u8], name: &str, err: &mut E) -> Result<(), Failed> {
     err.put(before)?;
     err.put(name.as_bytes())

@@ -3,9 +3,9 @@
 use crate::status::Trouble;
 use std::io::BufRead;
 
-/// What a log is read from, line by line.
+/// The source of a log, which is read line by line.
 pub trait Source {
-    /// Appends the next line, with its newline if it has one. Returns `false` where none is left.
+    /// Appends the next line, with its newline if it has one. Returns `false` if none is left.
     fn line(&mut self, into: &mut Vec<u8>) -> Result<bool, Trouble>;
 }
 

@@ -6,11 +6,11 @@ use tb_terms::NoMemory;
 /// How a call of the program ended.
 #[derive(Clone, Copy, Debug, PartialEq, Eq)]
 pub enum Status {
-    /// There was nothing to complain of.
+    /// There is nothing to complain about.
     Fine,
-    /// Something is wrong with what was looked at, and was said.
+    /// An error in an input was found and reported.
     Found,
-    /// The words ask for nothing that can be done, or something failed.
+    /// The arguments request nothing that can be done, or something failed.
     Trouble,
 }
 
@@ -41,7 +41,7 @@ pub enum Trouble {
     Script(String),
     /// The standard input could not be read.
     Input,
-    /// What was to be written could not be.
+    /// The output could not be written.
     Out,
     NoMemory,
 }

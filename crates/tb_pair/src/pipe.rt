@@ -40,8 +40,8 @@ impl<'a> PipeIn<'a> {
     ghost use Rattle.rtrb.specs.Ring.{SameProducer};
     ghost use Rattle.tb_pair.specs.Helpers.Pipes.{Puts};
 
-    /// Puts a piece in. While the ring is full, it sleeps on a bell of its own bus. If the reader has ended, it drops this piece and each
-    /// later one. `heard` is the last known count of rings of this bell, 0 at first.
+    /// Sends a piece. While the ring is full, the call sleeps on a bell of its own bus. If the reader has ended, the call drops this
+    /// piece and each later one. `heard` is the last known count of rings of this bell, 0 at first.
     pub(crate) fn put<R: Wait>(&mut self, rt: &R, bells: &Bells, heard: &mut u64, piece: Piece)
         ensures ring { SameProducer self.old.end self.new.end }
         ensures put { Puts self.old self.new piece }

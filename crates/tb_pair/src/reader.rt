@@ -21,7 +21,7 @@ use tb_run::{Post, WorkEnd, refused, stop};
 /// Names the tool of lane 1 `pipe`, and delivers each received term as an event of this tool. If nothing more comes, the worker
 /// delivers a disconnect request. Meanwhile it takes the items that are queued on the lane, and drops them. It reads until nothing
 /// more comes, or until the bus drops an input because the bus has shut down. The worker ends if it no longer reads, the bus has
-/// shut down, and nothing is left in the lane's queue. It also ends if a call of the bus is refused or memory runs out.
+/// shut down, and nothing is left in the lane's queue. It also ends if a call of the bus is rejected or memory runs out.
 pub fn pipe_reader<'a, W: Walker, R: Wait>(
     rt: &R,
     post: &Post<W>,
@@ -125,7 +125,7 @@ pub(crate) enum Taken {
     Nothing,
     /// Nothing was there, and the bus has shut down.
     Closed,
-    /// The call was refused.
+    /// The call was rejected.
     Ends(WorkEnd),
 }
 

@@ -24,7 +24,7 @@ pub struct TickedBus<'a, W: Walker> {
 }
 
 /// Delivers each tick of a clock to two buses, first to the one and then to the other, at most `ticks` of them. Then it reports to
-/// each that no more come. A bus that has shut down or has refused a tick receives no more. Returns why each has ended.
+/// each that no more come. A bus that has shut down or has rejected a tick receives no more. Returns why each has ended.
 pub fn pair_ticker<'a, W: Walker, R: Wait, C: Clock>(
     rt: &R,
     one: &mut TickedBus<'a, W>,

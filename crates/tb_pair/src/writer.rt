@@ -20,7 +20,7 @@ use tb_log::Out;
 use tb_run::{Post, WorkEnd, refused, wait_for_call};
 
 /// Names the tool of lane 1 `pipe`, and sends the term of each `rec-do` line of this tool through the pipe. The worker ends if the
-/// bus has shut down and nothing is left in the lane's queue, or if a call of the bus is refused, or if memory runs out. Then it
+/// bus has shut down and nothing is left in the lane's queue, or if a call of the bus is rejected, or if memory runs out. Then it
 /// sends that nothing more comes. If the reader has ended, the worker still takes the queued items, but sends nothing more.
 pub fn pipe_writer<'a, W: Walker, R: Wait>(
     rt: &R,
@@ -60,7 +60,7 @@ fn write_all<'a, W: Walker, R: Wait>(
     }
 }
 
-/// Takes items and passes their terms on, until the bus has shut down and nothing is left, or a call is refused.
+/// Takes items and passes their terms on, until the bus has shut down and nothing is left, or a call is rejected.
 fn write_on<'a, W: Walker, R: Wait>(
     rt: &R,
     post: &Post<W>,

@@ -1,4 +1,4 @@
-//! The jobs of a pair: put into one list, and taken apart again.
+//! The jobs of a pair: joined to one list, and taken apart again.
 ghost use Rattle.std.specs.Prelude.{◌≡◌, ◌≤◌, ◌+◌, ◌++◌, [], map, length, vec_len, vec_capacity};
 ghost use Rattle.tb_pair_run.specs.Helpers.Teams.{AreOthers, IsTeam, jobs_of, others_of};
 
@@ -6,10 +6,10 @@ use std::vec::IntoIter;
 use tb_algebra::Walker;
 use tb_pair::{PairJob, PipeReading, PipeWriting};
 
-/// How many workers of lanes 2 to 16 a bus has, the stepper among them.
+/// How many workers of lanes 2 to 16 a bus has, with its stepper.
 pub(crate) const WORKERS: usize = 31;
 
-/// Puts all jobs into one list: the two of the pipe, and the workers of both buses.
+/// Joins all jobs to one list: the two of the pipe, and the workers of both buses.
 pub(crate) fn put_together<'a, W: Walker, J: Drop>(
     writing: PipeWriting<'a, W>,
     reading: PipeReading<'a, W>,

@@ -1,4 +1,4 @@
-//! A crew does all jobs of a pair beside each other.
+//! The calls in which a crew does all jobs of a pair concurrently.
 ghost use Rattle.std.specs.Prelude.{◌≡◌, ◌≤◌, ◌++◌, [], None, MatchOption, IfOk, IfErr, OnOk, length, vec_capacity};
 ghost use Rattle.std.specs.List.{All};
 ghost use Rattle.tb_edge.specs.Faults.{Rose};
@@ -20,7 +20,7 @@ use tb_lock::Seat;
 use tb_pair::{PairJob, PipeReading, PipeWriting, TickedBus, beside};
 use tb_run::{RunWhy, WorkEnd, Worker, taken_back};
 
-/// The jobs of a pair, but for the ticker.
+/// The jobs of a pair, except the ticker.
 #[derive(Drop)]
 pub(crate) struct Crowd<'a, W: Walker, I, O> {
     pub(crate) writing: PipeWriting<'a, W>,
@@ -31,7 +31,7 @@ pub(crate) struct Crowd<'a, W: Walker, I, O> {
     pub(crate) others: Vec<Worker<'a, W, I, O>>,
 }
 
-/// What the ticker leaves.
+/// The seats of the ticker after its work, and why it ended at each bus.
 #[derive(Drop)]
 pub(crate) struct Ticked {
     pub(crate) seat: Seat,
@@ -40,7 +40,7 @@ pub(crate) struct Ticked {
     pub(crate) others_end: WorkEnd,
 }
 
-/// What comes back. Where there was no crew, `failed` says why.
+/// The jobs after their work. If there was no crew, `failed` says why.
 #[derive(Drop)]
 pub(crate) struct Back<'a, W: Walker, I, O> {
     pub(crate) failed: Option<RunWhy>,
@@ -48,7 +48,7 @@ pub(crate) struct Back<'a, W: Walker, I, O> {
     pub(crate) ticked: Ticked,
 }
 
-/// What takes the jobs together, and the workers once they come back.
+/// The lists for the joined jobs, and for the workers once they come back.
 #[derive(Drop)]
 pub(crate) struct Lists<'a, W: Walker, I, O> {
     pub(crate) jobs: Vec<PairJob<'a, W, Worker<'a, W, I, O>>>,
@@ -59,7 +59,7 @@ pub(crate) struct Lists<'a, W: Walker, I, O> {
     ghost for_others: { (others.items ≡ []) × (31 ≤ vec_capacity others) },
 }
 
-/// Puts the jobs together, has them done, and takes them apart again.
+/// Joins the jobs, lets the crew do them, and takes them apart again.
 pub(crate) fn work<
     'a,
     W: Walker + Send,
@@ -108,7 +108,7 @@ where
         × ((result.ticked.seat ≡ one.entry.seat) × (result.ticked.others_seat ≡ other.entry.seat)
         × (C.told clock.new ≡ C.told clock.old))) }
 
-    // A crew that does the jobs hasn't failed; and where there was none, the clock hasn't.
+    // A crew that does the jobs hasn't failed. If there was no crew, the clock hasn't failed either.
     ensures calm { MatchOption result.failed
         (P.faults crew.new ≡ P.faults crew.old)
         (λ why. C.faults clock.new ≡ C.faults clock.old) }
@@ -135,7 +135,7 @@ where
     }
 }
 
-/// Has all jobs of the list done, which come back in each case. The clock is lent to the ticker.
+/// Lets the crew do all jobs of the list, which come back in each case. The clock is lent to the ticker.
 fn work_listed<
     'a,
     W: Walker + Send,
@@ -196,7 +196,7 @@ where
     (failed, jobs, ticked)
 }
 
-/// Why the ticker ended at each bus. What was lent to it is left as it is.
+/// Returns why the ticker ended at each bus. The values that were lent to it stay as they are.
 fn end_ticks<'b, 'c, W: Walker, C: Clock>(job: LentTicking<'b, 'c, W, C>) -> (WorkEnd, WorkEnd)
     ensures ends { (result.0 ≡ job.entry.one_end) × (result.1 ≡ job.entry.other_end) }
     ensures one { job.exit.0.now ≡ job.entry.one.now }
@@ -211,7 +211,7 @@ fn end_ticks<'b, 'c, W: Walker, C: Clock>(job: LentTicking<'b, 'c, W, C>) -> (Wo
     (one_end, other_end)
 }
 
-/// What the ticker leaves of both buses.
+/// Returns the seats of the ticker for both buses, and why it ended at each.
 fn ticked_of<'a, W: Walker>(
     one: TickedBus<'a, W>,
     other: TickedBus<'a, W>,
@@ -235,7 +235,7 @@ fn ticked_of<'a, W: Walker>(
     }
 }
 
-/// The crew does all jobs, which come back in each case.
+/// Lets the crew do all jobs, which come back in each case.
 fn crew_jobs<
     'a,
     'b,
@@ -278,7 +278,7 @@ where
     taken_back(crew_all(rt, crew, jobs, ticking))
 }
 
-/// The crew does all jobs. One's own does nothing.
+/// Lets the crew do all jobs. The caller's own job does nothing.
 fn crew_all<
     'a,
     'b,

@@ -7,7 +7,7 @@ ghost use Rattle.tb_pair_run.specs.Helpers.Reasons.{bus_why, by_both, of_refusal
 use crate::ends::{BusWhy, PairWhy};
 use tb_run::{RunWhy, WorkEnd, any_full, any_no_memory};
 
-/// Gives why a bus ends, from why the worker of the pipe, the ticker and all others ended there.
+/// Returns why a bus ends, from why the worker of the pipe, the ticker and all others ended there.
 pub(crate) fn bus_why(pipe: WorkEnd, tick: WorkEnd, ends: &[WorkEnd]) -> BusWhy
     ensures { result ≡ bus_why pipe tick ends.now }
 {
@@ -40,7 +40,7 @@ fn is_full_end(end: WorkEnd) -> bool
     matches!(end, WorkEnd::Full)
 }
 
-/// Gives why a pair ends, from why its buses ended and why the ticker ended at each.
+/// Returns why a pair ends, from why its buses ended and why the ticker ended at each.
 pub(crate) fn pair_why(one: BusWhy, other: BusWhy, tick: WorkEnd, others_tick: WorkEnd) -> PairWhy
     ensures { result ≡ pair_why one other tick others_tick }
 {
@@ -51,7 +51,7 @@ pub(crate) fn pair_why(one: BusWhy, other: BusWhy, tick: WorkEnd, others_tick: W
     }
 }
 
-/// Gives the first of two reasons.
+/// Returns the first of two reasons.
 fn of_both(one: BusWhy, other: BusWhy) -> BusWhy
     ensures { result ≡ of_both one other }
 {
@@ -84,7 +84,7 @@ fn of_tick(tick: WorkEnd) -> PairWhy
     }
 }
 
-/// Gives why there was no crew.
+/// Returns why there was no crew.
 pub(crate) fn no_crew(why: RunWhy) -> PairWhy
     ensures { result ≡ no_crew why }
 {

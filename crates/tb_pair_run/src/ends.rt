@@ -3,7 +3,7 @@
 /// Why one bus of a pair ended.
 #[derive(Clone, Copy, Debug, PartialEq, Eq)]
 pub enum BusWhy {
-    /// The bus is down, and all was handed out.
+    /// The bus has shut down, and all queued items were taken.
     Ended,
     /// Its log was full.
     Events,
@@ -14,7 +14,7 @@ pub enum BusWhy {
 /// Why a pair ended.
 #[derive(Clone, Copy, Debug, PartialEq, Eq)]
 pub enum PairWhy {
-    /// Both buses are down, and all was handed out.
+    /// Both buses have shut down, and all queued items were taken.
     Ended,
     /// The crew failed.
     Crew,

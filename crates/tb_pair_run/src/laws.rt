@@ -11,9 +11,9 @@ ghost use Rattle.tb_pair_run.specs.Views.{PairTells, PairView};
 
 use crate::ends::PairWhy;
 
-/// What a pair shows whose buses both went to their end isn't what a pair shows of which a bus found its log full, even where both logs
-/// have all entries that they may have: whose lanes from 2 on and whose clock tell what they gave and took, and whose logs aren't near
-/// their limit of size.
+/// Take a pair whose lanes from 2 on and whose clock report what they gave and took, and whose logs aren't near their limit of size. If
+/// both buses went to their end, the pair doesn't show what a pair shows of which a bus found its log full, even if both logs have the
+/// greatest number of entries.
 pub fn a_pair_that_ended_was_not_refused()
     ensures { (most : ℕ) (old new : PairView) (origin others_origin origin' others_origin' : Origin)
         (back others_back : CoreState) → PairTells old

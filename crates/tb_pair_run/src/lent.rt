@@ -12,7 +12,7 @@ pub(crate) struct LentTicking<'b, 'a, W: Walker, C> {
     pub(crate) one: &'b mut TickedBus<'a, W>,
     pub(crate) other: &'b mut TickedBus<'a, W>,
     pub(crate) clock: &'b mut C,
-    /// How many ticks there may be at most.
+    /// The greatest number of ticks.
     pub(crate) ticks: u64,
     /// Why the one bus ended, once the worker has.
     pub(crate) one_end: WorkEnd,

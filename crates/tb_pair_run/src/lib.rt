@@ -1,4 +1,4 @@
-//! Two buses and a pipe: the run of all workers of both, and what the two logs say then.
+//! Two buses and a pipe: the run of all workers of both, and the two logs after it.
 #![tactic(auto)]
 
 mod apart;

@@ -1,4 +1,4 @@
-//! The rights that the first seat of each bus of a pair hands on.
+//! The rights that the first seat of each bus of a pair passes on.
 ghost use Rattle.std.specs.Prelude.{◌≡◌, [], ◌≤◌, vec_capacity};
 ghost use Rattle.tb_lock.specs.Seats.{first_seat};
 ghost use Rattle.tb_run.specs.Parting.{parted};
@@ -9,8 +9,8 @@ use tb_algebra::Walker;
 use tb_lock::{Rights, Seat, Shared};
 use tb_run::{in_of, out_of, split_all, to_step, to_tick};
 
-/// Hands on a seat to each worker of lanes 2 to 16, in the order of the jobs; then one to the worker that serves the pipe, and one to
-/// the ticker.
+/// Passes a seat to each worker of lanes 2 to 16, in the order of the jobs. Then passes one to the worker that serves the pipe, and one
+/// to the ticker.
 pub(crate) fn hand_out<W: Walker>(
     shared: &Shared<W>,
     seat: &mut Seat,

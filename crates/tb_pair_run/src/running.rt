@@ -23,10 +23,10 @@ use tb_lock::{Seat, Shared};
 use tb_log::show_proper_log;
 use tb_run::{AnyInlet, AnyOutlet, Boxes, Lanes, Post, make_boxes, pair_lanes, part_lanes};
 
-/// How many workers a bus has, but for the ticker that both share: those of lanes 2 to 16, the stepper, and the pipe's.
+/// How many workers a bus has, except the ticker that both share: those of lanes 2 to 16, the stepper, and the pipe's.
 const JOBS: u32 = 32;
 
-/// What comes of two buses over the ends of their lanes from 2 on.
+/// The result of the run of two buses over the ends of their lanes from 2 on.
 #[derive(Drop)]
 struct Ran<W: Walker, I, O> {
     why: PairWhy,
@@ -225,7 +225,7 @@ where
     }
 }
 
-/// Closes a bus. Its log has proper entries alone.
+/// Closes a bus. All entries of its log are well-formed.
 fn close_bus<W: Walker, R: Wait>(rt: &R, post: Post<W>, seat: Seat) -> Core<W>
     requires own { seat.bus ≡ post.shared }
     requires rights { seat.rights ≡ all_rights }
@@ -275,7 +275,7 @@ fn close_unused(pair: LanePair) -> LanePair
     LanePair { inlet, outlet }
 }
 
-/// Puts the pair at place 1 back, and all others behind it.
+/// Adds the pair at place 1 again, and all others after it.
 fn give_back(first: LanePair, ends: Lanes<AnyInlet, AnyOutlet>, pairs: &mut Vec<LanePair>)
     requires room { (pairs.old.items ≡ []) × (16 ≤ vec_capacity pairs.old) }
     requires count { (length ends.inlets.items ≡ 15) × (length ends.outlets.items ≡ 15) }
@@ -290,9 +290,9 @@ fn give_back(first: LanePair, ends: Lanes<AnyInlet, AnyOutlet>, pairs: &mut Vec<
 }
 
 /// Runs two buses to their end, and the pipe between them. Lane 1 of each bus belongs to the pipe, so the pair at place 1 of each list
-/// isn't used: its outlet is closed before the start. Of all other lanes a reader and a writer work for each, in threads of their own,
-/// and for each bus one that makes steps; one ticker delivers the ticks to both buses, `ticks` of them at most. A worker that finds the
-/// log full or no memory stops its own bus alone. The cores come back with all that was logged, and the lanes in their order.
+/// isn't used: its outlet is closed before the start. Each other lane has a reader and a writer, and each bus has a stepper, each in its
+/// own thread. One ticker delivers the ticks to both buses, at most `ticks` of them. A worker that finds the log full or no memory stops
+/// only its own bus. The cores come back with the whole logs, and the lanes in their order.
 pub fn run_pair<W: Walker + Send, R: Threads + Wait + Sync, C: Clock + Send, P: Crew>(
     rt: &R,
     alloc: Global,

@@ -1,4 +1,4 @@
-//! The memory of a pair, which is taken before the first seat is handed on: a seat that is lost can't be closed.
+//! The memory of a pair. It is taken before the first seat is passed on, because a lost seat can't be closed.
 ghost use Rattle.std.specs.Prelude.{◌≡◌, ◌≤◌, [], IfOk, vec_capacity};
 ghost use Rattle.rtrb.specs.Ring.{IsPair, received, sent};
 
@@ -10,10 +10,10 @@ use tb_pair::{PairJob, Piece};
 use tb_run::{Room, Worker, make_room};
 use tb_terms::NoMemory;
 
-/// How many pieces the pipe has room for.
+/// The capacity of the pipe, in pieces.
 const PIECES: usize = 1_024;
 
-/// What one bus takes memory for.
+/// The memory of one bus.
 #[derive(Drop)]
 pub(crate) struct Side<'a, W: Walker, I, O> {
     pub(crate) room: Room<I, O>,
@@ -26,7 +26,7 @@ pub(crate) struct Side<'a, W: Walker, I, O> {
     ghost for_back: { (back.items ≡ []) × (31 ≤ vec_capacity back) },
 }
 
-/// What both buses and the pipe take memory for.
+/// The memory of both buses and of the pipe.
 #[derive(Drop)]
 pub(crate) struct Stock<'a, W: Walker, I, O> {
     pub(crate) one: Side<'a, W, I, O>,
@@ -36,7 +36,7 @@ pub(crate) struct Stock<'a, W: Walker, I, O> {
     ghost for_jobs: { (jobs.items ≡ []) × (64 ≤ vec_capacity jobs) },
 }
 
-/// Both ends of a pipe through which nothing has gone yet.
+/// Returns both ends of a pipe through which nothing was sent yet.
 #[derive(Drop)]
 pub(crate) struct Ring {
     pub(crate) writes: Producer<Piece>,

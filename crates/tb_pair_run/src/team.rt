@@ -14,14 +14,14 @@ use tb_edge::{Inlet, Outlet};
 use tb_lock::{Seat, Shared};
 use tb_run::{Ended, Lanes, Post, Room, WorkEnd, Worker, begin_all, gather, with_others, works_of};
 
-/// What a bus keeps while its workers work.
+/// The values that a bus keeps while its workers work.
 #[derive(Drop)]
 pub(crate) struct Home<I, O> {
-    /// What its first seat has kept.
+    /// The rest of its first seat.
     pub(crate) seat: Seat,
     /// For the ends of the lanes once they come back.
     pub(crate) lanes: Lanes<I, O>,
-    /// For what the workers leave.
+    /// For the rest of the workers.
     pub(crate) ended: Ended,
 }
 
@@ -36,18 +36,18 @@ pub(crate) struct Team<'a, W: Walker, I, O> {
     pub(crate) tick_seat: Seat,
 }
 
-/// What is there of a bus once its workers have ended.
+/// The values of a bus once its workers have ended.
 #[derive(Drop)]
 pub(crate) struct Done<I, O> {
     /// The one seat again.
     pub(crate) seat: Seat,
     /// The ends of lanes 2 to 16.
     pub(crate) lanes: Lanes<I, O>,
-    /// Why the workers ended, but for the pipe's and the ticker.
+    /// Why the workers ended, except the pipe's and the ticker.
     pub(crate) ends: Vec<WorkEnd>,
 }
 
-/// Hands the seats on, and makes the workers.
+/// Passes the seats on, and makes the workers.
 pub(crate) fn begin<'a, W: Walker, I: Inlet, O: Outlet>(
     post: &'a Post<W>,
     seat: Seat,
@@ -99,7 +99,7 @@ pub(crate) fn begin<'a, W: Walker, I: Inlet, O: Outlet>(
     (team, home)
 }
 
-/// Takes the ends of the lanes out of the workers, and makes all seats one again.
+/// Takes the ends of the lanes out of the workers, and joins all seats to one again.
 pub(crate) fn finish<'a, W: Walker, I: Inlet, O: Outlet>(
     shared: &Shared<W>,
     home: Home<I, O>,

@@ -38,14 +38,14 @@ pub(crate) struct Bus<'a, W: Walker, I, O> {
     pub(crate) lanes: Lanes<I, O>,
 }
 
-/// One of the two buses, once its seats have become one again.
+/// One of the two buses, once its seats are joined to one again.
 #[derive(Drop)]
 pub(crate) struct Left<I, O> {
     pub(crate) seat: Seat,
     pub(crate) lanes: Lanes<I, O>,
 }
 
-/// What comes of both buses.
+/// The result of the work at both buses.
 #[derive(Drop)]
 pub(crate) struct Came<I, O> {
     pub(crate) why: PairWhy,
@@ -53,7 +53,7 @@ pub(crate) struct Came<I, O> {
     pub(crate) other: Left<I, O>,
 }
 
-/// Lets all work beside each other. `over` is 0, and is lent to both ends of the pipe.
+/// Lets all work concurrently. `over` is 0, and is lent to both ends of the pipe.
 pub(crate) fn run_workers<
     'a,
     W: Walker + Send,
@@ -117,7 +117,7 @@ where
     run_stocked(rt, one, other, over, stock, clock, ticks, crew)
 }
 
-/// Lets all work beside each other, for whom memory is there.
+/// Lets all work concurrently, in memory that was taken before.
 fn run_stocked<
     'a,
     W: Walker + Send,
@@ -199,7 +199,7 @@ where
     settle(post, others_post, home, others_home, back)
 }
 
-/// A bus whose workers are there.
+/// A bus whose workers were made.
 #[derive(Drop)]
 struct Started<'a, W: Walker, I, O> {
     team: Team<'a, W, I, O>,
@@ -354,7 +354,7 @@ fn reading_of<'a, W: Walker>(
     }
 }
 
-/// Makes all seats of each bus one again, lets the two ends of the pipe meet, and gives why the pair ended.
+/// Joins all seats of each bus to one again, lets the two ends of the pipe meet, and returns why the pair ended.
 fn settle<'a, W: Walker, I: Inlet, O: Outlet>(
     post: &'a Post<W>,
     others_post: &'a Post<W>,

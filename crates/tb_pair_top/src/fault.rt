@@ -4,22 +4,22 @@ use tb_cli::WordFault;
 use tb_message::Message;
 use tb_script::ScriptFault;
 
-/// Why a pair did not end well. That this could not be said is a `PairStatus` of its own.
+/// Why a pair didn't end well. If this couldn't be written, that is a `PairStatus` of its own.
 #[derive(Drop)]
 pub enum PairFault {
-    /// One of the two scripts was refused; never because memory ran out.
+    /// One of the two scripts was rejected. Out of memory is never a reason for this.
     Script(ScriptFault),
-    /// The words were refused; never because memory ran out.
+    /// The arguments were rejected. Out of memory is never a reason for this.
     Words(WordFault),
     /// A file could not be read.
     File,
     /// The logs could not be written.
     Out,
-    /// The clock failed; all else went on to its end.
+    /// The clock failed. All else went on to its end.
     Clock,
     /// There are too few threads.
     Crew,
-    /// One of the two logs had no room for the next entry.
+    /// One of the two logs had no capacity for the next entry.
     Limit,
     NoMemory,
 }

@@ -14,7 +14,7 @@ ghost use Rattle.tb_pair_top.specs.declared.fault.PairFault.TheVariants as fault
 
 use crate::status::{PairEdge, PairStatus};
 
-/// A pair of two accepted scripts ends well, unless something of the outside fails or memory runs out, or a log is full: then the
+/// A pair of two accepted scripts ends well, unless some part of the environment fails, memory runs out, or a log is full: then the
 /// pair ended for that.
 pub fn a_pair_of_accepted_scripts_ends()
     ensures { (words : List (List ℕ)) (command : PairCommand) (old new : Seen)

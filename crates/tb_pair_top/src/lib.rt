@@ -1,4 +1,4 @@
-//! Two scripts as a pair, from the words of the command line on.
+//! Two scripts as a pair, from the arguments of the command line on.
 #![tactic(auto)]
 
 mod fault;

@@ -18,7 +18,7 @@ pub struct Programs {
     pub second: Program,
 }
 
-/// The programs of the scripts in the files of these names. The second file is asked for once the first script is accepted.
+/// The programs of the scripts in the files of these names. The second file is requested once the first script is accepted.
 pub fn load_both<F: Files>(
     alloc: Global,
     first: &str,
@@ -38,7 +38,7 @@ pub fn load_both<F: Files>(
     }
 }
 
-/// The same where the first program is there.
+/// The same once the first program was read.
 fn load_second<F: Files>(
     alloc: Global,
     first: Program,

@@ -13,7 +13,7 @@ use tb_log::Log;
 use tb_pair_run::PairWhy;
 use tb_write::{LogFault, put_log};
 
-/// Puts both logs of a pair that ended so, unless there was no crew or no memory.
+/// Writes both logs of a pair that ended so, unless there was no crew or no memory.
 pub fn put_logs<O: Sink>(
     alloc: Global,
     why: PairWhy,
@@ -31,7 +31,7 @@ pub fn put_logs<O: Sink>(
     }
 }
 
-/// The same of a pair whose logs are put.
+/// The same for a pair whose logs are written.
 fn put_all<O: Sink>(
     alloc: Global,
     why: PairWhy,
@@ -50,7 +50,7 @@ fn put_all<O: Sink>(
     }
 }
 
-/// What a pair comes to whose logs were put.
+/// The result of a pair whose logs were written.
 fn after_run(why: PairWhy) -> Result<(), PairFault>
     requires { ArePut why }
     ensures { EndsAs why result }
@@ -64,7 +64,7 @@ fn after_run(why: PairWhy) -> Result<(), PairFault>
     }
 }
 
-/// Puts two logs, with the line `--` between.
+/// Writes two logs, with the line `--` between.
 fn put_both<O: Sink>(alloc: Global, one: &Log, other: &Log, out: &mut O) -> Result<(), LogFault>
     ensures ok { OnOk result (Writes (O.taken out.old) (O.taken out.new)
         (pair_text one.now.entries other.now.entries)) }
@@ -79,7 +79,7 @@ fn put_both<O: Sink>(alloc: Global, one: &Log, other: &Log, out: &mut O) -> Resu
     }
 }
 
-/// Puts the line `--`, and a log behind it.
+/// Writes the line `--`, and a log after it.
 fn put_second<O: Sink>(alloc: Global, log: &Log, out: &mut O) -> Result<(), LogFault>
     ensures ok { OnOk result (Writes (O.taken out.old) (O.taken out.new)
         (codes "--\n" ++ log_text log.now.entries)) }

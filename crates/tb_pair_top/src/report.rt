@@ -8,7 +8,7 @@ use crate::status::{PairEdge, PairStatus};
 use tb_edge::{Failed, Sink};
 use tb_write::put_line;
 
-/// Puts the line of a fault, where there is one.
+/// Writes the line of an error, if there is one.
 pub fn report<E: Sink>(answer: Result<(), PairFault>, err: &mut E) -> PairStatus
     ensures reports { Reports answer (E.taken err.old) (E.taken err.new) result }
     ensures rose { result ≡ PairStatus.Outside PairEdge.Err

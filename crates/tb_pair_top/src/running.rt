@@ -18,8 +18,8 @@ use tb_pair_run::run_pair;
 use tb_terms::{Items, NoMemory, Text, Texts};
 use tb_walk::Walk;
 
-/// Runs two programs beside each other, with a pipe between them, and puts both logs; the clock gives so many ticks and each
-/// log has so many entries at most.
+/// Runs two programs concurrently, with a pipe between them, and writes both logs. The clock gives at most so many ticks, and each
+/// log has at most so many entries.
 pub fn run_programs<R: Threads + Wait + Sync, O: Sink, C: Clock + Send, P: Crew>(
     rt: &R,
     alloc: Global,
@@ -72,7 +72,7 @@ fn start_both(alloc: Global, programs: Programs, events: u32) -> Result<Cores, N
     start_second(alloc, first, second, &connects, events)
 }
 
-/// The same where the first bus is there.
+/// The same once the first bus was made.
 fn start_second(
     alloc: Global,
     first: Core<Walk>,

@@ -2,7 +2,7 @@
 use tb_cli::WordFault;
 use tb_script::ScriptFault;
 
-/// Which part of the outside failed.
+/// The part of the environment that failed.
 #[derive(Clone, Copy, Debug, PartialEq, Eq)]
 pub enum PairEdge {
     File,
@@ -12,16 +12,16 @@ pub enum PairEdge {
     Crew,
 }
 
-/// How a call of the program ended. Running out of memory is `NoMemory` alone, whichever part met it.
+/// How a call of the program ended. Out of memory is `NoMemory` alone, in whichever part it occurs.
 #[derive(Debug, Drop)]
 pub enum PairStatus {
     Ended,
-    /// One of the two scripts was refused; never because memory ran out.
+    /// One of the two scripts was rejected. Out of memory is never a reason for this.
     Script(ScriptFault),
-    /// The words were refused; never because memory ran out.
+    /// The arguments were rejected. Out of memory is never a reason for this.
     Words(WordFault),
     Outside(PairEdge),
-    /// One of the two logs had no room for the next entry.
+    /// One of the two logs had no capacity for the next entry.
     Limit,
     NoMemory,
 }

@@ -1,4 +1,4 @@
-//! What holds of places whatever the script is. These calls change nothing: their contracts are the laws.
+//! What holds of places whatever the script is. These calls change nothing: their contracts are the theorems.
 
 ghost use Rattle.std.specs.Prelude.{◌≡◌, ◌+◌, ◌++◌, ◌∷◌, ℕ, List, All, Contains};
 ghost use Rattle.std.specs.List.{AllZip};
@@ -12,7 +12,7 @@ ghost use Rattle.tb_place.specs.Sites.{sites_of};
 ghost use Rattle.tb_place.specs.Spots.{characters, lines_ended, spot_behind};
 
 /// The places of a text go with the bodies of its program, one each. The place and the body are of one process of
-/// the script: the body is its expansion. The atoms of the body go with the atoms of the script that stand in the
+/// the script: the body is its expansion. The atoms of the body go with the atoms of the script that are in the
 /// expansion, one each: each is what that atom of the script becomes, and its mark is the first token of that atom.
 pub fn atoms_come_from_their_places()
     ensures { (text : List ℕ) (program : Program) (places : List ProcessPlace)
@@ -20,7 +20,7 @@ pub fn atoms_come_from_their_places()
         → AllZip (IsPlaced are.tokens are.script) program.bodies places }
 {}
 
-/// The atoms of which the atoms of an expansion are made stand in bodies of processes that the script defines.
+/// The atoms of which the atoms of an expansion are made are in bodies of processes that the script defines.
 pub fn sites_are_atoms_of_the_script()
     ensures { (script : Script) (d : ProcDef) → Contains script.procs d
         → All (IsAtomOf script) (sites_of script d) }

@@ -1,4 +1,4 @@
-//! The places of a script: lines and columns of bytes, and where in the script each atom of a process stands.
+//! The places of a script: lines and columns of bytes, and where in the script each atom of a process is.
 #![tactic(auto)]
 
 mod laws;

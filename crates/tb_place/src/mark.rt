@@ -12,7 +12,7 @@ pub struct Mark {
     pub to: usize,
 }
 
-/// The bytes of the token at this position. Behind all tokens it is the empty place where the last one ends.
+/// The bytes of the token at this position. After all tokens it is the empty place where the last one ends.
 pub fn mark_at(tokens: &[Token], token: usize) -> Mark
     ensures { result ≡ mark_at tokens.now token }
 {
@@ -25,7 +25,7 @@ pub fn mark_at(tokens: &[Token], token: usize) -> Mark
     }
 }
 
-/// The empty place behind the last token.
+/// The empty place after the last token.
 fn end_of(tokens: &[Token]) -> Mark
     ensures { result ≡ end_of tokens.now }
 {

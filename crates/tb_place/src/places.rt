@@ -14,20 +14,20 @@ use tb_syntax::{ProcDef, Script};
 use tb_terms::{Ident, Items, NoMemory};
 use tb_types::Names;
 
-/// Where a process and its atoms stand in the script.
+/// Where a process and its atoms are in the script.
 #[derive(Drop)]
 pub struct ProcessPlace {
     pub name: Ident,
     /// The word `process` of its definition.
     pub mark: Mark,
-    /// The first token of each atom of its body: that of the atom with number n stands at position n - 1.
+    /// The first token of each atom of its body: that of the atom with number n is at position n - 1.
     pub atoms: Items<Mark>,
 }
 
-/// Where the processes of a script stand, in order of definition, as the bodies of its program.
+/// Where the processes of a script are, in order of definition, as the bodies of its program.
 pub type Places = Items<ProcessPlace>;
 
-/// The places of a script that is accepted, or what keeps it from being so.
+/// The places of a script that is accepted, or the reason why it is rejected.
 pub fn all_places(alloc: Global, bytes: &[u8]) -> Result<Places, ScriptFault>
     ensures ok { IfOk result (ArePlaces bytes.now) }
     ensures accepted { IfOk result (λ places. IsAcceptedText bytes.now) }

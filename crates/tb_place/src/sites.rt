@@ -11,7 +11,7 @@ use tb_syntax::{Call, Proc, ProcDef};
 use tb_terms::{Boxed, Items, NoMemory};
 use tb_types::Names;
 
-/// Adds where the atoms of a process stand. Calls within it are gone into up to this depth and one more.
+/// Adds where the atoms of a process are. Calls within it are expanded up to this depth and one more.
 #[cycle(sites)]
 #[tactic(auto, using(crate::proofs::MarkLemmas::marks_append))]
 fn push_sites(
@@ -92,7 +92,7 @@ fn push_else(
     }
 }
 
-/// Adds where the atoms of the process that is called stand, if there is one.
+/// Adds where the atoms of the called process are, if there is one.
 #[cycle(sites)]
 fn push_called(
     names: &Names,
@@ -112,7 +112,7 @@ fn push_called(
     Ok(())
 }
 
-/// Adds where the atoms of a body stand, in which calls are gone into up to this depth.
+/// Adds where the atoms of a body are, in which calls are expanded up to this depth.
 #[cycle(sites)]
 pub(crate) fn push_body(
     names: &Names,

@@ -2,7 +2,7 @@
 ghost use Rattle.std.specs.Prelude.{◌≡◌, ◌+◌, ◌≤◌, ◌<◌, ◌^◌, length, take};
 ghost use Rattle.tb_place.specs.Spots.{spot_of, spot_behind, spot_after};
 
-/// Where a byte of a text stands. Both numbers count from 1.
+/// The place of a byte of a text. Both numbers count from 1.
 #[derive(Clone, Copy, Debug, PartialEq, Eq)]
 pub struct Spot {
     pub line: usize,
@@ -27,7 +27,7 @@ fn bytes_before(text: &[u8], byte: usize) -> &[u8]
     text
 }
 
-/// The line and the column behind these bytes.
+/// The line and the column after these bytes.
 fn spot_behind(before: &[u8]) -> Spot
     ensures { result ≡ spot_behind before.now }
 {
@@ -38,7 +38,7 @@ fn spot_behind(before: &[u8]) -> Spot
     spot
 }
 
-/// Where the byte behind this one stands.
+/// The place of the byte after this one.
 fn after(spot: Spot, byte: u8) -> Spot
     requires line { spot.line + 1 < 2 ^ 64 }
     requires column { spot.column + 1 < 2 ^ 64 }

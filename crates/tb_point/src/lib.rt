@@ -1,4 +1,4 @@
-//! Where a script is wrong: its fault, and the bytes at which that stands.
+//! The fault of a script, and the bytes of its place.
 #![tactic(auto)]
 
 mod calls;

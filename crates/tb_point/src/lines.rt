@@ -8,7 +8,7 @@ use tb_place::{Mark, Spot, spot_at};
 use tb_terms::NoMemory;
 
 /// Writes the name of the file, and the line and the column of the bytes if they are known, each with a colon
-/// behind it, and a blank.
+/// after it, and a space.
 pub fn write_place(
     name: &str,
     text: &[u8],

@@ -1,4 +1,4 @@
-//! The bytes at which a fault stands.
+//! The bytes of the place of a fault.
 ghost use Rattle.std.specs.Prelude.{◌≡◌, IfOk, option_map};
 ghost use Rattle.tb_place.specs.Marks.{mark_at};
 ghost use Rattle.tb_point.specs.Standing.{AtToken, InScript, StandsAt, check_token, expand_token, lex_mark, parse_token, root_token, script_token};
@@ -16,7 +16,7 @@ use tb_syntax::Script;
 use tb_terms::NoMemory;
 use tb_types::CheckFault;
 
-/// The bytes at which the fault of this text stands; none if it is a fault of no byte.
+/// The bytes of the place of this fault of the text. There are none if it is a fault of no byte.
 pub(crate) fn mark_of(
     alloc: Global,
     text: &[u8],

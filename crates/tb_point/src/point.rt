@@ -9,15 +9,15 @@ use tb_place::Mark;
 use tb_script::{ScriptFault, accept};
 use tb_terms::NoMemory;
 
-/// The fault of a script, and where it stands.
+/// The fault of a script, and its place.
 #[derive(Drop)]
 pub struct Point {
     pub fault: ScriptFault,
-    /// The bytes at which it stands, from the first one on: the others are for a mark.
+    /// The bytes of its place. The first byte is the place itself, and the others are for a mark.
     pub mark: Option<Mark>,
 }
 
-/// What is wrong with the script that has these bytes; nothing if it is accepted.
+/// Returns the fault of the script that has these bytes, or `None` if the script is accepted.
 pub fn find_fault(alloc: Global, text: &[u8]) -> Result<Option<Point>, NoMemory>
     ensures { IfOk result (IsAnswer text.now) }
 {

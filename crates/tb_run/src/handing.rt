@@ -15,7 +15,7 @@ use tb_lock::{Seat, calls_add_their_own};
 use tb_log::{Input, Reply, Why};
 
 /// Delivers an input, and wakes those for whom it may leave something to do. Returns why the worker ends, if it ends: the bus has shut
-/// down, or the call was refused. After a refused call, the worker has stopped the bus, unless the bus was stopped before.
+/// down, or the call was rejected. After a rejected call, the worker has stopped the bus, unless the bus was stopped before.
 pub fn hand<W: Walker, R: Wait>(
     rt: &R,
     post: &Post<W>,
@@ -48,7 +48,7 @@ fn end_of(reply: Reply) -> Option<WorkEnd>
     }
 }
 
-/// Returns the end of a worker after a refused call. The worker stops the bus, unless the bus was stopped before.
+/// Returns the end of a worker after a rejected call. The worker stops the bus, unless the bus was stopped before.
 pub fn refused<W: Walker, R: Wait>(
     rt: &R,
     post: &Post<W>,

@@ -335,7 +335,7 @@ pub fn taken_back<J: Drop>(answer: Result<Vec<J>, CrewFault<J>>) -> (Option<RunW
     }
 }
 
-/// Puts the seats of two further jobs before those of the workers that follow.
+/// Inserts the seats of two further jobs before those of the workers that follow.
 pub fn with_others(ended: Ended, one: Seat, other: Seat) -> Ended
     requires none { ended.seats.items ≡ [] }
     requires room { 2 ≤ vec_capacity ended.seats }
