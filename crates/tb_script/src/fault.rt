@@ -44,7 +44,10 @@ impl ScriptFault {
             ScriptFault::Expand(fault) => fault.message(),
             ScriptFault::Roots(count) => Message::numbered(b"script: too many processes ", *count),
             ScriptFault::TooLong(bytes) => Message::numbered(b"script: too long ", *bytes),
-            ScriptFault::NotBuilt(token) => Message::numbered(b"script: not built at token ", *token),
+            ScriptFault::NotBuilt(token) => Message::numbered(
+                b"script: not built at token ",
+                *token,
+            ),
             ScriptFault::NoMemory => Message::plain(b"no memory"),
         }
     }
