@@ -1,5 +1,5 @@
 //! The values and patterns of an act, and what the act binds.
-ghost use Rattle.std.specs.Prelude.{◌≡◌, ◌∷◌, ◌+◌, Some, IfOk, option_and_then, option_map};
+ghost use Rattle.std.specs.Prelude.{◌≡◌, ◌∷◌, ◌+◌, Some, IfOk, map, option_and_then, option_map};
 ghost use Rattle.std.specs.Option.{option_copied};
 ghost use Rattle.tb_func.specs.Patterns.{pattern_of};
 ghost use Rattle.tb_func.specs.Values.{value_of, all_of};

@@ -1,5 +1,5 @@
 //! The results of tests and the values of an act, with a short path for messages and notes.
-ghost use Rattle.std.specs.Prelude.{◌≡◌, ◌∷◌, [], ◌++◌, Some, None, IfOk, option_map, if◌then◌else◌};
+ghost use Rattle.std.specs.Prelude.{◌≡◌, ◌∷◌, [], ◌++◌, Some, None, IfOk, map, option_map, if◌then◌else◌};
 ghost use Rattle.std.specs.Option.{option_copied};
 ghost use Rattle.tb_func.specs.Values.{all_of, value_of};
 ghost use Rattle.tb_algebra.specs.Atoms.{act_in, limited_together, sent_exprs, values_together};
