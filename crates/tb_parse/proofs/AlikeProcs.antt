@@ -12,7 +12,7 @@ use Rattle.tb_syntax.specs.declared.proc.Call.{Call}
 use Rattle.tb_syntax.specs.declared.proc.Proc.{Proc}
 use Rattle.tb_syntax.specs.declared.proc.Proc.TheVariants as tree
 use Rattle.tb_syntax.specs.declared.proc.TimeDef.{TimeDef}
-use Rattle.tb_syntax.specs.Words.{is_atom_word, is_time_word}
+use Rattle.tb_syntax.specs.AtomWords.{is_atom_word, is_time_word}
 use Rattle.tb_parse.specs.Helpers.Parsing.{Parser, Found, after, mapped, is_sign, is_word, expect, skip, expr, create, time, times, timed, var, upper_proc, block, sides, conditional, lower_proc, prim_of, rightward, leftward, turns, sequence, choice, merge, transfer, prim, proc}
 use Rattle.tb_parse.proofs.Alike.{Alike, Same, fewer, moved, if_alike, after_alike, finding, branch, skipped, expected, roomless, by_token, next_alike, mapping, behind}
 use Rattle.tb_parse.proofs.AlikeParts.{stops_there, upper_alike, parted_alike, in_parens_alike, sort_alike}

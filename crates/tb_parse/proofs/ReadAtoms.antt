@@ -15,7 +15,7 @@ use Rattle.tb_syntax.specs.declared.proc.Proc.TheVariants as tree
 use Rattle.tb_syntax.specs.declared.proc.TimeDef.{TimeDef}
 use Rattle.tb_syntax.specs.declared.proc.Var.{Var}
 use Rattle.tb_syntax.specs.Spelling.{InRow, SpellsExpr, SpellsArguments, SpellsCall, SpellsAct, SpellsTime, SpellsAtom, SpellsVar}
-use Rattle.tb_syntax.specs.Words.{is_atom_word}
+use Rattle.tb_syntax.specs.AtomWords.{is_atom_word}
 use Rattle.tb_parse.specs.Helpers.Parsing.{Parser, Found, after, mapped, begins, is_sign, in_parens, sort, expr, call, create, time, times, timed, is_time, var, upper_proc, lower_proc, prim_of}
 use Rattle.tb_parse.proofs.Signs.{same_name}
 use Rattle.tb_parse.proofs.ReadParts.{neither, arrives, read, read_last, read_mapped, ReadsIn, Reads}

@@ -9,7 +9,7 @@ use Rattle.tb_syntax.specs.declared.proc.ActDef.{ActDef}
 use Rattle.tb_syntax.specs.declared.proc.ActDef.TheVariants as act
 use Rattle.tb_syntax.specs.declared.proc.Call.{Call}
 use Rattle.tb_syntax.specs.Spelling.{InRow, SpellsExpr, SpellsCall, SpellsAct, SpellsTime, SpellsVar, SpellsProc}
-use Rattle.tb_syntax.specs.Words.{is_time_word}
+use Rattle.tb_syntax.specs.AtomWords.{is_time_word}
 use Rattle.tb_parse.specs.Helpers.Parsing.{Found, after, mapped, expect, skip, is_sign, expr, call, create, sort, time, times, timed, var}
 use Rattle.tb_parse.proofs.Fits.{Fits, found, stops, token, behind, mapping, skip_sign, expect_sign}
 use Rattle.tb_parse.proofs.SoundLists.{Sound}

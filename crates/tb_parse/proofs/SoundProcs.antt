@@ -12,7 +12,7 @@ use Rattle.tb_syntax.specs.declared.proc.ActDef.TheVariants as act
 use Rattle.tb_syntax.specs.declared.proc.Proc.{Proc}
 use Rattle.tb_syntax.specs.declared.proc.Proc.TheVariants as tree
 use Rattle.tb_syntax.specs.Spelling.{SpellsArguments, SpellsVar, SpellsAct, SpellsProc}
-use Rattle.tb_syntax.specs.Words.{is_atom_word}
+use Rattle.tb_syntax.specs.AtomWords.{is_atom_word}
 use Rattle.tb_parse.specs.Helpers.Parsing.{Parser, Outcome, Stops, after, mapped, is_sign, is_word, expect, in_parens, expr, create, timed, var, upper_proc, block, sides, conditional, lower_proc, prim_of, rightward, leftward, turns, sequence, choice, merge, transfer, prim, proc}
 use Rattle.tb_parse.proofs.Signs.{is_that_sign, same_name}
 use Rattle.tb_parse.proofs.Fits.{Fits, Opens, found, stops, opens, token, behind, mapping, weaker, with_sign, with_word, skip_word, expect_sign, expect_word}

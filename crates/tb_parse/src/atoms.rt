@@ -1,3 +1,5 @@
+//! Reads atoms with their times, calls and variables.
+
 ghost use Rattle.std.specs.Prelude.{◌≡◌};
 ghost use Rattle.tb_parse.specs.Helpers.Parsing.{call_of, call, create, time, times, var, parted};
 ghost use Rattle.tb_parse.specs.Helpers.Reading.{Meets, runs};

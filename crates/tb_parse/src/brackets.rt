@@ -1,3 +1,5 @@
+//! Where too many brackets are open.
+
 ghost use Rattle.std.specs.Prelude.{◌≡◌, ◌≤◌, MatchOption};
 ghost use Rattle.tb_syntax.specs.Limits.{most_open, open_step, opens, closes, IsTooDeep};
 ghost use Rattle.tb_syntax.specs.Spelling.{kinds_of};

@@ -1,3 +1,5 @@
+//! Processes that were read, with their heights.
+
 ghost use Rattle.std.specs.Prelude.{◌≡◌, ◌++◌, Some, None, IfOk};
 ghost use Rattle.tb_syntax.specs.declared.proc.Proc.TheVariants as tree;
 ghost use Rattle.tb_parse.specs.declared.built.Built.{Built};

@@ -1,3 +1,5 @@
+//! Reads a script and its definitions.
+
 ghost use Rattle.tb_parse.specs.Helpers.Parsing.{script, definitions, formal, in_parens, parted, tool, command, roots};
 ghost use Rattle.tb_parse.specs.Helpers.Defining.{Defines, Judges, process_made, definitions_kept};
 ghost use Rattle.tb_parse.specs.Helpers.Reading.{Meets, runs};

@@ -1,3 +1,5 @@
+//! Reads expressions.
+
 ghost use Rattle.std.specs.Prelude.{◌≡◌, if◌then◌else◌};
 ghost use Rattle.tb_syntax.specs.declared.ast.AstKind.{AstKind};
 ghost use Rattle.tb_parse.specs.Helpers.Parsing.{expr, kind, in_parens, parted, list, hole};

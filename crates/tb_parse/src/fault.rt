@@ -1,3 +1,5 @@
+//! Why tokens are no script.
+
 ghost use Rattle.std.specs.Prelude.{◌≡◌};
 ghost use Rattle.tb_message.specs.Messages.{message_text};
 ghost use Rattle.tb_parse.specs.Lines.{parse_line};

@@ -1,3 +1,5 @@
+//! The definitions that were read so far.
+
 ghost use Rattle.std.specs.Prelude.{◌≡◌, [], None, Some, OnOk};
 ghost use Rattle.tb_syntax.specs.declared.proc.Proc.{Proc};
 ghost use Rattle.tb_parse.specs.Helpers.Heights.{built};

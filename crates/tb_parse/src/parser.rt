@@ -1,3 +1,5 @@
+//! Parses tokens.
+
 ghost use Rattle.std.specs.Prelude.{◌≡◌, ◌≢◌, ◌⊎◌, IfOk, IfErr, Ok, Err};
 ghost use Rattle.tb_syntax.specs.Spelling.{kinds_of};
 ghost use Rattle.tb_syntax.specs.declared.script.Script.{Script};

@@ -1,3 +1,5 @@
+//! Reads processes.
+
 ghost use Rattle.std.specs.Prelude.{◌≡◌, IfOk};
 ghost use Rattle.tb_syntax.specs.declared.proc.Proc.{Proc};
 ghost use Rattle.tb_syntax.specs.declared.proc.Proc.TheVariants as tree;

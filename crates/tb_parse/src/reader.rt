@@ -1,3 +1,5 @@
+//! Tokens that are read from the left.
+
 ghost use Rattle.std.specs.Prelude.{◌≡◌, ◌∷◌, [], MatchOption};
 ghost use Rattle.std.specs.Bool.{MatchBool};
 ghost use Rattle.tb_syntax.specs.Spelling.{kinds_of};

@@ -1,3 +1,5 @@
+//! Reads sorts.
+
 ghost use Rattle.std.specs.Prelude.{◌≡◌, IfOk, Some, None, if◌then◌else◌};
 ghost use Rattle.tb_parse.specs.Helpers.Parsing.{sort, word_sort, named_sort, is_list};
 ghost use Rattle.tb_parse.specs.Helpers.Reading.{Meets, runs, next};

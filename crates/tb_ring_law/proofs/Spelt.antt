@@ -10,7 +10,8 @@ use Rattle.tb_syntax.specs.declared.proc.Call.{Call}
 use Rattle.tb_syntax.specs.declared.proc.Proc.{Proc}
 use Rattle.tb_syntax.specs.declared.proc.Proc.TheVariants as tree
 use Rattle.tb_syntax.specs.Spelling.{in_parens, word, Parted, InRow, InParens, IsSortWord, SpellsSort, SpellsKind, SpellsExpr, SpellsArguments, SpellsExprs, SpellsCall, SpellsAct, SpellsVar, SpellsProc, SpellsFormal, SpellsProcDef, SpellsDefinitions, SpellsRoots, Spells}
-use Rattle.tb_syntax.specs.Words.{is_free, is_atom_word}
+use Rattle.tb_syntax.specs.AtomWords.{is_atom_word}
+use Rattle.tb_syntax.specs.Words.{is_free}
 use Rattle.tb_ring_law.specs.Helpers.Pieces.{kinds_in, node_pieces, first_pieces, links, ring_links, links_kinds, ring_kinds}
 use Rattle.tb_ring_law.specs.Helpers.Trees.{at, number_at, var_at, result_at, add_at, less_at, atom_at, var_t, int_formal, node_body, node_def, test_part, first_body, first_def, first_call, node_call, link_call, ring_script}
 

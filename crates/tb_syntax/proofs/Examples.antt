@@ -13,7 +13,7 @@ use Rattle.tb_syntax.specs.declared.script.ProcDef.{ProcDef}
 use Rattle.tb_syntax.specs.declared.script.ToolDef.{ToolDef}
 use Rattle.tb_syntax.specs.Printing.{IsSpelt}
 use Rattle.tb_syntax.specs.Spelling.{Spells, SpellsDefinitions, SpellsProcDef, SpellsRoots, SpellsProc, SpellsAct, SpellsArguments, InRow, InParens}
-use Rattle.tb_syntax.specs.Words.{is_atom_word}
+use Rattle.tb_syntax.specs.AtomWords.{is_atom_word}
 
 -- toolbus ( )
 pub least_spelt : (procs : List ProcDef) (tools : List ToolDef) (roots : List Call) → procs ≡ [] → tools ≡ [] → roots ≡ [] → IsSpelt (record { procs = procs; tools = tools; roots = roots })

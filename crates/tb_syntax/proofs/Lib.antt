@@ -12,4 +12,5 @@ pub mod PrintedLists
 pub mod PrintedProcs
 pub mod PrintedScripts
 pub mod ProcTokens
+pub mod ReadWords
 pub mod SortTokens

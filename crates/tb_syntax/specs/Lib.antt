@@ -1,3 +1,4 @@
+pub mod AtomWords
 pub mod Binding
 pub mod Limits
 pub mod Parens

@@ -23,7 +23,8 @@ use Rattle.tb_syntax.specs.declared.script.Formal.{Formal}
 use Rattle.tb_syntax.specs.declared.script.ProcDef.{ProcDef}
 use Rattle.tb_syntax.specs.declared.script.Script.{Script}
 use Rattle.tb_syntax.specs.declared.script.ToolDef.{ToolDef}
-use Rattle.tb_syntax.specs.Words.{is_free, is_sort_word, is_atom_word, is_time_word}
+use Rattle.tb_syntax.specs.AtomWords.{is_atom_word, is_time_word}
+use Rattle.tb_syntax.specs.Words.{is_free, is_sort_word}
 
 abbrev pub in_parens : List TokenKind → List TokenKind
 in_parens ks = Sign LeftParen ∷ (ks ++ Sign RightParen ∷ [])

@@ -1,4 +1,4 @@
--- The words of the grammar: those that are reserved, those of atoms and times, and those of sorts.
+-- The words of the grammar that are reserved, and those of sorts.
 use Rattle.std.specs.Prelude.{ℕ, Bool, not, List, [], ◌∷◌, codes}
 use Rattle.std.specs.List.{list_any}
 use Rattle.std.specs.Str.{bytes_eq}
@@ -17,26 +17,9 @@ reserved_words =
 abbrev pub is_free : List ℕ → Bool
 is_free name = not (is_among reserved_words name)
 
--- the atoms that are written as a word with arguments, `create` apart
-abbrev pub atom_words : List (List ℕ)
-atom_words =
-    codes "delta" ∷ codes "tau" ∷ codes "printf" ∷ codes "snd-msg" ∷ codes "rec-msg" ∷ codes "snd-note" ∷ codes "rec-note"
-    ∷ codes "no-note" ∷ codes "subscribe" ∷ codes "unsubscribe" ∷ codes "execute" ∷ codes "rec-connect" ∷ codes "rec-disconnect"
-    ∷ codes "snd-eval" ∷ codes "rec-value" ∷ codes "snd-do" ∷ codes "rec-event" ∷ codes "snd-ack-event" ∷ codes "snd-terminate"
-    ∷ codes "shutdown" ∷ []
-
-abbrev pub time_words : List (List ℕ)
-time_words = codes "delay" ∷ codes "timeout" ∷ codes "abs-delay" ∷ codes "abs-timeout" ∷ []
-
 -- the names of the sorts that are there without a tool
 abbrev pub sort_words : List (List ℕ)
 sort_words = codes "bool" ∷ codes "int" ∷ codes "str" ∷ codes "list" ∷ codes "term" ∷ []
-
-abbrev pub is_atom_word : List ℕ → Bool
-is_atom_word = is_among atom_words
-
-abbrev pub is_time_word : List ℕ → Bool
-is_time_word = is_among time_words
 
 abbrev pub is_sort_word : List ℕ → Bool
 is_sort_word = is_among sort_words

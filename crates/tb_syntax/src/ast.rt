@@ -1,3 +1,5 @@
+//! The trees of expressions.
+
 use tb_terms::{Ident, Items, Name, Sort, Text};
 
 /// An expression as a script writes it, with the position of its first token.

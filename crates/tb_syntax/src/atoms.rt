@@ -1,3 +1,5 @@
+//! The tokens of atoms with their times, of calls and of variables.
+
 ghost use Rattle.std.specs.Prelude.{◌≡◌, ◌++◌, ◌∷◌, OnOk, map};
 ghost use Rattle.std.specs.List.{flat_map};
 ghost use Rattle.tb_syntax.specs.Helpers.Canonical.{call_tokens, act_tokens, set_tokens, create_tokens, time_tokens, atom_tokens, var_tokens, parted};

@@ -1,3 +1,5 @@
+//! The tokens of a script and of its definitions.
+
 ghost use Rattle.std.specs.Prelude.{◌≡◌, ◌++◌, OnOk, IfOk, map, option_map};
 ghost use Rattle.std.specs.List.{flat_map};
 ghost use Rattle.tb_syntax.specs.Spelling.{mark, command_tokens};

@@ -1,3 +1,5 @@
+//! The tokens of expressions.
+
 ghost use Rattle.std.specs.Prelude.{◌≡◌, ◌++◌, ◌∷◌, [], OnOk, map};
 ghost use Rattle.tb_lex.specs.declared.kind.TokenKind.TheVariants.{Lower, Upper, Symbol as Sign};
 ghost use Rattle.tb_lex.specs.declared.symbol.Symbol.TheVariants.{Question};

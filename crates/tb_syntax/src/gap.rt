@@ -1,3 +1,5 @@
+//! What stands between two tokens of a printed script.
+
 ghost use Rattle.std.specs.Prelude.{◌≡◌};
 ghost use Rattle.tb_syntax.specs.Helpers.TokenText.{gap, before_next, symbol_before, space, is_closing, is_joining, space_after_name};
 

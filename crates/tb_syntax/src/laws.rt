@@ -1,10 +1,13 @@
 //! What holds of every spelling. These calls change nothing: their contracts are the laws.
 
-ghost use Rattle.std.specs.Prelude.{◌≡◌, ℕ, List, true};
+ghost use Rattle.std.specs.Prelude.{◌≡◌, ℕ, List, Some, true};
 ghost use Rattle.tb_lex.specs.declared.kind.TokenKind.{TokenKind};
+ghost use Rattle.tb_syntax.specs.declared.atom_words.AtomWord.{AtomWord};
+ghost use Rattle.tb_syntax.specs.declared.atom_words.TimeWord.{TimeWord};
 ghost use Rattle.tb_syntax.specs.declared.level.Level.{Level};
 ghost use Rattle.tb_syntax.specs.declared.proc.Proc.{Proc};
 ghost use Rattle.tb_syntax.specs.declared.script.Script.{Script};
+ghost use Rattle.tb_syntax.specs.AtomWords.{atom_text, atom_word, time_text, time_word};
 ghost use Rattle.tb_syntax.specs.Binding.{is_looser, own_level};
 ghost use Rattle.tb_syntax.specs.Parens.{IsBalanced, StandsInParens};
 ghost use Rattle.tb_syntax.specs.Spelling.{SpellsProc, Spells};
@@ -23,4 +26,11 @@ pub fn parens_are_balanced()
         → SpellsProc at position p kinds → IsBalanced kinds }
     ensures script { (script : Script) (kinds : List TokenKind)
         → Spells script kinds → IsBalanced kinds }
+{}
+
+/// The text of each atom and of each time is read as this atom and this time. So no word is left out, and no
+/// two words have one text.
+pub fn each_word_is_read()
+    ensures atom { (word : AtomWord) → atom_word (atom_text word) ≡ Some word }
+    ensures time { (word : TimeWord) → time_word (time_text word) ≡ Some word }
 {}

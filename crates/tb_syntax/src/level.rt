@@ -1,3 +1,5 @@
+//! How tightly the operators bind.
+
 /// How tightly a process is bound where it stands, from the loosest to the tightest.
 #[derive(Clone, Copy, Debug, PartialEq, Eq)]
 pub enum Level {

@@ -2,6 +2,7 @@
 #![tactic(auto)]
 
 mod ast;
+mod atom_words;
 mod atoms;
 mod definitions;
 mod exprs;
@@ -19,9 +20,10 @@ mod text;
 mod words;
 
 pub use ast::{Ast, AstKind, Asts};
-pub use laws::{looser_stands_in_parens, parens_are_balanced};
+pub use atom_words::{AtomWord, TimeWord, atom_word, is_atom_word, is_time_word, time_word};
+pub use laws::{each_word_is_read, looser_stands_in_parens, parens_are_balanced};
 pub use level::Level;
 pub use print::print_script;
 pub use proc::{ActDef, AtomDef, Call, Calls, Proc, TimeDef, TimeDefs, Var, Vars};
 pub use script::{Formal, Formals, ProcDef, ProcDefs, Script, ToolDef, ToolDefs};
-pub use words::{is_atom_word, is_reserved, is_sort_word, is_time_word};
+pub use words::{is_reserved, is_sort_word};

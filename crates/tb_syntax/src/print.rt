@@ -1,3 +1,5 @@
+//! The text that is printed for a script.
+
 ghost use Rattle.std.specs.Prelude.{IfOk};
 ghost use Rattle.tb_syntax.specs.Printing.{IsSpelt, IsPrintOf};
 

@@ -1,3 +1,5 @@
+//! The trees of processes.
+
 use crate::{Ast, Asts};
 use tb_terms::{Boxed, Ident, Items, Name, Sort};
 

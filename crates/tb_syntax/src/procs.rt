@@ -1,3 +1,5 @@
+//! The tokens of processes.
+
 ghost use Rattle.std.specs.Prelude.{◌≡◌, ◌++◌, ◌∷◌, [], OnOk, map, option_map};
 ghost use Rattle.tb_lex.specs.declared.kind.TokenKind.TheVariants.{Symbol as Sign};
 ghost use Rattle.tb_syntax.specs.Binding.{rank, is_looser};

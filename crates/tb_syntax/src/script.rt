@@ -1,3 +1,5 @@
+//! The trees of scripts and of their definitions.
+
 use crate::{Calls, Proc};
 use tb_terms::{Ident, Items, Name, Sort, Text};
 

@@ -1,3 +1,5 @@
+//! The tokens of sorts.
+
 ghost use Rattle.std.specs.Prelude.{◌≡◌, ◌++◌, ◌∷◌, [], IsTrue, OnOk, codes, if◌then◌else◌};
 ghost use Rattle.tb_terms.specs.declared.sort.Sort.{out-Sort};
 ghost use Rattle.tb_lex.specs.declared.kind.TokenKind.TheVariants.{Lower, Upper, Symbol as Sign};

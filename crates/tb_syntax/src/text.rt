@@ -1,3 +1,5 @@
+//! The text of tokens.
+
 ghost use Rattle.std.specs.Prelude.{◌≡◌, ◌++◌, OnOk, IfOk};
 ghost use Rattle.tb_lex.specs.Tokens.{symbol_text};
 ghost use Rattle.tb_syntax.specs.Helpers.TokenText.{token_text, tokens_text};

@@ -1,5 +1,7 @@
+//! The words of the grammar that are reserved, those of sorts, and those that lines depend on.
+
 ghost use Rattle.std.specs.Prelude.{◌≡◌, map};
-ghost use Rattle.tb_syntax.specs.Words.{is_among, reserved_words, is_atom_word, is_time_word, is_sort_word};
+ghost use Rattle.tb_syntax.specs.Words.{is_among, reserved_words, is_sort_word};
 ghost use Rattle.tb_syntax.specs.Helpers.TokenText.{definition_words, leading_words};
 
 /// Whether a word is reserved: no term, tool or sort may have this name.
@@ -12,44 +14,6 @@ pub fn is_reserved(name: &[u8]) -> bool
         ],
         name,
     )
-}
-
-/// Whether a word is that of an atom, `create` apart, which takes a call.
-pub fn is_atom_word(name: &[u8]) -> bool
-    ensures { result ≡ is_atom_word name.now }
-{
-    is_among(
-        &[
-            "delta",
-            "tau",
-            "printf",
-            "snd-msg",
-            "rec-msg",
-            "snd-note",
-            "rec-note",
-            "no-note",
-            "subscribe",
-            "unsubscribe",
-            "execute",
-            "rec-connect",
-            "rec-disconnect",
-            "snd-eval",
-            "rec-value",
-            "snd-do",
-            "rec-event",
-            "snd-ack-event",
-            "snd-terminate",
-            "shutdown",
-        ],
-        name,
-    )
-}
-
-/// Whether a word is that of a time.
-pub fn is_time_word(name: &[u8]) -> bool
-    ensures { result ≡ is_time_word name.now }
-{
-    is_among(&["delay", "timeout", "abs-delay", "abs-timeout"], name)
 }
 
 /// Whether a word is that of a sort that is no tool's.

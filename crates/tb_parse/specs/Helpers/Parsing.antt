@@ -21,7 +21,8 @@ use Rattle.tb_syntax.specs.declared.script.Formal.{Formal}
 use Rattle.tb_syntax.specs.declared.script.ProcDef.{ProcDef}
 use Rattle.tb_syntax.specs.declared.script.Script.{Script}
 use Rattle.tb_syntax.specs.declared.script.ToolDef.{ToolDef}
-use Rattle.tb_syntax.specs.Words.{is_free, is_atom_word, is_time_word}
+use Rattle.tb_syntax.specs.AtomWords.{is_atom_word, is_time_word}
+use Rattle.tb_syntax.specs.Words.{is_free}
 
 -- what was read, with the position behind it and the tokens that are left; or the position of the token that can't go on
 pub data Outcome (A : Type 0) : Type 0 where

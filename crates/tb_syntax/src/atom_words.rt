@@ -1,0 +1,221 @@
+//! The words of atoms and of times: their texts, and how many arguments an atom takes.
+
+ghost use Rattle.std.specs.Prelude.{◌≡◌};
+ghost use Rattle.std.specs.List.{find};
+ghost use Rattle.std.specs.Str.{bytes_eq};
+ghost use Rattle.tb_syntax.specs.AtomWords.{atom_text, atom_words, atom_word, is_atom_word, fewest, takes_more, time_text, time_words, time_word, is_time_word};
+
+/// The word of an atom that is written as a word with arguments. `create` isn't here: it takes a call.
+#[derive(Clone, Copy, Debug, PartialEq, Eq)]
+pub enum AtomWord {
+    Delta,
+    Tau,
+    Printf,
+    SndMsg,
+    RecMsg,
+    SndNote,
+    RecNote,
+    NoNote,
+    Subscribe,
+    Unsubscribe,
+    Execute,
+    RecConnect,
+    RecDisconnect,
+    SndEval,
+    RecValue,
+    SndDo,
+    RecEvent,
+    SndAckEvent,
+    SndTerminate,
+    Shutdown,
+}
+
+/// Each word of an atom once.
+static ATOM_WORDS: [AtomWord; 20] = [
+    AtomWord::Delta,
+    AtomWord::Tau,
+    AtomWord::Printf,
+    AtomWord::SndMsg,
+    AtomWord::RecMsg,
+    AtomWord::SndNote,
+    AtomWord::RecNote,
+    AtomWord::NoNote,
+    AtomWord::Subscribe,
+    AtomWord::Unsubscribe,
+    AtomWord::Execute,
+    AtomWord::RecConnect,
+    AtomWord::RecDisconnect,
+    AtomWord::SndEval,
+    AtomWord::RecValue,
+    AtomWord::SndDo,
+    AtomWord::RecEvent,
+    AtomWord::SndAckEvent,
+    AtomWord::SndTerminate,
+    AtomWord::Shutdown,
+];
+
+/// The word of an atom that this name is, if any.
+pub fn atom_word(name: &[u8]) -> Option<AtomWord>
+    ensures { result ≡ atom_word name.now }
+{
+    find_atom(&ATOM_WORDS, name)
+}
+
+/// Whether a name is the word of an atom.
+pub fn is_atom_word(name: &[u8]) -> bool
+    ensures { result ≡ is_atom_word name.now }
+{
+    atom_word(name).is_some()
+}
+
+fn find_atom(words: &[AtomWord], name: &[u8]) -> Option<AtomWord>
+    ensures { result ≡ find (λ word. bytes_eq name.now (atom_text word)) words.now }
+{
+    for word in words {
+        if name == word.text().as_bytes() {
+            return Some(*word);
+        }
+    }
+    None
+}
+
+impl AtomWord {
+    /// The text of the word.
+    pub fn text(self) -> &'static str
+        ensures { result.now ≡ atom_text self }
+    {
+        match self {
+            AtomWord::Delta => "delta",
+            AtomWord::Tau => "tau",
+            AtomWord::Printf => "printf",
+            AtomWord::SndMsg => "snd-msg",
+            AtomWord::RecMsg => "rec-msg",
+            AtomWord::SndNote => "snd-note",
+            AtomWord::RecNote => "rec-note",
+            AtomWord::NoNote => "no-note",
+            AtomWord::Subscribe => "subscribe",
+            AtomWord::Unsubscribe => "unsubscribe",
+            AtomWord::Execute => "execute",
+            AtomWord::RecConnect => "rec-connect",
+            AtomWord::RecDisconnect => "rec-disconnect",
+            AtomWord::SndEval => "snd-eval",
+            AtomWord::RecValue => "rec-value",
+            AtomWord::SndDo => "snd-do",
+            AtomWord::RecEvent => "rec-event",
+            AtomWord::SndAckEvent => "snd-ack-event",
+            AtomWord::SndTerminate => "snd-terminate",
+            AtomWord::Shutdown => "shutdown",
+        }
+    }
+
+    /// The fewest arguments that the atom takes.
+    pub fn fewest(self) -> usize
+        ensures { result ≡ fewest self }
+    {
+        match self {
+            AtomWord::Delta | AtomWord::Tau => 0,
+            AtomWord::Printf
+            | AtomWord::SndMsg
+            | AtomWord::RecMsg
+            | AtomWord::SndNote
+            | AtomWord::RecNote
+            | AtomWord::NoNote
+            | AtomWord::Subscribe
+            | AtomWord::Unsubscribe
+            | AtomWord::RecConnect
+            | AtomWord::RecDisconnect
+            | AtomWord::Shutdown => 1,
+            AtomWord::Execute
+            | AtomWord::SndEval
+            | AtomWord::RecValue
+            | AtomWord::SndDo
+            | AtomWord::RecEvent
+            | AtomWord::SndAckEvent
+            | AtomWord::SndTerminate => 2,
+        }
+    }
+
+    /// Whether the atom takes more arguments than the fewest.
+    pub fn takes_more(self) -> bool
+        ensures { result ≡ takes_more self }
+    {
+        match self {
+            AtomWord::Printf
+            | AtomWord::SndMsg
+            | AtomWord::RecMsg
+            | AtomWord::SndNote
+            | AtomWord::RecNote
+            | AtomWord::NoNote
+            | AtomWord::Subscribe
+            | AtomWord::Unsubscribe
+            | AtomWord::RecEvent
+            | AtomWord::SndAckEvent => true,
+            AtomWord::Delta
+            | AtomWord::Tau
+            | AtomWord::Execute
+            | AtomWord::RecConnect
+            | AtomWord::RecDisconnect
+            | AtomWord::SndEval
+            | AtomWord::RecValue
+            | AtomWord::SndDo
+            | AtomWord::SndTerminate
+            | AtomWord::Shutdown => false,
+        }
+    }
+}
+
+/// The word of a time of an atom.
+#[derive(Clone, Copy, Debug, PartialEq, Eq)]
+pub enum TimeWord {
+    Delay,
+    Timeout,
+    AbsDelay,
+    AbsTimeout,
+}
+
+/// Each word of a time once.
+static TIME_WORDS: [TimeWord; 4] = [
+    TimeWord::Delay,
+    TimeWord::Timeout,
+    TimeWord::AbsDelay,
+    TimeWord::AbsTimeout,
+];
+
+/// The word of a time that this name is, if any.
+pub fn time_word(name: &[u8]) -> Option<TimeWord>
+    ensures { result ≡ time_word name.now }
+{
+    find_time(&TIME_WORDS, name)
+}
+
+/// Whether a name is the word of a time.
+pub fn is_time_word(name: &[u8]) -> bool
+    ensures { result ≡ is_time_word name.now }
+{
+    time_word(name).is_some()
+}
+
+fn find_time(words: &[TimeWord], name: &[u8]) -> Option<TimeWord>
+    ensures { result ≡ find (λ word. bytes_eq name.now (time_text word)) words.now }
+{
+    for word in words {
+        if name == word.text().as_bytes() {
+            return Some(*word);
+        }
+    }
+    None
+}
+
+impl TimeWord {
+    /// The text of the word.
+    pub fn text(self) -> &'static str
+        ensures { result.now ≡ time_text self }
+    {
+        match self {
+            TimeWord::Delay => "delay",
+            TimeWord::Timeout => "timeout",
+            TimeWord::AbsDelay => "abs-delay",
+            TimeWord::AbsTimeout => "abs-timeout",
+        }
+    }
+}
