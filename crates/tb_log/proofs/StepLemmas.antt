@@ -1,12 +1,14 @@
 -- The line of a step in parts, and its terms from the last to the first.
-use Rattle.std.proofs.Common.{◌≡◌, ℕ, List, [], ◌∷◌, ◌++◌, refl, sym, ap, ◌∙◌, append_assoc, append-nil}
+use Rattle.std.proofs.Common.{◌≡◌, ℕ, ℤ, List, [], ◌∷◌, ◌++◌, refl, sym, ap, ◌∙◌, append_assoc, append-nil}
 use Rattle.std.specs.Fmt.{decimal}
 use Rattle.std.specs.List.{flat_map}
 use Rattle.tb_terms.specs.Texts.{term_text, terms_text}
 use Rattle.tb_terms.specs.declared.term.Term.{Term}
+use Rattle.tb_terms.specs.declared.term.Term.TheVariants.{Int}
 use Rattle.tb_log.specs.declared.entry.Place.{Place}
 use Rattle.tb_log.specs.declared.entry.LabelKind.{LabelKind}
 use Rattle.tb_log.specs.declared.entry.LabelKind.TheVariants as kind
+use Rattle.tb_log.specs.Seens.{number_terms}
 use Rattle.tb_log.specs.LogText.{kind_word, term_words, label_words}
 use Rattle.tb_log.specs.Helpers.StepText.{shown_places, shown_terms}
 
@@ -68,3 +70,15 @@ words_pushed old blank one all terms first others put_blank put_first is put_oth
     ap (λ (t : List ℕ). 32 ∷ (term_text first ++ t)) (sym (append-nil behind)) ∙ term_words_in_parts terms first others [] is ∙ append-nil (term_words terms) in
     put_others ∙ ap (λ (t : List ℕ). t ++ behind) (put_first ∙ ap (λ (t : List ℕ). t ++ term_text first) put_blank)
     ∙ append_assoc (old ++ 32 ∷ []) (term_text first) behind ∙ append_assoc old (32 ∷ []) (term_text first ++ behind) ∙ ap (λ (t : List ℕ). old ++ t) words
+
+-- each number behind a comma
+pub numbers_behind_comma : (numbers : List ℤ) → flat_map (λ number. 44 ∷ term_text (Int number)) numbers ≡ flat_map behind_comma (number_terms numbers)
+numbers_behind_comma [] = refl
+numbers_behind_comma (number ∷ numbers) = ap (λ (t : List ℕ). behind_comma (Int number) ++ t) (numbers_behind_comma numbers)
+
+-- the numbers were added behind a blank
+pub numbers_pushed : (old blank one all : List ℕ) (numbers : List ℤ) (first : ℤ) (others : List ℤ) → blank ≡ old ++ 32 ∷ [] → one ≡ blank ++ term_text (Int first) → numbers ≡ first ∷ others
+    → all ≡ one ++ flat_map (λ number. 44 ∷ term_text (Int number)) others → all ≡ old ++ term_words (number_terms numbers)
+numbers_pushed old blank one all numbers first others put_blank put_first is put_others =
+    words_pushed old blank one all (number_terms numbers) (Int first) (number_terms others) put_blank put_first (ap number_terms is)
+    (put_others ∙ ap (λ (t : List ℕ). one ++ t) (numbers_behind_comma others))

@@ -1,5 +1,5 @@
 -- What each entry of a program is: its numbers fit their types, and its terms, strings and names are such.
-use Rattle.std.specs.Prelude.{ℕ, ◌^◌, Bool, true, ◌&&◌, nat_lt}
+use Rattle.std.specs.Prelude.{◌^◌, Bool, true, ◌&&◌, nat_lt}
 use Rattle.std.specs.List.{list_all}
 use Rattle.tb_terms.specs.Names.{is_name, is_string}
 use Rattle.tb_terms.specs.Proper.{is_proper}

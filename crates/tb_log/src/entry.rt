@@ -1,3 +1,4 @@
+//! The entries of a log, and their copies.
 ghost use Rattle.std.specs.Prelude.{◌≡◌, IfOk};
 
 use std::alloc::Global;

@@ -1,13 +1,12 @@
 //! Entries as a log keeps them: small ones in a row, and what they say in lists beside them.
 ghost use Rattle.std.specs.Prelude.{◌≡◌, ◌+◌, ◌≤◌, length};
-ghost use Rattle.tb_log.specs.Seens.{entry_seen, label_seen};
+ghost use Rattle.tb_log.specs.Seens.{entry_seen, label_seen, terms_seen};
 ghost use Rattle.tb_log.specs.Helpers.KeptLogs.{label_kept, other_entry};
 
 use crate::entry::{Input, Label, LabelKind, Out, Place, Reply};
-use crate::seen::{Seen, SeenLabel};
-use tb_terms::Term;
+use crate::seen::{Seen, SeenLabel, SeenTerms};
 
-/// A step. Its terms stand among those of all steps: so many, from this index on.
+/// A step. Its terms stand in the list of all steps that are kept as it is: so many, from this index on.
 #[derive(Clone, Copy)]
 pub struct KeptStep {
     pub kind: LabelKind,
@@ -18,17 +17,16 @@ pub struct KeptStep {
 }
 
 impl KeptStep {
-    /// The step with its terms, lent.
-    pub fn lend<'a>(&self, terms: &'a [Term]) -> SeenLabel<'a>
-        requires { self.now.first + self.now.count ≤ length terms.now }
-        ensures { label_seen result ≡ label_kept terms.now self.now }
+    /// The step with its share of these terms, lent.
+    pub fn lend<'a>(&self, terms: SeenTerms<'a>) -> SeenLabel<'a>
+        requires { self.now.first + self.now.count ≤ length (terms_seen terms) }
+        ensures { label_seen result ≡ label_kept (terms_seen terms.entry) self.now }
     {
-        let first = self.first as usize;
         SeenLabel {
             kind: self.kind,
             from: self.from,
             to: self.to,
-            terms: &terms[first..first + self.count as usize],
+            terms: terms.share(self.first as usize, self.count as usize),
         }
     }
 }
@@ -37,6 +35,8 @@ impl KeptStep {
 #[derive(Clone, Copy)]
 pub enum Kept {
     Did(KeptStep),
+    /// A step whose terms are all numbers.
+    Numbers(KeptStep),
     Quiet,
     /// The one of the others that has this index.
     Other(u32),
@@ -60,7 +60,7 @@ impl Other {
                 kind: label.kind,
                 from: label.from,
                 to: label.to,
-                terms: label.terms.as_slice(),
+                terms: SeenTerms::Terms(label.terms.as_slice()),
             }),
             Other::Fed(input, reply) => Seen::Fed(input, *reply),
             Other::Gave(lane, out) => Seen::Gave(*lane, out),

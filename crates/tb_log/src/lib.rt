@@ -15,7 +15,7 @@ pub use entry::{Entries, Entry, Input, Label, LabelKind, Out, Place, Reply, Tool
 pub use log::{Log, input_size, out_size};
 pub use pieces::piece;
 pub use proper::{show_proper_entry, show_proper_log};
-pub use seen::{Seen, SeenLabel};
+pub use seen::{Seen, SeenLabel, SeenTerms};
 pub use shape::{
     LANES, MOST_TOOL_NAME, is_in_shape, is_lane, is_out_in_shape, is_tool_line_in_shape,
 };

@@ -1,11 +1,12 @@
-ghost use Rattle.std.specs.Prelude.{◌≡◌, ◌≤◌, ◌<◌, ◌+◌, ◌++◌, ◌∷◌, [], IsTrue, IsOk, OnOk, OnErr, Some, min, length, take, drop, reverse, slice_get, vec_len, vec_capacity};
+//! A log within limits, which keeps its entries in few lists.
+ghost use Rattle.std.specs.Prelude.{◌≡◌, ◌≤◌, ◌<◌, ◌+◌, ◌++◌, ◌∷◌, [], IsTrue, false, IsOk, OnOk, OnErr, Some, min, length, take, drop, reverse, slice_get, vec_len, vec_capacity};
 ghost use Rattle.std.below.core.specs.declared.int.usize.TheConstants.{MAX};
 ghost use Rattle.tb_log.specs.Limits.{entry_size, input_size, tool_line_size, out_size, has_room, terms_size};
-ghost use Rattle.tb_log.specs.Seens.{entry_seen};
+ghost use Rattle.tb_log.specs.Seens.{entry_seen, number_terms};
 
 use crate::entry::{Entry, Input, LabelKind, Out, Place, Reply, ToolLine};
 use crate::kept::{Kept, KeptStep, Other};
-use crate::seen::Seen;
+use crate::seen::{Seen, SeenTerms};
 use std::alloc::Global;
 use std::marker::Model;
 use tb_terms::{NoMemory, Term, Terms, size, total_size};
@@ -18,18 +19,21 @@ const MOST_SIZE: usize = 16_777_216;
 #[derive(Drop)]
 pub struct Log {
     entries: Vec<Kept>,
-    /// The terms of all steps.
+    /// The terms of the steps that have a term which is no number.
     terms: Vec<Term>,
+    /// The terms of the steps that have numbers alone.
+    numbers: Vec<i64>,
     others: Vec<Other>,
     limit: u32,
     /// How large the entries are together.
     size: usize,
-    /// How large the step is for which memory was taken: there is memory for so many terms more.
+    /// How large the step is for which memory was taken: there is memory for so many terms more, and for so many numbers.
     reserved: usize,
 }
 
 impl Model for Log {
     ghost use Rattle.std.specs.Prelude.{◌-◌, ◌+◌, ◌≤◌, min, vec_len, vec_capacity};
+    ghost use Rattle.tb_log.specs.Seens.{number_terms};
     ghost use Rattle.tb_log.specs.Helpers.KeptLogs.{StandsFor, entries_kept};
     ghost use Rattle.tb_log.specs.Logs.{LogState, log_code};
 
@@ -39,15 +43,18 @@ impl Model for Log {
 
     ghost view = { λ log. record {
       limit = log.limit;
-      entries = entries_kept log.terms.items log.others.items log.entries.items;
+      entries = entries_kept log.terms.items (number_terms log.numbers.items) log.others.items
+          log.entries.items;
       spare = min (vec_capacity log.entries - vec_len log.entries)
           (vec_capacity log.others - vec_len log.others);
       reserved = log.reserved;
     } };
 
     ghost invariant = { λ log.
-        StandsFor log.limit log.size log.terms.items log.others.items log.entries.items
-        × (vec_len log.terms + log.reserved ≤ vec_capacity log.terms) };
+        StandsFor log.limit log.size log.terms.items (number_terms log.numbers.items)
+        log.others.items log.entries.items
+        × (vec_len log.terms + log.reserved ≤ vec_capacity log.terms)
+        × (vec_len log.numbers + log.reserved ≤ vec_capacity log.numbers) };
 }
 
 impl Log {
@@ -62,6 +69,7 @@ impl Log {
         Log {
             entries: Vec::new(alloc),
             terms: Vec::new(alloc),
+            numbers: Vec::new(alloc),
             others: Vec::new(alloc),
             limit,
             size: 0,
@@ -82,7 +90,10 @@ impl Log {
         ensures { slice_get self.now.entries at ≡ Some (entry_seen result) }
     {
         match &self.entries[at] {
-            Kept::Did(step) => Seen::Did(step.lend(self.terms.as_slice())),
+            Kept::Did(step) => Seen::Did(step.lend(SeenTerms::Terms(self.terms.as_slice()))),
+            Kept::Numbers(step) => {
+                Seen::Did(step.lend(SeenTerms::Numbers(self.numbers.as_slice())))
+            }
             Kept::Quiet => Seen::Quiet,
             Kept::Other(index) => self.others[*index as usize].lend(),
         }
@@ -117,7 +128,8 @@ impl Log {
         Ok(())
     }
 
-    /// Takes memory for a step more, of this size. A term has a size of 1 at least, so that a step has no more terms.
+    /// Takes memory for a step more, of this size, in the list of terms and in that of numbers. A term has a size of 1 at
+    /// least, so that a step has no more terms.
     pub fn reserve_step(&mut self, size: usize) -> Result<(), NoMemory>
         ensures spare { OnOk result (0 < self.new.spare) }
         ensures enough { 0 < self.old.spare → size ≤ self.old.reserved → IsOk result }
@@ -129,6 +141,7 @@ impl Log {
     {
         self.reserve(1)?;
         self.terms.reserve(size)?;
+        self.numbers.reserve(size)?;
         self.reserved = size;
         Ok(())
     }
@@ -154,10 +167,22 @@ impl Log {
         ensures spent { self.new.reserved ≡ 0 }
         ensures emptied { terms.new ≡ [] }
     {
-        let first = self.terms.len() as u32;
         let count = terms.len() as u32;
         self.size += self.reserved;
         self.reserved = 0;
+        let first = self.numbers.len() as u32;
+        if push_numbers(terms.as_slice(), &mut self.numbers) {
+            clear(terms);
+            self.entries.push_reserved(Kept::Numbers(KeptStep {
+                kind,
+                from,
+                to,
+                first,
+                count,
+            }));
+            return;
+        }
+        let first = self.terms.len() as u32;
         move_terms(terms, &mut self.terms);
         self.entries.push_reserved(Kept::Did(KeptStep {
             kind,
@@ -238,6 +263,35 @@ impl Log {
         self.others.push_reserved(other);
         self.entries.push_reserved(Kept::Other(index));
     }
+}
+
+/// Adds terms that are all numbers at the end, and tells whether they are; where one isn't, adds none. This takes no memory.
+#[inline(always)]
+fn push_numbers(terms: &[Term], into: &mut Vec<i64>) -> bool
+    requires { vec_len into.old + length terms.now ≤ vec_capacity into.old }
+    ensures pushed { IsTrue result
+        → number_terms into.new.items ≡ number_terms into.old.items ++ terms.now }
+    ensures same { result ≡ false → into.new.items ≡ into.old.items }
+    ensures capacity { vec_capacity into.new ≡ vec_capacity into.old }
+{
+    let first = into.len();
+    for term in terms {
+        match term {
+            Term::Int(number) => into.push_reserved(*number),
+            Term::Str(_) | Term::Appl(_, _) | Term::List(_) => {
+                into.truncate(first);
+                return false;
+            }
+        }
+    }
+    true
+}
+
+/// Takes all terms out of a list.
+fn clear(terms: &mut Terms)
+    ensures { terms.new ≡ [] }
+{
+    while let Some(_term) = terms.pop() {}
 }
 
 /// Moves terms to the end, in their order. This takes no memory.

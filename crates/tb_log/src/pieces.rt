@@ -1,3 +1,4 @@
+//! Copies of a piece of a log.
 ghost use Rattle.std.specs.Prelude.{◌≡◌, ◌≤◌, ◌<◌, ◌+◌, ◌^◌, IfOk, take, drop, length};
 
 use crate::entry::Entries;

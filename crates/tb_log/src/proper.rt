@@ -1,13 +1,14 @@
+//! Walks that show that each entry of a log is well-formed.
 ghost use Rattle.std.specs.Prelude.{IsTrue};
 ghost use Rattle.std.specs.List.{list_all};
 ghost use Rattle.tb_terms.specs.Names.{is_string};
 ghost use Rattle.tb_terms.specs.Proper.{is_proper};
-ghost use Rattle.tb_log.specs.Seens.{entry_seen};
+ghost use Rattle.tb_log.specs.Seens.{entry_seen, number_terms, terms_seen};
 ghost use Rattle.tb_log.specs.Proper.{is_proper_entry, is_proper_input, is_proper_tool_line, is_proper_out, is_proper_place};
 
 use crate::entry::{Entry, Input, Out, Place, ToolLine};
 use crate::log::Log;
-use crate::seen::Seen;
+use crate::seen::{Seen, SeenTerms};
 use tb_terms::{Term, Text, show_proper};
 
 /// Every log is one of proper entries. The call walks the log and changes nothing: its contract is
@@ -34,7 +35,7 @@ fn show_seen(seen: &Seen)
         Seen::Did(label) => {
             show_place(label.from);
             show_place(label.to);
-            show_terms(label.terms);
+            show_seen_terms(label.terms);
         }
         Seen::Quiet => {}
         Seen::Fed(input, _) => show_input(input),
@@ -50,6 +51,23 @@ fn show_place(place: Place)
 {
     let _proc = place.proc;
     let _atom = place.atom;
+}
+
+fn show_seen_terms(terms: SeenTerms)
+    ensures { IsTrue (list_all is_proper (terms_seen terms.entry)) }
+{
+    match terms {
+        SeenTerms::Terms(terms) => show_terms(terms),
+        SeenTerms::Numbers(numbers) => show_numbers(numbers),
+    }
+}
+
+fn show_numbers(numbers: &[i64])
+    ensures { IsTrue (list_all is_proper (number_terms numbers.now)) }
+{
+    for number in numbers {
+        show_proper(&Term::Int(*number));
+    }
 }
 
 fn show_terms(terms: &[Term])

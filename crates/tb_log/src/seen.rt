@@ -1,10 +1,40 @@
 //! Entries as they are read: what a log keeps is lent, and not copied.
-ghost use Rattle.std.specs.Prelude.{◌≡◌, IfOk};
-ghost use Rattle.tb_log.specs.Seens.{entry_seen, label_seen};
+ghost use Rattle.std.specs.Prelude.{◌≡◌, ◌+◌, ◌≤◌, IfOk, length, take, drop};
+ghost use Rattle.tb_log.specs.Seens.{entry_seen, label_seen, number_terms, terms_seen};
 
 use crate::entry::{Entry, Input, Label, LabelKind, Out, Place, Reply};
 use std::alloc::Global;
 use tb_terms::{Items, NoMemory, Term, Terms};
+
+/// The terms of a step, lent: as terms, or as the numbers that all of them are.
+#[derive(Clone, Copy)]
+pub enum SeenTerms<'a> {
+    Terms(&'a [Term]),
+    Numbers(&'a [i64]),
+}
+
+impl<'a> SeenTerms<'a> {
+    /// So many of the terms, from this index on.
+    pub(crate) fn share(self, first: usize, count: usize) -> SeenTerms<'a>
+        requires { first + count ≤ length (terms_seen self) }
+        ensures { terms_seen result ≡ take count (drop first (terms_seen self.entry)) }
+    {
+        match self {
+            SeenTerms::Terms(terms) => SeenTerms::Terms(&terms[first..first + count]),
+            SeenTerms::Numbers(numbers) => SeenTerms::Numbers(&numbers[first..first + count]),
+        }
+    }
+
+    /// The terms in memory of their own.
+    pub fn copy(&self, alloc: Global) -> Result<Terms, NoMemory>
+        ensures { IfOk result (λ copies. copies ≡ terms_seen self.now) }
+    {
+        match *self {
+            SeenTerms::Terms(terms) => copy_all(alloc, terms),
+            SeenTerms::Numbers(numbers) => copy_numbers(alloc, numbers),
+        }
+    }
+}
 
 /// A step, lent: which atoms made it, the sender's first, and which terms it moved.
 #[derive(Clone, Copy)]
@@ -12,7 +42,7 @@ pub struct SeenLabel<'a> {
     pub kind: LabelKind,
     pub from: Place,
     pub to: Place,
-    pub terms: &'a [Term],
+    pub terms: SeenTerms<'a>,
 }
 
 impl<'a> SeenLabel<'a> {
@@ -20,7 +50,7 @@ impl<'a> SeenLabel<'a> {
     pub fn copy(&self, alloc: Global) -> Result<Label, NoMemory>
         ensures { IfOk result (λ copy. copy ≡ label_seen self.now) }
     {
-        let terms = copy_all(alloc, self.terms)?;
+        let terms = self.terms.copy(alloc)?;
         Ok(Label {
             kind: self.kind,
             from: self.from,
@@ -53,7 +83,7 @@ impl<'a> Seen<'a> {
                 kind: label.kind,
                 from: label.from,
                 to: label.to,
-                terms: label.terms.as_slice(),
+                terms: SeenTerms::Terms(label.terms.as_slice()),
             }),
             Entry::Quiet => Seen::Quiet,
             Entry::Fed(input, reply) => Seen::Fed(input, *reply),
@@ -80,6 +110,16 @@ fn copy_all(alloc: Global, terms: &[Term]) -> Result<Terms, NoMemory>
     let mut copies = Vec::with_capacity(alloc, terms.len())?;
     for term in terms {
         copies.push(term.copy(alloc)?)?;
+    }
+    Ok(Items::from_vec(copies))
+}
+
+fn copy_numbers(alloc: Global, numbers: &[i64]) -> Result<Terms, NoMemory>
+    ensures { IfOk result (λ copies. copies ≡ number_terms numbers.now) }
+{
+    let mut copies = Vec::with_capacity(alloc, numbers.len())?;
+    for number in numbers {
+        copies.push(Term::Int(*number))?;
     }
     Ok(Items::from_vec(copies))
 }

@@ -1,3 +1,4 @@
+//! Whether a log may have an entry.
 ghost use Rattle.std.specs.Prelude.{◌≡◌, ◌≤◌, ◌↔◌, length, IsTrue};
 ghost use Rattle.std.specs.Str.{bytes_eq};
 ghost use Rattle.tb_terms.specs.declared.term.Term.{out-Term};

@@ -3,11 +3,13 @@ ghost use Rattle.std.specs.Prelude.{◌≡◌, ◌+◌, ◌<◌, ◌≤◌, ◌+
 ghost use Rattle.std.specs.Fmt.{signed_decimal};
 ghost use Rattle.std.specs.List.{flat_map};
 ghost use Rattle.tb_terms.specs.Texts.{term_text};
+ghost use Rattle.tb_terms.specs.declared.term.Term.TheVariants.{Int};
+ghost use Rattle.tb_log.specs.Seens.{number_terms, terms_seen};
 ghost use Rattle.tb_log.specs.LogText.{kind_word, label_words, place_words, term_words};
 ghost use Rattle.tb_log.specs.Helpers.StepText.{shown_places, shown_terms};
 
 use crate::entry::{LabelKind, Place};
-use crate::seen::SeenLabel;
+use crate::seen::{SeenLabel, SeenTerms};
 use crate::text::kind_word;
 use itoa::write_digits;
 use tb_terms::Term;
@@ -25,7 +27,7 @@ const TERM_BYTES: usize = 20;
 /// Writes the line of a step at the end of the array, where it is a short one, and tells where it begins.
 pub(crate) fn put_line(number: u64, label: &SeenLabel, line: &mut [u8; LINE_BYTES]) -> Option<usize>
     ensures { IfSome result (λ start. (start ≤ LINE_BYTES) × (drop start line.new ≡ decimal number
-        ++ 32 ∷ label_words label.now.kind label.now.from label.now.to label.now.terms.now
+        ++ 32 ∷ label_words label.now.kind label.now.from label.now.to (terms_seen label.now.terms)
         ++ 10 ∷ [])) }
 {
     let end = put_byte(b'\n', line, LINE_BYTES);
@@ -36,11 +38,11 @@ pub(crate) fn put_line(number: u64, label: &SeenLabel, line: &mut [u8; LINE_BYTE
 }
 
 /// The terms that the line of a step shows.
-fn shown_terms<'a>(label: &SeenLabel<'a>) -> &'a [Term]
-    ensures { result.now ≡ shown_terms label.now.kind label.now.terms.now }
+fn shown_terms<'a>(label: &SeenLabel<'a>) -> SeenTerms<'a>
+    ensures { terms_seen result ≡ shown_terms label.now.kind (terms_seen label.now.terms) }
 {
     match label.kind {
-        LabelKind::Finish | LabelKind::Halt => &[],
+        LabelKind::Finish | LabelKind::Halt => SeenTerms::Numbers(&[]),
         _ => label.terms,
     }
 }
@@ -107,7 +109,18 @@ fn put_word(kind: LabelKind, line: &mut [u8; LINE_BYTES], end: usize) -> usize
 
 /// Each term behind a comma, but for the first, which stands behind a blank. None where one isn't short or the room
 /// isn't enough; some of them may be written then.
-fn put_terms(terms: &[Term], line: &mut [u8; LINE_BYTES], end: usize) -> Option<usize>
+fn put_terms(terms: SeenTerms, line: &mut [u8; LINE_BYTES], end: usize) -> Option<usize>
+    requires { (HEAD_BYTES ≤ end) × (end ≤ LINE_BYTES) }
+    ensures { IfSome result (λ start. (HEAD_BYTES ≤ start) × (start ≤ end)
+        × (drop start line.new ≡ term_words (terms_seen terms.entry) ++ drop end line.old)) }
+{
+    match terms {
+        SeenTerms::Terms(terms) => put_all(terms, line, end),
+        SeenTerms::Numbers(numbers) => put_numbers(numbers, line, end),
+    }
+}
+
+fn put_all(terms: &[Term], line: &mut [u8; LINE_BYTES], end: usize) -> Option<usize>
     requires { (HEAD_BYTES ≤ end) × (end ≤ LINE_BYTES) }
     ensures { IfSome result (λ start. (HEAD_BYTES ≤ start) × (start ≤ end)
         × (drop start line.new ≡ term_words terms.now ++ drop end line.old)) }
@@ -137,6 +150,37 @@ fn put_others(terms: &[Term], line: &mut [u8; LINE_BYTES], end: usize) -> Option
     Some(start)
 }
 
+fn put_numbers(numbers: &[i64], line: &mut [u8; LINE_BYTES], end: usize) -> Option<usize>
+    requires { (HEAD_BYTES ≤ end) × (end ≤ LINE_BYTES) }
+    ensures { IfSome result (λ start. (HEAD_BYTES ≤ start) × (start ≤ end) × (drop start line.new
+        ≡ term_words (number_terms numbers.now) ++ drop end line.old)) }
+{
+    match numbers.split_first() {
+        None => Some(end),
+        Some((first, others)) => {
+            let end = put_other_numbers(others, line, end)?;
+            let end = put_term(&Term::Int(*first), line, end)?;
+            Some(put_byte(b' ', line, end))
+        }
+    }
+}
+
+/// Each number behind a comma.
+fn put_other_numbers(numbers: &[i64], line: &mut [u8; LINE_BYTES], end: usize) -> Option<usize>
+    requires { (HEAD_BYTES ≤ end) × (end ≤ LINE_BYTES) }
+    ensures { IfSome result (λ start. (HEAD_BYTES ≤ start) × (start ≤ end) × (drop start line.new
+        ≡ flat_map (λ number. 44 ∷ term_text (Int number)) numbers.now ++ drop end line.old)) }
+{
+    let mut start = end;
+    let mut left = numbers.len();
+    while left > 0 {
+        left -= 1;
+        start = put_other(&Term::Int(numbers[left]), line, start)?;
+    }
+    Some(start)
+}
+
+#[inline(always)]
 fn put_other(term: &Term, line: &mut [u8; LINE_BYTES], end: usize) -> Option<usize>
     requires { (HEAD_BYTES ≤ end) × (end ≤ LINE_BYTES) }
     ensures { IfSome result (λ start. (HEAD_BYTES ≤ start) × (start ≤ end)

@@ -1,13 +1,15 @@
+//! The line of each entry, piece by piece.
 ghost use Rattle.std.specs.Prelude.{◌≡◌, ◌++◌, [], ◌∷◌, OnOk, OnErr, codes, decimal};
 ghost use Rattle.std.specs.List.{flat_map};
 ghost use Rattle.tb_terms.specs.Texts.{term_text};
+ghost use Rattle.tb_terms.specs.declared.term.Term.TheVariants.{Int};
 ghost use Rattle.tb_terms.specs.Helpers.Prefixes.{KeepsPrefix};
 ghost use Rattle.tb_log.specs.LogText.{entry_text, entry_words, kind_word, label_words, term_words, arguments_text, fed_words, input_words, tool_line_words, out_words, why_word};
-ghost use Rattle.tb_log.specs.Seens.{entry_seen};
+ghost use Rattle.tb_log.specs.Seens.{entry_seen, number_terms, terms_seen};
 ghost use Rattle.tb_log.specs.Helpers.StepText.{shown_places, shown_terms};
 
 use crate::entry::{Entry, Input, LabelKind, Out, Reply, ToolLine, Why};
-use crate::seen::{Seen, SeenLabel};
+use crate::seen::{Seen, SeenLabel, SeenTerms};
 use crate::step_line::{LINE_BYTES, put_head, put_line};
 use itoa::Buffer;
 use tb_terms::{NoMemory, Term, Terms, push_quoted, write_term, write_terms};
@@ -80,7 +82,7 @@ fn push_words(seen: &Seen, into: &mut Vec<u8>) -> Result<(), NoMemory>
 #[tactic(auto, using(crate::proofs::StepLemmas::words_in_parts))]
 fn push_label(label: &SeenLabel, into: &mut Vec<u8>) -> Result<(), NoMemory>
     ensures ok { OnOk result (into.new.items ≡ into.old.items
-        ++ label_words label.now.kind label.now.from label.now.to label.now.terms.now) }
+        ++ label_words label.now.kind label.now.from label.now.to (terms_seen label.now.terms)) }
     ensures err { OnErr result (KeepsPrefix into.old.items into.new.items) }
 {
     push_head(label, into)?;
@@ -100,7 +102,7 @@ fn push_head(label: &SeenLabel, into: &mut Vec<u8>) -> Result<(), NoMemory>
 
 fn push_shown_terms(label: &SeenLabel, into: &mut Vec<u8>) -> Result<(), NoMemory>
     ensures ok { OnOk result (into.new.items
-        ≡ into.old.items ++ term_words (shown_terms label.now.kind label.now.terms.now)) }
+        ≡ into.old.items ++ term_words (shown_terms label.now.kind (terms_seen label.now.terms))) }
     ensures err { OnErr result (KeepsPrefix into.old.items into.new.items) }
 {
     match label.kind {
@@ -139,7 +141,18 @@ pub fn kind_word(kind: LabelKind) -> &'static [u8]
     }
 }
 
-fn push_terms(terms: &[Term], into: &mut Vec<u8>) -> Result<(), NoMemory>
+fn push_terms(terms: SeenTerms, into: &mut Vec<u8>) -> Result<(), NoMemory>
+    ensures ok { OnOk result
+        (into.new.items ≡ into.old.items ++ term_words (terms_seen terms.entry)) }
+    ensures err { OnErr result (KeepsPrefix into.old.items into.new.items) }
+{
+    match terms {
+        SeenTerms::Terms(terms) => push_all(terms, into),
+        SeenTerms::Numbers(numbers) => push_numbers(numbers, into),
+    }
+}
+
+fn push_all(terms: &[Term], into: &mut Vec<u8>) -> Result<(), NoMemory>
     ensures ok { OnOk result (into.new.items ≡ into.old.items ++ term_words terms.now) }
     ensures err { OnErr result (KeepsPrefix into.old.items into.new.items) }
 {
@@ -162,6 +175,34 @@ fn push_others(terms: &[Term], into: &mut Vec<u8>) -> Result<(), NoMemory>
     for term in terms {
         into.push(b',')?;
         write_term(term, into)?;
+    }
+    Ok(())
+}
+
+fn push_numbers(numbers: &[i64], into: &mut Vec<u8>) -> Result<(), NoMemory>
+    ensures ok { OnOk result
+        (into.new.items ≡ into.old.items ++ term_words (number_terms numbers.now)) }
+    ensures err { OnErr result (KeepsPrefix into.old.items into.new.items) }
+{
+    match numbers.split_first() {
+        None => Ok(()),
+        Some((first, others)) => {
+            into.push(b' ')?;
+            write_term(&Term::Int(*first), into)?;
+            push_other_numbers(others, into)
+        }
+    }
+}
+
+/// Each number behind a comma.
+fn push_other_numbers(numbers: &[i64], into: &mut Vec<u8>) -> Result<(), NoMemory>
+    ensures ok { OnOk result (into.new.items
+        ≡ into.old.items ++ flat_map (λ number. 44 ∷ term_text (Int number)) numbers.now) }
+    ensures err { OnErr result (KeepsPrefix into.old.items into.new.items) }
+{
+    for number in numbers {
+        into.push(b',')?;
+        write_term(&Term::Int(*number), into)?;
     }
     Ok(())
 }

@@ -12,7 +12,7 @@ use Rattle.tb_log.specs.declared.kept.Other.{Other}
 use Rattle.tb_log.specs.declared.kept.Other.TheVariants as other
 use Rattle.tb_log.specs.Limits.{log_size, most_size}
 
--- a step has its share of the terms of all steps
+-- a step has its share of the terms of all steps that are kept as it is
 abbrev pub label_kept : List Term → KeptStep → Label
 label_kept terms step = record { kind = step.kind; from = step.from; to = step.to; terms = take step.count (drop step.first terms) }
 
@@ -26,27 +26,31 @@ abbrev pub other_there : Option Other → Entry
 other_there None = Quiet
 other_there (Some it) = other_entry it
 
-abbrev pub entry_kept : List Term → List Other → Kept → Entry
-entry_kept terms others (kept.Did step) = Did (label_kept terms step)
-entry_kept terms others kept.Quiet = Quiet
-entry_kept terms others (kept.Other at) = other_there (slice_get others at)
+-- the terms of a step of numbers alone stand in a list beside that of all other steps
+abbrev pub entry_kept : List Term → List Term → List Other → Kept → Entry
+entry_kept terms numbers others (kept.Did step) = Did (label_kept terms step)
+entry_kept terms numbers others (kept.Numbers step) = Did (label_kept numbers step)
+entry_kept terms numbers others kept.Quiet = Quiet
+entry_kept terms numbers others (kept.Other at) = other_there (slice_get others at)
 
-abbrev pub entries_kept : List Term → List Other → List Kept → List Entry
-entries_kept terms others entries = map (entry_kept terms others) entries
+abbrev pub entries_kept : List Term → List Term → List Other → List Kept → List Entry
+entries_kept terms numbers others entries = map (entry_kept terms numbers others) entries
 
--- what an entry names stands among so many terms and so many others
-abbrev pub NamesWithin : ℕ → ℕ → Kept → Type 0
-NamesWithin terms others (kept.Did step) = step.first + step.count ≤ terms
-NamesWithin terms others kept.Quiet = ⊤
-NamesWithin terms others (kept.Other at) = at < others
+-- what an entry names stands among so many terms, so many numbers and so many others
+abbrev pub NamesWithin : ℕ → ℕ → ℕ → Kept → Type 0
+NamesWithin terms numbers others (kept.Did step) = step.first + step.count ≤ terms
+NamesWithin terms numbers others (kept.Numbers step) = step.first + step.count ≤ numbers
+NamesWithin terms numbers others kept.Quiet = ⊤
+NamesWithin terms numbers others (kept.Other at) = at < others
 
 -- Each entry names what is there, they are so large, and within the limits. A term has a size of 1 at least, so there are
--- no more terms than that, and no more others than entries.
-pub record StandsFor (limit size : ℕ) (terms : List Term) (others : List Other) (entries : List Kept) : Type 0 where
-  pub named : All (NamesWithin (length terms) (length others)) entries
-  pub sized : size ≡ log_size (entries_kept terms others entries)
+-- no more terms than that, no more numbers, and no more others than entries.
+pub record StandsFor (limit size : ℕ) (terms numbers : List Term) (others : List Other) (entries : List Kept) : Type 0 where
+  pub named : All (NamesWithin (length terms) (length numbers) (length others)) entries
+  pub sized : size ≡ log_size (entries_kept terms numbers others entries)
   pub small : size ≤ most_size
   pub within : length entries ≤ limit
   pub limited : limit ≤ 4294967295
   pub few_terms : length terms ≤ size
+  pub few_numbers : length numbers ≤ size
   pub few_others : length others ≤ length entries

@@ -1,4 +1,4 @@
-use Rattle.std.proofs.Common.{◌∙◌, ◌+◌, ◌++◌, [], ◌∷◌, List, ap, sym, take, drop}
+use Rattle.std.proofs.Common.{◌∙◌, ◌++◌, [], ◌∷◌, List, ap, sym, take, drop}
 use Rattle.tb_log.specs.declared.entry.Entry.{Entry}
 use Rattle.tb_log.specs.Seens.{entry_seen}
 use Rattle.tb_log.proofs.ReadLemmas.{read_behind}

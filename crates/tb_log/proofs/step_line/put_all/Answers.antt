@@ -1,7 +1,7 @@
 use Rattle.std.proofs.Common.{ℕ, List, ◌∷◌, ◌++◌, ap, ◌∙◌, arith}
 use Rattle.tb_terms.specs.Texts.{term_text}
 use Rattle.tb_log.proofs.StepLemmas.{term_words_in_parts}
-use Rattle.tb_log.proofs.step_line.put_terms.Goals as goal
+use Rattle.tb_log.proofs.step_line.put_all.Goals as goal
 
 pub returns-in_ok-end-in-Some-2 : goal.returns-in_ok-end-in-Some-2
 returns-in_ok-end-in-Some-2 c =

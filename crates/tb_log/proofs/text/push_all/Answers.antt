@@ -1,7 +1,7 @@
 use Rattle.std.proofs.lemmas.Result.{on_ok_weaker, on_err_weaker}
 use Rattle.tb_terms.proofs.Joined.{kept_through}
 use Rattle.tb_log.proofs.StepLemmas.{words_pushed}
-use Rattle.tb_log.proofs.text.push_terms.Goals as goal
+use Rattle.tb_log.proofs.text.push_all.Goals as goal
 
 pub returns-in_ok-write_term-in-Some-clause-ok : goal.returns-in_ok-write_term-in-Some-clause-ok
 returns-in_ok-write_term-in-Some-clause-ok c =
