@@ -57,7 +57,7 @@ closed-meets k m closed e = ⊎_elim
     (λ (same : k ≡ m). same)
     (meets-cases k m e)
 
-only-mark : (x k : Mark) → has_mark (x ∷ []) k ≡ true → k ≡ x
+pub only-mark : (x k : Mark) → has_mark (x ∷ []) k ≡ true → k ≡ x
 only-mark x k e = ⊎_elim (λ (same : is_mark k x ≡ true). pairs.same-mark k x same) (λ (no : false ≡ true). absurd (cc)) (or-cases (is_mark k x) false e)
 
 module _ (r : Pairs) (but : List Mark) where

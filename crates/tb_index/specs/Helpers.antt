@@ -2,3 +2,4 @@
 pub mod Pairs
 pub mod Bits
 pub mod Ties
+pub mod Sides

@@ -4,12 +4,20 @@ ghost use Rattle.std.specs.List.{list_any};
 ghost use Rattle.tb_index.specs.declared.mark.Mark.{Mark as TheMark};
 ghost use Rattle.tb_index.specs.Marks.{has_mark, is_mark, meets, open_head};
 ghost use Rattle.tb_index.specs.Helpers.Pairs.{has, AreCountedIf, AreOpened, AllOpened, SentAreHeard, ReceivedAreHeard, SentAreKept, ReceivedAreKept, AreKept, IsFirst, is_sender};
+ghost use Rattle.tb_index.specs.Helpers.Sides.{AreTold, AreHeardOn, AreKeptOn};
 
 use crate::counts::Counts;
 use crate::mark::{Mark, Marks, OPEN_HEAD, has_mark, wide};
 use crate::pairs::Pairs;
 use crate::slot::earlier;
 use tb_terms::NoMemory;
+
+/// Whose marks: those of the senders, or those of the receivers.
+#[derive(Clone, Copy)]
+pub(crate) enum Side {
+    Sends,
+    Receives,
+}
 
 /// What a process now sends and receives under the new marks makes these active, where somebody
 /// receives it or sends it.
@@ -30,18 +38,20 @@ pub(crate) fn activate(
     ensures receives { OnOk result (ReceivedAreHeard
         new.now.receives.items old.now.receives.items sending.now active.new.items) }
 {
-    match activate_sent(
+    match activate_side(
         active,
+        Side::Sends,
         receiving,
-        counts.opened,
+        counts,
         new.sends.as_slice(),
         old.sends.as_slice(),
     ) {
         Ok(()) => {}
         Err(error) => return Err(error),
     }
-    activate_received(
+    activate_side(
         active,
+        Side::Receives,
         sending,
         counts,
         new.receives.as_slice(),
@@ -50,59 +60,58 @@ pub(crate) fn activate(
     Ok(())
 }
 
-fn activate_sent(
+/// Likewise the new marks of one side but for the others; `across` has the pairs of the other side.
+#[inline(always)]
+fn activate_side(
     active: &mut Vec<Mark>,
-    receiving: &Pairs,
-    opened: bool,
+    side: Side,
+    across: &Pairs,
+    counts: &Counts,
     marks: &[Mark],
     but: &[Mark],
 ) -> Result<(), NoMemory>
-    requires { AllOpened opened receiving.now }
+    requires { AreTold side counts.now.opened across.now counts.now.pairs marks.now }
     ensures kept { AreKept active.old.items active.new.items }
-    ensures all { OnOk result (SentAreHeard marks.now but.now receiving.now active.new.items) }
-{
-    if marks.is_empty() {
-        return Ok(());
-    }
-    if marks.len() == 1 {
-        return activate_one_sent(active, receiving, opened, marks[0], but);
-    }
-    activate_some_sent(active, receiving, opened, marks, but)
-}
-
-#[inline(never)]
-fn activate_some_sent(
-    active: &mut Vec<Mark>,
-    receiving: &Pairs,
-    opened: bool,
-    marks: &[Mark],
-    but: &[Mark],
-) -> Result<(), NoMemory>
-    requires { AllOpened opened receiving.now }
-    ensures kept { AreKept active.old.items active.new.items }
-    ensures all { OnOk result (SentAreHeard marks.now but.now receiving.now active.new.items) }
+    ensures all { OnOk result (AreHeardOn side marks.now but.now across.now active.new.items) }
 {
     for mark in marks {
-        activate_one_sent(active, receiving, opened, *mark, but)?;
+        activate_one(active, side, across, counts, *mark, but)?;
     }
     Ok(())
 }
 
 #[inline(always)]
-fn activate_one_sent(
+fn activate_one(
     active: &mut Vec<Mark>,
-    receiving: &Pairs,
-    opened: bool,
+    side: Side,
+    across: &Pairs,
+    counts: &Counts,
     mark: Mark,
     but: &[Mark],
 ) -> Result<(), NoMemory>
-    requires { AllOpened opened receiving.now }
+    requires { AreTold side counts.now.opened across.now counts.now.pairs (mark ∷ []) }
     ensures kept { AreKept active.old.items active.new.items }
-    ensures all { OnOk result (SentAreHeard (mark ∷ []) but.now receiving.now active.new.items) }
+    ensures all { OnOk result (AreHeardOn side (mark ∷ []) but.now across.now active.new.items) }
 {
     if has_mark(but, mark) {
         return Ok(());
     }
+    match side {
+        Side::Sends => activate_sent(active, across, counts.opened, mark),
+        Side::Receives => activate_received(active, across, counts, mark),
+    }
+}
+
+fn activate_sent(
+    active: &mut Vec<Mark>,
+    receiving: &Pairs,
+    opened: bool,
+    mark: Mark,
+) -> Result<(), NoMemory>
+    requires { AllOpened opened receiving.now }
+    ensures kept { AreKept active.old.items active.new.items }
+    ensures all { OnOk result (SentAreHeard (mark ∷ []) [] receiving.now active.new.items) }
+{
     match activate_where(active, receiving, mark) {
         Ok(()) => {}
         Err(error) => return Err(error),
@@ -120,58 +129,13 @@ fn activate_received(
     active: &mut Vec<Mark>,
     sending: &Pairs,
     counts: &Counts,
-    marks: &[Mark],
-    but: &[Mark],
-) -> Result<(), NoMemory>
-    requires counted { AreCountedIf counts.now.opened sending.now counts.now.pairs }
-    requires opened { AreOpened counts.now.opened marks.now }
-    ensures kept { AreKept active.old.items active.new.items }
-    ensures all { OnOk result (ReceivedAreHeard marks.now but.now sending.now active.new.items) }
-{
-    if marks.is_empty() {
-        return Ok(());
-    }
-    if marks.len() == 1 {
-        return activate_one_received(active, sending, counts, marks[0], but);
-    }
-    activate_some_received(active, sending, counts, marks, but)
-}
-
-#[inline(never)]
-fn activate_some_received(
-    active: &mut Vec<Mark>,
-    sending: &Pairs,
-    counts: &Counts,
-    marks: &[Mark],
-    but: &[Mark],
-) -> Result<(), NoMemory>
-    requires counted { AreCountedIf counts.now.opened sending.now counts.now.pairs }
-    requires opened { AreOpened counts.now.opened marks.now }
-    ensures kept { AreKept active.old.items active.new.items }
-    ensures all { OnOk result (ReceivedAreHeard marks.now but.now sending.now active.new.items) }
-{
-    for mark in marks {
-        activate_one_received(active, sending, counts, *mark, but)?;
-    }
-    Ok(())
-}
-
-#[inline(always)]
-fn activate_one_received(
-    active: &mut Vec<Mark>,
-    sending: &Pairs,
-    counts: &Counts,
     mark: Mark,
-    but: &[Mark],
 ) -> Result<(), NoMemory>
     requires counted { AreCountedIf counts.now.opened sending.now counts.now.pairs }
     requires opened { mark.head ≡ open_head → counts.now.opened ≡ true }
     ensures kept { AreKept active.old.items active.new.items }
-    ensures all { OnOk result (ReceivedAreHeard (mark ∷ []) but.now sending.now active.new.items) }
+    ensures all { OnOk result (ReceivedAreHeard (mark ∷ []) [] sending.now active.new.items) }
 {
-    if has_mark(but, mark) {
-        return Ok(());
-    }
     if mark.head == OPEN_HEAD {
         activate_where(active, &counts.pairs, mark)?;
         return Ok(());
@@ -198,61 +162,54 @@ fn activate_where(active: &mut Vec<Mark>, pairs: &Pairs, mark: Mark) -> Result<(
     Ok(())
 }
 
-/// What is received under one of these marks but for the others is no longer active, where nobody
-/// sends it any more.
+/// The marks of one side but for the others are no longer active, where nobody sends under them any more what is
+/// received, or nobody receives.
 #[inline(always)]
-pub(crate) fn quiet_sent(
+pub(crate) fn quiet_side(
     active: &mut Vec<Mark>,
-    sending: &Pairs,
+    side: Side,
+    pairs: &Pairs,
     counts: &Counts,
     marks: &[Mark],
     but: &[Mark],
 )
-    requires { AreCountedIf counts.now.opened sending.now counts.now.pairs }
-    ensures { SentAreKept active.old.items active.new.items sending.now }
-{
-    if marks.is_empty() {
-        return;
-    }
-    if marks.len() == 1 {
-        quiet_one_sent(active, sending, counts, marks[0], but);
-    } else {
-        quiet_some_sent(active, sending, counts, marks, but);
-    }
-}
-
-#[inline(never)]
-fn quiet_some_sent(
-    active: &mut Vec<Mark>,
-    sending: &Pairs,
-    counts: &Counts,
-    marks: &[Mark],
-    but: &[Mark],
-)
-    requires { AreCountedIf counts.now.opened sending.now counts.now.pairs }
-    ensures { SentAreKept active.old.items active.new.items sending.now }
+    requires { side ≡ Side.Sends → AreCountedIf counts.now.opened pairs.now counts.now.pairs }
+    ensures { AreKeptOn side active.old.items active.new.items pairs.now }
 {
     for mark in marks {
-        quiet_one_sent(active, sending, counts, *mark, but);
+        quiet_one(active, side, pairs, counts, *mark, but);
     }
 }
 
 #[inline(always)]
-fn quiet_one_sent(
+fn quiet_one(
     active: &mut Vec<Mark>,
-    sending: &Pairs,
+    side: Side,
+    pairs: &Pairs,
     counts: &Counts,
     mark: Mark,
     but: &[Mark],
 )
+    requires { side ≡ Side.Sends → AreCountedIf counts.now.opened pairs.now counts.now.pairs }
+    ensures { AreKeptOn side active.old.items active.new.items pairs.now }
+{
+    if has_mark(but, mark) {
+        return;
+    }
+    match side {
+        Side::Sends => quiet_sent(active, pairs, counts, mark),
+        Side::Receives => quiet_unreceived(active, pairs, mark),
+    }
+}
+
+/// What is received under the mark, or under that of as many, is no longer active, where nobody sends it.
+fn quiet_sent(active: &mut Vec<Mark>, sending: &Pairs, counts: &Counts, mark: Mark)
     requires { AreCountedIf counts.now.opened sending.now counts.now.pairs }
     ensures { SentAreKept active.old.items active.new.items sending.now }
 {
-    if !has_mark(but, mark) {
-        quiet_unsent(active, sending, counts, mark);
-        if counts.opened {
-            quiet_unsent(active, sending, counts, wide(mark));
-        }
+    quiet_unsent(active, sending, counts, mark);
+    if counts.opened {
+        quiet_unsent(active, sending, counts, wide(mark));
     }
 }
 
@@ -281,44 +238,6 @@ fn is_unsent(sending: &Pairs, counts: &Counts, mark: Mark) -> bool
         counts.pairs.has_nobody(mark)
     } else {
         false
-    }
-}
-
-/// These marks but for the others are no longer active, where nobody receives under them any more.
-#[inline(always)]
-pub(crate) fn quiet_received(
-    active: &mut Vec<Mark>,
-    receiving: &Pairs,
-    marks: &[Mark],
-    but: &[Mark],
-)
-    ensures { ReceivedAreKept active.old.items active.new.items receiving.now }
-{
-    if marks.is_empty() {
-        return;
-    }
-    if marks.len() == 1 {
-        quiet_one_received(active, receiving, marks[0], but);
-    } else {
-        quiet_some_received(active, receiving, marks, but);
-    }
-}
-
-#[inline(never)]
-fn quiet_some_received(active: &mut Vec<Mark>, receiving: &Pairs, marks: &[Mark], but: &[Mark])
-    ensures { ReceivedAreKept active.old.items active.new.items receiving.now }
-{
-    for mark in marks {
-        quiet_one_received(active, receiving, *mark, but);
-    }
-}
-
-#[inline(always)]
-fn quiet_one_received(active: &mut Vec<Mark>, receiving: &Pairs, mark: Mark, but: &[Mark])
-    ensures { ReceivedAreKept active.old.items active.new.items receiving.now }
-{
-    if !has_mark(but, mark) {
-        quiet_unreceived(active, receiving, mark);
     }
 }
 

@@ -4,7 +4,7 @@ ghost use Rattle.tb_index.specs.declared.mark.Mark.{Mark as TheMark};
 ghost use Rattle.tb_index.specs.Marks.{has_mark};
 ghost use Rattle.tb_index.specs.Indexes.{sends, receives, is_receiver, HasRoom, IsSender, IsReceiver, MayBegin, AreThose, IsNext, NobodyPassed, IsEmpty, SameIndex, IsSet, IsCleared, IsTurned};
 
-use crate::active::{next_sender, quiet_received, quiet_sent};
+use crate::active::{Side, next_sender, quiet_side};
 use crate::bits::Bits;
 use crate::coming::come;
 use crate::counts::{Counts, open_up, uncount};
@@ -98,16 +98,19 @@ impl Index {
             new.sends.as_slice(),
             proc,
         );
-        quiet_sent(
+        quiet_side(
             &mut self.active,
+            Side::Sends,
             &self.sending,
             &self.counts,
             old.sends.as_slice(),
             new.sends.as_slice(),
         );
-        quiet_received(
+        quiet_side(
             &mut self.active,
+            Side::Receives,
             &self.receiving,
+            &self.counts,
             old.receives.as_slice(),
             new.receives.as_slice(),
         );
@@ -126,16 +129,19 @@ impl Index {
         self.receiving
             .remove_but(old.receives.as_slice(), &[], proc);
         uncount(&mut self.counts, old.sends.as_slice(), &[], proc);
-        quiet_sent(
+        quiet_side(
             &mut self.active,
+            Side::Sends,
             &self.sending,
             &self.counts,
             old.sends.as_slice(),
             &[],
         );
-        quiet_received(
+        quiet_side(
             &mut self.active,
+            Side::Receives,
             &self.receiving,
+            &self.counts,
             old.receives.as_slice(),
             &[],
         );

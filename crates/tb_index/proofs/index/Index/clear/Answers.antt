@@ -8,8 +8,8 @@ use Rattle.tb_index.proofs.PairLemmas as pairs
 use Rattle.tb_index.proofs.IndexLemmas as indexes
 use Rattle.tb_index.proofs.index.Index.clear.Goals as goal
 
-pub quiet_sent-requires : goal.quiet_sent-requires
-quiet_sent-requires c = λ t. active.left-counted c.self.inside.sending c.remove_but.new.self c.args.proc c.as_slice.result.now [] c.remove_but.ensures
+pub quiet_side-requires : goal.quiet_side-requires
+quiet_side-requires c = λ is_sends t. active.left-counted c.self.inside.sending c.remove_but.new.self c.args.proc c.as_slice.result.now [] c.remove_but.ensures
     c.self.inside.counts.pairs c.uncount.new.counts.pairs (c.self.invariant.counts (sym c.uncount.ensures.opened ∙ t)) c.uncount.ensures.still
     (λ mark e. absurd (active.not-both (has c.remove_but.new.self mark c.args.proc) e
     (pairs.gone-own (has c.remove_but.new.self mark c.args.proc) (has c.self.inside.sending mark c.args.proc) (has_mark c.as_slice.result.now mark) (c.args.proc == c.args.proc)
@@ -29,15 +29,15 @@ invariant_of-self c = record {
       ((indexes.own-sends c.self.inside.sending c.self.inside.receiving c.self.inside.counts.opened c.self.inside.counts.pairs c.self.inside.awake c.self.inside.active.items c.args.proc c.args.old.now.sends.items
       (subst (λ index. (m : Mark) → sends index m c.args.proc ≡ has_mark c.args.old.now.sends.items m) (sym c.self.view_is) c.requires.sends)) mark ∙ ap (λ (marks : List Mark). has_mark marks mark) (sym c.as_slice.ensures.value))))));
   heard = active.left-heard c.self.inside.sending c.remove_but.new.self c.self.inside.receiving c.remove_but-2.new.self
-      c.self.inside.active.items c.quiet_sent.new.active.items c.quiet_received.new.active.items c.self.invariant.heard
+      c.self.inside.active.items c.quiet_side.new.active.items c.quiet_side-2.new.active.items c.self.invariant.heard
       (active.left c.self.inside.sending c.remove_but.new.self c.args.proc c.as_slice.result.now [] c.remove_but.ensures)
       (active.left c.self.inside.receiving c.remove_but-2.new.self c.args.proc c.as_slice-2.result.now [] c.remove_but-2.ensures)
-      c.quiet_sent.ensures c.quiet_received.ensures;
+      c.quiet_side.ensures c.quiet_side-2.ensures;
 }
 
 pub returns : goal.returns
-returns c = subst (λ old. IsCleared old (indexes.state c.remove_but.new.self c.remove_but-2.new.self c.uncount.new.counts.opened c.uncount.new.counts.pairs c.remove.new.self c.quiet_received.new.active.items) c.args.proc) c.self.view_is
-    (indexes.cleared c.self.inside.sending c.self.inside.receiving c.self.inside.counts.opened c.self.inside.counts.pairs c.self.inside.awake c.self.inside.active.items c.remove_but.new.self c.remove_but-2.new.self c.uncount.new.counts.opened c.uncount.new.counts.pairs c.remove.new.self c.quiet_received.new.active.items
+returns c = subst (λ old. IsCleared old (indexes.state c.remove_but.new.self c.remove_but-2.new.self c.uncount.new.counts.opened c.uncount.new.counts.pairs c.remove.new.self c.quiet_side-2.new.active.items) c.args.proc) c.self.view_is
+    (indexes.cleared c.self.inside.sending c.self.inside.receiving c.self.inside.counts.opened c.self.inside.counts.pairs c.self.inside.awake c.self.inside.active.items c.remove_but.new.self c.remove_but-2.new.self c.uncount.new.counts.opened c.uncount.new.counts.pairs c.remove.new.self c.quiet_side-2.new.active.items
     c.args.proc c.args.old.now.sends.items c.args.old.now.receives.items
     (indexes.own-sends c.self.inside.sending c.self.inside.receiving c.self.inside.counts.opened c.self.inside.counts.pairs c.self.inside.awake c.self.inside.active.items c.args.proc c.args.old.now.sends.items
     (subst (λ index. (m : Mark) → sends index m c.args.proc ≡ has_mark c.args.old.now.sends.items m) (sym c.self.view_is) c.requires.sends))
