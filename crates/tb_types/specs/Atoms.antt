@@ -1,18 +1,18 @@
--- What an atom breaks: the table of the atoms, with their numbers of arguments and what each argument is, and the times.
-use Rattle.std.specs.Prelude.{ℕ, Bool, true, false, not, ◌||◌, ◌&&◌, nat_lt, List, [], ◌∷◌, ◌++◌, length, Option, Some, None, is_none, codes, if◌then◌else◌}
+-- What an atom breaks: where its arguments stand and what each is asked for, one case an atom, and the times.
+use Rattle.std.specs.Prelude.{ℕ, Bool, true, false, not, ◌||◌, ◌&&◌, nat_lt, List, [], ◌∷◌, ◌++◌, length, Option, Some, None, is_none, unwrap_or}
 use Rattle.std.specs.List.{flat_map}
 use Rattle.tb_terms.specs.declared.sort.Sort.{Sort}
 use Rattle.tb_terms.specs.declared.sort.Sort.TheVariants as sorts
 use Rattle.tb_syntax.specs.declared.ast.Ast.{Ast}
 use Rattle.tb_syntax.specs.declared.ast.AstKind.{out-AstKind}
+use Rattle.tb_syntax.specs.declared.atom_words.AtomWord.{AtomWord}
+use Rattle.tb_syntax.specs.declared.atom_words.AtomWord.TheVariants as atom
 use Rattle.tb_syntax.specs.declared.proc.ActDef.{ActDef}
 use Rattle.tb_syntax.specs.declared.proc.ActDef.TheVariants as act
 use Rattle.tb_syntax.specs.declared.proc.AtomDef.{AtomDef}
 use Rattle.tb_syntax.specs.declared.proc.TimeDef.{TimeDef}
 use Rattle.tb_syntax.specs.declared.script.Script.{Script}
-use Rattle.tb_syntax.specs.Words.{is_among}
-use Rattle.tb_types.specs.declared.atoms.Word.{Word}
-use Rattle.tb_types.specs.declared.atoms.Word.TheVariants as word
+use Rattle.tb_syntax.specs.AtomWords.{atom_word, fewest, takes_more}
 use Rattle.tb_types.specs.declared.violation.Violation.{Violation}
 use Rattle.tb_types.specs.declared.violation.Rule.TheVariants.{Arity, Undeclared}
 use Rattle.tb_types.specs.declared.calls.Manner.TheVariants.{Made}
@@ -24,110 +24,117 @@ use Rattle.tb_types.specs.Calls.{call_faults}
 use Rattle.tb_types.specs.ExpectedSorts.{Expectation, plain, of_sort, tested, made, command, started, connected, disconnected, of_tool, name_alone, site_faults}
 use Rattle.tb_types.specs.Scopes.{sort_in}
 
-abbrev pub one_word : List ℕ → List (List ℕ)
-one_word name = name ∷ []
-
--- `delta` and `tau` are left
-abbrev pub event_word : List ℕ → Word
-event_word name =
-    if is_among (one_word (codes "rec-value")) name then word.Value
-    else (if is_among (one_word (codes "rec-event")) name then word.Event
-    else (if is_among (one_word (codes "snd-ack-event")) name then word.Answer
-    else (if is_among (one_word (codes "shutdown")) name then word.Shutdown
-    else word.Silent)))
-
-abbrev pub tool_word : List ℕ → Word
-tool_word name =
-    if is_among (one_word (codes "execute")) name then word.Execute
-    else (if is_among (one_word (codes "rec-connect")) name then word.Connect
-    else (if is_among (one_word (codes "rec-disconnect")) name then word.Disconnect
-    else (if is_among (codes "snd-eval" ∷ codes "snd-do" ∷ codes "snd-terminate" ∷ []) name then word.Order
-    else event_word name)))
-
--- the kind of atom that goes by this name
-abbrev pub word_of : List ℕ → Word
-word_of name =
-    if is_among (one_word (codes "printf")) name then word.Print
-    else (if is_among (codes "snd-msg" ∷ codes "snd-note" ∷ []) name then word.Send
-    else (if is_among (codes "rec-msg" ∷ codes "rec-note" ∷ []) name then word.Receive
-    else (if is_among (codes "no-note" ∷ codes "subscribe" ∷ codes "unsubscribe" ∷ []) name then word.Note
-    else tool_word name)))
-
--- the fewest arguments
-abbrev pub fewest : Word → ℕ
-fewest word.Silent = 0
-fewest word.Print = 1
-fewest word.Send = 1
-fewest word.Receive = 1
-fewest word.Note = 1
-fewest word.Execute = 2
-fewest word.Connect = 1
-fewest word.Disconnect = 1
-fewest word.Order = 2
-fewest word.Value = 2
-fewest word.Event = 2
-fewest word.Answer = 2
-fewest word.Shutdown = 1
-
--- whether it may have more
-abbrev pub takes_more : Word → Bool
-takes_more word.Print = true
-takes_more word.Send = true
-takes_more word.Receive = true
-takes_more word.Note = true
-takes_more word.Event = true
-takes_more word.Answer = true
-takes_more _ = false
+-- the word of an atom. No tokens spell an atom with another name: it stands for an atom without arguments
+abbrev pub word_of : List ℕ → AtomWord
+word_of name = unwrap_or (atom_word name) atom.Delta
 
 abbrev pub is_wrong_count : ℕ → Bool → ℕ → Bool
 is_wrong_count fewest_taken takes_any count = nat_lt count fewest_taken || (not takes_any && nat_lt fewest_taken count)
 
-abbrev pub has_wrong_arguments : Word → ℕ → Bool
-has_wrong_arguments kind count = is_wrong_count (fewest kind) (takes_more kind) count
+abbrev pub has_wrong_arguments : AtomWord → ℕ → Bool
+has_wrong_arguments word count = is_wrong_count (fewest word) (takes_more word) count
 
 -- where the first argument stands
-abbrev pub first_position : Word → Position
-first_position word.Receive = Received
-first_position word.Note = Noted
-first_position word.Connect = Taken
-first_position word.Disconnect = Taken
-first_position _ = Sent
+abbrev pub first_position : AtomWord → Position
+first_position atom.Delta = Sent
+first_position atom.Tau = Sent
+first_position atom.Printf = Sent
+first_position atom.SndMsg = Sent
+first_position atom.RecMsg = Received
+first_position atom.SndNote = Sent
+first_position atom.RecNote = Received
+first_position atom.NoNote = Noted
+first_position atom.Subscribe = Noted
+first_position atom.Unsubscribe = Noted
+first_position atom.Execute = Sent
+first_position atom.RecConnect = Taken
+first_position atom.RecDisconnect = Taken
+first_position atom.SndEval = Sent
+first_position atom.RecValue = Sent
+first_position atom.SndDo = Sent
+first_position atom.RecEvent = Sent
+first_position atom.SndAckEvent = Sent
+first_position atom.SndTerminate = Sent
+first_position atom.Shutdown = Sent
 
 -- where the others stand
-abbrev pub other_position : Word → Position
-other_position word.Receive = Received
-other_position word.Note = Noted
-other_position word.Execute = Taken
-other_position word.Value = Received
-other_position word.Event = Received
-other_position _ = Sent
+abbrev pub other_position : AtomWord → Position
+other_position atom.Delta = Sent
+other_position atom.Tau = Sent
+other_position atom.Printf = Sent
+other_position atom.SndMsg = Sent
+other_position atom.RecMsg = Received
+other_position atom.SndNote = Sent
+other_position atom.RecNote = Received
+other_position atom.NoNote = Noted
+other_position atom.Subscribe = Noted
+other_position atom.Unsubscribe = Noted
+other_position atom.Execute = Taken
+other_position atom.RecConnect = Sent
+other_position atom.RecDisconnect = Sent
+other_position atom.SndEval = Sent
+other_position atom.RecValue = Received
+other_position atom.SndDo = Sent
+other_position atom.RecEvent = Received
+other_position atom.SndAckEvent = Sent
+other_position atom.SndTerminate = Sent
+other_position atom.Shutdown = Sent
 
 -- what the first argument is asked for
-abbrev pub first_expected_sort : Word → Expectation
-first_expected_sort word.Print = of_sort sorts.Str
-first_expected_sort word.Execute = command
-first_expected_sort word.Connect = connected
-first_expected_sort word.Disconnect = disconnected
-first_expected_sort word.Order = of_tool
-first_expected_sort word.Value = of_tool
-first_expected_sort word.Event = of_tool
-first_expected_sort word.Answer = of_tool
-first_expected_sort _ = plain
+abbrev pub first_expected_sort : AtomWord → Expectation
+first_expected_sort atom.Delta = plain
+first_expected_sort atom.Tau = plain
+first_expected_sort atom.Printf = of_sort sorts.Str
+first_expected_sort atom.SndMsg = plain
+first_expected_sort atom.RecMsg = plain
+first_expected_sort atom.SndNote = plain
+first_expected_sort atom.RecNote = plain
+first_expected_sort atom.NoNote = plain
+first_expected_sort atom.Subscribe = plain
+first_expected_sort atom.Unsubscribe = plain
+first_expected_sort atom.Execute = command
+first_expected_sort atom.RecConnect = connected
+first_expected_sort atom.RecDisconnect = disconnected
+first_expected_sort atom.SndEval = of_tool
+first_expected_sort atom.RecValue = of_tool
+first_expected_sort atom.SndDo = of_tool
+first_expected_sort atom.RecEvent = of_tool
+first_expected_sort atom.SndAckEvent = of_tool
+first_expected_sort atom.SndTerminate = of_tool
+first_expected_sort atom.Shutdown = plain
 
 -- what the others are asked for
-abbrev pub other_expected_sort : Word → Ast → Expectation
-other_expected_sort word.Execute first = started (name_alone (out-AstKind first.kind))
-other_expected_sort _ first = plain
+abbrev pub other_expected_sort : AtomWord → Ast → Expectation
+other_expected_sort atom.Delta first = plain
+other_expected_sort atom.Tau first = plain
+other_expected_sort atom.Printf first = plain
+other_expected_sort atom.SndMsg first = plain
+other_expected_sort atom.RecMsg first = plain
+other_expected_sort atom.SndNote first = plain
+other_expected_sort atom.RecNote first = plain
+other_expected_sort atom.NoNote first = plain
+other_expected_sort atom.Subscribe first = plain
+other_expected_sort atom.Unsubscribe first = plain
+other_expected_sort atom.Execute first = started (name_alone (out-AstKind first.kind))
+other_expected_sort atom.RecConnect first = plain
+other_expected_sort atom.RecDisconnect first = plain
+other_expected_sort atom.SndEval first = plain
+other_expected_sort atom.RecValue first = plain
+other_expected_sort atom.SndDo first = plain
+other_expected_sort atom.RecEvent first = plain
+other_expected_sort atom.SndAckEvent first = plain
+other_expected_sort atom.SndTerminate first = plain
+other_expected_sort atom.Shutdown first = plain
 
-abbrev pub arguments_faults : Script → List Known → Word → List Ast → List Violation
-arguments_faults script known kind [] = []
-arguments_faults script known kind (first ∷ others) =
-    site_faults script known (first_position kind) (first_expected_sort kind) first
-    ++ flat_map (site_faults script known (other_position kind) (other_expected_sort kind first)) others
+abbrev pub arguments_faults : Script → List Known → AtomWord → List Ast → List Violation
+arguments_faults script known word [] = []
+arguments_faults script known word (first ∷ others) =
+    site_faults script known (first_position word) (first_expected_sort word) first
+    ++ flat_map (site_faults script known (other_position word) (other_expected_sort word first)) others
 
-abbrev pub named_faults : Script → List Known → Word → List Ast → ℕ → List Violation
-named_faults script known kind arguments token =
-    noted_if (has_wrong_arguments kind (length arguments)) Arity token ++ arguments_faults script known kind arguments
+abbrev pub named_faults : Script → List Known → AtomWord → List Ast → ℕ → List Violation
+named_faults script known word arguments token =
+    noted_if (has_wrong_arguments word (length arguments)) Arity token ++ arguments_faults script known word arguments
 
 abbrev pub assigned_expected_sort : Option Sort → Expectation
 assigned_expected_sort None = plain

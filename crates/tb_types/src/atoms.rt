@@ -1,8 +1,9 @@
-ghost use Rattle.std.specs.Prelude.{◌≡◌, ◌++◌, OnOk, map};
+//! What atoms break: where their arguments stand, and what each is asked for.
+
+ghost use Rattle.std.specs.Prelude.{◌≡◌, ◌++◌, OnOk};
 ghost use Rattle.std.specs.List.{flat_map};
-ghost use Rattle.tb_types.specs.Atoms.{word_of, tool_word, event_word, fewest, takes_more, is_wrong_count, first_position, other_position, first_expected_sort, other_expected_sort, arguments_faults, named_faults, set_faults, act_faults, time_faults, atom_faults};
+ghost use Rattle.tb_types.specs.Atoms.{word_of, is_wrong_count, first_position, other_position, first_expected_sort, other_expected_sort, arguments_faults, named_faults, set_faults, act_faults, time_faults, atom_faults};
 ghost use Rattle.tb_terms.specs.declared.sort.Sort.TheVariants as sorts;
-ghost use Rattle.tb_syntax.specs.Words.{is_among};
 ghost use Rattle.tb_types.specs.Calls.{call_faults};
 ghost use Rattle.tb_types.specs.ExpectedSorts.{expected_sort_of, site_faults, made, tested};
 ghost use Rattle.tb_types.specs.Scopes.{visible, sort_in};
@@ -14,113 +15,17 @@ use crate::positions::Position;
 use crate::scope::{Scope, sort_of};
 use crate::violation::{Rule, Violation, note_if};
 use std::alloc::Global;
-use tb_syntax::{ActDef, Ast, AtomDef, Call, TimeDef};
+use tb_syntax::{ActDef, Ast, AtomDef, AtomWord, Call, TimeDef, atom_word};
 use tb_terms::{Ident, Items, NoMemory, Sort};
 
-/// What kind of atom a word is, as far as its arguments go.
-#[derive(Clone, Copy, Debug, PartialEq, Eq)]
-pub enum Word {
-    /// `delta` and `tau`.
-    Silent,
-    Print,
-    /// `snd-msg` and `snd-note`.
-    Send,
-    /// `rec-msg` and `rec-note`.
-    Receive,
-    /// `no-note`, `subscribe` and `unsubscribe`.
-    Note,
-    Execute,
-    Connect,
-    Disconnect,
-    /// `snd-eval`, `snd-do` and `snd-terminate`.
-    Order,
-    Value,
-    Event,
-    /// `snd-ack-event`.
-    Answer,
-    Shutdown,
-}
-
-fn word_of(name: &[u8]) -> Word
+/// The word of an atom. No tokens spell an atom with another name: it stands for an atom without arguments.
+fn word_of(name: &[u8]) -> AtomWord
     ensures { result ≡ word_of name.now }
 {
-    if is_among(&["tau", "delta"], name) {
-        Word::Silent
-    } else if is_among(&["printf"], name) {
-        Word::Print
-    } else if is_among(&["snd-msg", "snd-note"], name) {
-        Word::Send
-    } else if is_among(&["rec-msg", "rec-note"], name) {
-        Word::Receive
-    } else if is_among(&["no-note", "subscribe", "unsubscribe"], name) {
-        Word::Note
-    } else {
-        tool_word(name)
+    match atom_word(name) {
+        Some(word) => word,
+        None => AtomWord::Delta,
     }
-}
-
-fn tool_word(name: &[u8]) -> Word
-    ensures { result ≡ tool_word name.now }
-{
-    if is_among(&["execute"], name) {
-        Word::Execute
-    } else if is_among(&["rec-connect"], name) {
-        Word::Connect
-    } else if is_among(&["rec-disconnect"], name) {
-        Word::Disconnect
-    } else if is_among(&["snd-eval", "snd-do", "snd-terminate"], name) {
-        Word::Order
-    } else {
-        event_word(name)
-    }
-}
-
-fn event_word(name: &[u8]) -> Word
-    ensures { result ≡ event_word name.now }
-{
-    if is_among(&["rec-value"], name) {
-        Word::Value
-    } else if is_among(&["rec-event"], name) {
-        Word::Event
-    } else if is_among(&["snd-ack-event"], name) {
-        Word::Answer
-    } else if is_among(&["shutdown"], name) {
-        Word::Shutdown
-    } else {
-        Word::Silent
-    }
-}
-
-fn is_among(words: &[&str], name: &[u8]) -> bool
-    ensures { result ≡ is_among (map (λ word. word.now) words.now) name.now }
-{
-    for word in words {
-        if name == word.as_bytes() {
-            return true;
-        }
-    }
-    false
-}
-
-/// The fewest arguments that the atom may have.
-fn fewest(word: Word) -> usize
-    ensures { result ≡ fewest word }
-{
-    match word {
-        Word::Silent => 0,
-        Word::Print | Word::Send | Word::Receive | Word::Note => 1,
-        Word::Connect | Word::Disconnect | Word::Shutdown => 1,
-        Word::Execute | Word::Order | Word::Value | Word::Event | Word::Answer => 2,
-    }
-}
-
-fn takes_more(word: Word) -> bool
-    ensures { result ≡ takes_more word }
-{
-    matches!(
-        word,
-        Word::Print | Word::Send | Word::Receive | Word::Note | Word::Event | Word::Answer
-    )
 }
 
 fn is_wrong_count(fewest: usize, takes_more: bool, count: usize) -> bool
@@ -129,35 +34,77 @@ fn is_wrong_count(fewest: usize, takes_more: bool, count: usize) -> bool
     count < fewest || (!takes_more && fewest < count)
 }
 
-fn first_position(word: Word) -> Position
+fn first_position(word: AtomWord) -> Position
     ensures { result ≡ first_position word }
 {
     match word {
-        Word::Receive => Position::Received,
-        Word::Note => Position::Noted,
-        Word::Connect | Word::Disconnect => Position::Taken,
-        _ => Position::Sent,
+        AtomWord::Delta
+        | AtomWord::Tau
+        | AtomWord::Printf
+        | AtomWord::SndMsg
+        | AtomWord::SndNote
+        | AtomWord::Execute
+        | AtomWord::SndEval
+        | AtomWord::RecValue
+        | AtomWord::SndDo
+        | AtomWord::RecEvent
+        | AtomWord::SndAckEvent
+        | AtomWord::SndTerminate
+        | AtomWord::Shutdown => Position::Sent,
+        AtomWord::RecMsg | AtomWord::RecNote => Position::Received,
+        AtomWord::NoNote | AtomWord::Subscribe | AtomWord::Unsubscribe => Position::Noted,
+        AtomWord::RecConnect | AtomWord::RecDisconnect => Position::Taken,
     }
 }
 
-fn other_position(word: Word) -> Position
+fn other_position(word: AtomWord) -> Position
     ensures { result ≡ other_position word }
 {
     match word {
-        Word::Receive | Word::Value | Word::Event => Position::Received,
-        Word::Note => Position::Noted,
-        Word::Execute => Position::Taken,
-        _ => Position::Sent,
+        AtomWord::Delta
+        | AtomWord::Tau
+        | AtomWord::Printf
+        | AtomWord::SndMsg
+        | AtomWord::SndNote
+        | AtomWord::RecConnect
+        | AtomWord::RecDisconnect
+        | AtomWord::SndEval
+        | AtomWord::SndDo
+        | AtomWord::SndAckEvent
+        | AtomWord::SndTerminate
+        | AtomWord::Shutdown => Position::Sent,
+        AtomWord::RecMsg | AtomWord::RecNote | AtomWord::RecValue | AtomWord::RecEvent =>
+            Position::Received,
+        AtomWord::NoNote | AtomWord::Subscribe | AtomWord::Unsubscribe => Position::Noted,
+        AtomWord::Execute => Position::Taken,
     }
 }
 
 /// What an atom with such a first argument asks of the others.
-fn other_expected_sort(word: Word, first: &Ast) -> ExpectedSort<'_>
+fn other_expected_sort(word: AtomWord, first: &Ast) -> ExpectedSort<'_>
     ensures { expected_sort_of result ≡ other_expected_sort word first.now }
 {
     match word {
-        Word::Execute => ExpectedSort::Started(name_alone(&first.kind)),
-        _ => ExpectedSort::Plain,
+        AtomWord::Delta
+        | AtomWord::Tau
+        | AtomWord::Printf
+        | AtomWord::SndMsg
+        | AtomWord::RecMsg
+        | AtomWord::SndNote
+        | AtomWord::RecNote
+        | AtomWord::NoNote
+        | AtomWord::Subscribe
+        | AtomWord::Unsubscribe
+        | AtomWord::RecConnect
+        | AtomWord::RecDisconnect
+        | AtomWord::SndEval
+        | AtomWord::RecValue
+        | AtomWord::SndDo
+        | AtomWord::RecEvent
+        | AtomWord::SndAckEvent
+        | AtomWord::SndTerminate
+        | AtomWord::Shutdown => ExpectedSort::Plain,
+        AtomWord::Execute => ExpectedSort::Started(name_alone(&first.kind)),
     }
 }
 
@@ -199,7 +146,7 @@ fn push_act(
         }
         ActDef::Named(name, arguments) => {
             let word = word_of(name.as_bytes());
-            let is_wrong = is_wrong_count(fewest(word), takes_more(word), arguments.len());
+            let is_wrong = is_wrong_count(word.fewest(), word.takes_more(), arguments.len());
             note_if(is_wrong, Rule::Arity, token, into)?;
             push_arguments(alloc, names, scope, word, arguments.as_slice(), into)?;
             Ok(())
@@ -280,7 +227,7 @@ fn push_arguments(
     alloc: Global,
     names: &Names,
     scope: &Scope,
-    word: Word,
+    word: AtomWord,
     arguments: &[Ast],
     into: &mut Items<Violation>,
 ) -> Result<(), NoMemory>
@@ -306,7 +253,7 @@ fn push_first(
     alloc: Global,
     names: &Names,
     scope: &Scope,
-    word: Word,
+    word: AtomWord,
     first: &Ast,
     into: &mut Items<Violation>,
 ) -> Result<(), NoMemory>
@@ -323,17 +270,31 @@ fn push_first(
 }
 
 /// What the first argument is asked for. `text` is the sort of strings.
-fn first_expected_sort(word: Word, text: &Sort) -> ExpectedSort<'_>
+fn first_expected_sort(word: AtomWord, text: &Sort) -> ExpectedSort<'_>
     requires { text.now ≡ sorts.Str }
     ensures { expected_sort_of result ≡ first_expected_sort word }
 {
     match word {
-        Word::Print => ExpectedSort::OfSort(text),
-        Word::Execute => ExpectedSort::Command,
-        Word::Connect => ExpectedSort::Connected,
-        Word::Disconnect => ExpectedSort::Disconnected,
-        Word::Order | Word::Value | Word::Event | Word::Answer => ExpectedSort::OfTool,
-        _ => ExpectedSort::Plain,
+        AtomWord::Delta
+        | AtomWord::Tau
+        | AtomWord::SndMsg
+        | AtomWord::RecMsg
+        | AtomWord::SndNote
+        | AtomWord::RecNote
+        | AtomWord::NoNote
+        | AtomWord::Subscribe
+        | AtomWord::Unsubscribe
+        | AtomWord::Shutdown => ExpectedSort::Plain,
+        AtomWord::Printf => ExpectedSort::OfSort(text),
+        AtomWord::Execute => ExpectedSort::Command,
+        AtomWord::RecConnect => ExpectedSort::Connected,
+        AtomWord::RecDisconnect => ExpectedSort::Disconnected,
+        AtomWord::SndEval
+        | AtomWord::RecValue
+        | AtomWord::SndDo
+        | AtomWord::RecEvent
+        | AtomWord::SndAckEvent
+        | AtomWord::SndTerminate => ExpectedSort::OfTool,
     }
 }
 

@@ -1,3 +1,5 @@
+//! What a script and the bodies of its processes break.
+
 ghost use Rattle.std.specs.Prelude.{◌≡◌, ◌++◌, [], IfOk, OnOk, map, option_map};
 ghost use Rattle.std.specs.List.{flat_map};
 ghost use Rattle.tb_types.specs.Bodies.{proc_faults, else_faults, process_faults, root_faults, script_faults};

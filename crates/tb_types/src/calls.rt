@@ -1,3 +1,5 @@
+//! What calls of processes break.
+
 ghost use Rattle.std.specs.Prelude.{◌≡◌, ◌++◌, OnOk, Some};
 ghost use Rattle.std.specs.Option.{option_copied};
 ghost use Rattle.tb_types.specs.Calls.{formal_expected_sort, formal_position, actual_position, actual_expected_sort, actuals_faults, found_call_faults, call_faults};

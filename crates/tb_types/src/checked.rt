@@ -1,3 +1,5 @@
+//! Whether a script is proper, and its first fault.
+
 ghost use Rattle.std.specs.Prelude.{◌≡◌, IfOk, IfErr, OnOk};
 ghost use Rattle.tb_types.specs.Conditions.{Proper, IsFault};
 ghost use Rattle.tb_types.specs.Helpers.Faults.{fault_of};

@@ -1,3 +1,5 @@
+//! What definitions break.
+
 ghost use Rattle.std.specs.Prelude.{◌≡◌, ◌++◌, OnOk};
 ghost use Rattle.std.specs.List.{flat_map};
 ghost use Rattle.tb_types.specs.Violation.{noted_if};

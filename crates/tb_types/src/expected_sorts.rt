@@ -1,3 +1,5 @@
+//! What an expression is asked for where it stands.
+
 ghost use Rattle.std.specs.Prelude.{◌≡◌, ◌++◌, OnOk, IfOk, option_and_then};
 ghost use Rattle.std.specs.Option.{option_copied};
 ghost use Rattle.tb_syntax.specs.declared.ast.AstKind.{out-AstKind};

@@ -1,3 +1,5 @@
+//! Whether expressions fit sorts, and what they break.
+
 ghost use Rattle.std.specs.Prelude.{◌≡◌, ◌++◌, OnOk, IfOk, map};
 ghost use Rattle.tb_terms.specs.declared.sort.Sort.{out-Sort};
 ghost use Rattle.tb_func.specs.Fitting.{sort_of};

@@ -1,3 +1,5 @@
+//! The faults of a check.
+
 ghost use Rattle.std.specs.Prelude.{◌≡◌};
 ghost use Rattle.tb_message.specs.Messages.{message_text};
 ghost use Rattle.tb_types.specs.Lines.{check_line};

@@ -1,3 +1,5 @@
+//! The first of several violations.
+
 ghost use Rattle.std.specs.Prelude.{◌≡◌};
 ghost use Rattle.tb_types.specs.Numbers.{number_of};
 ghost use Rattle.tb_types.specs.Helpers.First.{is_before, earlier, first_of};

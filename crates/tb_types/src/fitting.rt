@@ -1,3 +1,5 @@
+//! Which sorts go with each other.
+
 ghost use Rattle.std.specs.Prelude.{◌≡◌, ◌||◌};
 ghost use Rattle.tb_terms.specs.declared.sort.Sort.{out-Sort};
 ghost use Rattle.tb_terms.specs.declared.sort.Sort.TheVariants as sorts;

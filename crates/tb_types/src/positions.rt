@@ -1,3 +1,5 @@
+//! Where result variables and placeholders may stand.
+
 ghost use Rattle.std.specs.Prelude.{◌≡◌, ◌++◌, OnOk, map};
 ghost use Rattle.std.specs.List.{flat_map};
 ghost use Rattle.tb_types.specs.Positions.{takes_results, takes_holes, part_position, argument_position, misplaced, misplaced_kind};

@@ -1,3 +1,5 @@
+//! The variables that are known at a position.
+
 ghost use Rattle.std.specs.Prelude.{◌≡◌, map};
 ghost use Rattle.std.specs.Option.{option_copied};
 ghost use Rattle.tb_types.specs.Scopes.{visible, sort_in, known_formal, known_var};

@@ -1,3 +1,5 @@
+//! The names that come again.
+
 ghost use Rattle.std.specs.Prelude.{◌≡◌, ◌++◌, OnOk};
 ghost use Rattle.tb_types.specs.Violation.{noted_if};
 ghost use Rattle.tb_types.specs.Definitions.{none_seen, or_seen};

@@ -1,3 +1,5 @@
+//! The tools whose sorts an expression fits.
+
 ghost use Rattle.std.specs.Prelude.{◌≡◌, ℕ, List, map};
 ghost use Rattle.tb_terms.specs.declared.sort.Sort.TheVariants as sorts;
 ghost use Rattle.tb_types.specs.ExpectedSorts.{fits_some_tool};

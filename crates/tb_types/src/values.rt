@@ -1,3 +1,5 @@
+//! The values of expressions without variables.
+
 ghost use Rattle.std.specs.Prelude.{◌≡◌, IfOk, map};
 ghost use Rattle.tb_types.specs.Values.{closed, closed_value, closed_kind, application, is_of_sort, has_value_of};
 

@@ -1,3 +1,5 @@
+//! The conditions of a script, and their violations.
+
 ghost use Rattle.std.specs.Prelude.{◌≡◌, ◌++◌, OnOk};
 ghost use Rattle.tb_types.specs.Violation.{noted_if};
 

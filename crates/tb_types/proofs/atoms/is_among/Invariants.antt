@@ -1,8 +1,0 @@
-use Rattle.std.proofs.Common.{◌≡◌, map, drop}
-use Rattle.tb_syntax.specs.Words.{is_among}
-use Rattle.tb_types.proofs.atoms.is_among.Given as goal
-
--- the words that are left decide
-abbrev pub invariant-loop-word : goal.invariant-loop-word
-invariant-loop-word l =
-    is_among (map (λ word. word.now) (drop l.word-index l.words)) l.name ≡ is_among (map (λ word. word.now) l.words) l.name
