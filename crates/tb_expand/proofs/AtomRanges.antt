@@ -1,14 +1,11 @@
 -- Atoms that break no condition are in range.
-use Rattle.std.proofs.Common.{◌≡◌, ℕ, Bool, true, false, ◌&&◌, not, nat_lt, List, [], ◌∷◌, ◌++◌, map, ◌+◌, length, slice_get, codes, Option, Some, None, refl, ap, ◌∙◌, subst}
+use Rattle.std.proofs.Common.{◌≡◌, ℕ, Bool, true, false, ◌&&◌, not, nat_lt, List, [], ◌∷◌, ◌++◌, map, ◌+◌, length, slice_get, Option, Some, None, refl, ap, ◌∙◌, subst}
 use Rattle.std.specs.Prelude.{is_none, is_some}
 use Rattle.std.specs.List.{list_all, flat_map}
-use Rattle.std.specs.Str.{bytes_eq}
-use Rattle.std.proofs.lemmas.Bool.{and_from, cond_both, lt-ltb}
-use Rattle.std.proofs.lemmas.Slice.Eq.{bytes_eq-Decides}
+use Rattle.std.proofs.lemmas.Bool.{and_from, lt-ltb}
 use Rattle.tb_terms.specs.declared.expr.Expr.{Expr}
 use Rattle.tb_terms.specs.declared.sort.Sort.TheVariants as sorts
 use Rattle.tb_body.specs.declared.act.Act.{Act}
-use Rattle.tb_body.specs.declared.act.Act.TheVariants.{Delta, Tau}
 use Rattle.tb_body.specs.declared.atom.Time.{Time}
 use Rattle.tb_body.specs.Acts.{is_act_in_body, is_atom_in_body, some_and_all}
 use Rattle.tb_body.specs.Exprs.{positions_of, is_value}
@@ -16,6 +13,8 @@ use Rattle.tb_syntax.specs.declared.ast.Ast.{Ast}
 use Rattle.tb_syntax.specs.declared.ast.AstKind.{AstKind, out-AstKind}
 use Rattle.tb_syntax.specs.declared.ast.AstKind.TheOpen as layer
 use Rattle.tb_syntax.specs.declared.ast.AstKind.TheOpen.{AstKind-F}
+use Rattle.tb_syntax.specs.declared.atom_words.AtomWord.{AtomWord}
+use Rattle.tb_syntax.specs.declared.atom_words.AtomWord.TheVariants as atom
 use Rattle.tb_syntax.specs.declared.proc.ActDef.{ActDef}
 use Rattle.tb_syntax.specs.declared.proc.ActDef.TheVariants as def
 use Rattle.tb_syntax.specs.declared.proc.AtomDef.{AtomDef}
@@ -35,7 +34,7 @@ use Rattle.tb_types.specs.ExpectedSorts.{Expectation, plain, of_sort, tested, ma
 use Rattle.tb_types.specs.Names.{process_named}
 use Rattle.tb_types.specs.Scopes.{sort_in}
 use Rattle.tb_expand.specs.Helpers.Agreeing.{Agrees}
-use Rattle.tb_expand.specs.Acts.{name_of, disconnected as leaves, or_act, act_of_list, act_of_one, act_of_more, act_of_two, act_of_word, act_of, time_of, atom_of}
+use Rattle.tb_expand.specs.Acts.{name_of, leaving as leaves, act_of_word, act_of, time_of, atom_of}
 use Rattle.tb_expand.specs.Exprs.{expr_of, exprs_of}
 use Rattle.tb_expand.specs.Scopes.{Scope, slot_of}
 use Rattle.tb_expand.proofs.ExprRanges.{may_stand, some_sort, expr_in_range, value_in_range, taken_in_range, taken_sent}
@@ -43,16 +42,10 @@ use Rattle.tb_expand.proofs.KeptSites.{IsKept, kept_site, is_result_of}
 use Rattle.tb_expand.proofs.KnownSlots.{slot_in_range}
 use Rattle.tb_expand.proofs.NoFaults.{append_none, flat_map_none}
 
--- an act by its word, which is the name or another
-pub either_act : (P : Act → Type 0) (word name : List ℕ) (found other : Act) → (word ≡ name → P found) → P other → P (or_act word name found other)
-either_act P word name found other here there = cond_both (bytes_eq word name) found other P (λ e. here ((bytes_eq-Decides word name).0 e)) (λ e. there)
-
--- what the atom of a word breaks, where the word is known
-pub named_as : (script : Script) (known : List Known) (arguments : List Ast) (token : ℕ) (word name : List ℕ)
-    → named_faults script known (word_of word) arguments token ≡ [] → word ≡ name → arguments_faults script known (word_of name) arguments ≡ []
-named_as script known arguments token word name none is =
-    (append_none (noted_if (has_wrong_arguments (word_of name) (length arguments)) Arity token) (arguments_faults script known (word_of name) arguments)
-    (subst (λ (w : List ℕ). named_faults script known (word_of w) arguments token ≡ []) is none)).1
+-- the arguments of an atom that breaks nothing
+pub of_arguments : (script : Script) (known : List Known) (word : AtomWord) (arguments : List Ast) (token : ℕ)
+    → named_faults script known word arguments token ≡ [] → arguments_faults script known word arguments ≡ []
+of_arguments script known word arguments token none = (append_none (noted_if (has_wrong_arguments word (length arguments)) Arity token) (arguments_faults script known word arguments) none).1
 
 -- the actuals of a `create` are sent
 made_sent : (formal : Option Formal) → actual_position Made formal ≡ Sent
@@ -104,20 +97,6 @@ module _ (script : Script) (slots : ℕ) (scope : Scope) (known : List Known) (a
   result_in_range expected_sort e kept there =
       lt-ltb (slot_of scope (name_of e)) slots (taken_in_range script slots scope known e (name_of e) agrees (is_result_of e there) kept.no_faults)
 
-  list_in_range : (word : List ℕ) (e : Ast) (es : List Ast) (token : ℕ) → named_faults script known (word_of word) (e ∷ es) token ≡ [] → IsInRange (act_of_list scope word (e ∷ es))
-  list_in_range word e es token none =
-      either_act IsInRange word (codes "snd-msg") _ _ (λ is. both_stand Sent Sent plain plain e es (arguments (codes "snd-msg") is))
-      (either_act IsInRange word (codes "rec-msg") _ _ (λ is. both_stand Received Received plain plain e es (arguments (codes "rec-msg") is))
-      (either_act IsInRange word (codes "snd-note") _ _ (λ is. both_stand Sent Sent plain plain e es (arguments (codes "snd-note") is))
-      (either_act IsInRange word (codes "rec-note") _ _ (λ is. both_stand Received Received plain plain e es (arguments (codes "rec-note") is))
-      (either_act IsInRange word (codes "no-note") _ _ (λ is. both_stand Noted Noted plain plain e es (arguments (codes "no-note") is))
-      (either_act IsInRange word (codes "subscribe") _ _ (λ is. both_stand Noted Noted plain plain e es (arguments (codes "subscribe") is))
-      (either_act IsInRange word (codes "unsubscribe") _ _ (λ is. both_stand Noted Noted plain plain e es (arguments (codes "unsubscribe") is))
-      (either_act IsInRange word (codes "printf") _ _ (λ is. both_stand Sent Sent (of_sort sorts.Str) plain e es (arguments (codes "printf") is)) refl)))))))
-    where
-      arguments : (name : List ℕ) → word ≡ name → arguments_faults script known (word_of name) (e ∷ es) ≡ []
-      arguments name is = named_as script known (e ∷ es) token word name none is
-
   -- a tool that leaves
   leaving_in_range : (e : Ast) → IsKept script known Taken disconnected e → (x : AstKind-F AstKind Ast) → out-AstKind e.kind ≡ x → IsInRange (leaves script scope e x)
   leaving_in_range e kept = step where
@@ -133,30 +112,12 @@ module _ (script : Script) (slots : ℕ) (scope : Scope) (known : List Known) (a
     step (layer.Hole s) is = sent _ is refl
     step (layer.List parts) is = sent _ is refl
 
-  one_in_range : (word : List ℕ) (e : Ast) (token : ℕ) → named_faults script known (word_of word) (e ∷ []) token ≡ [] → IsInRange (act_of_one script scope word e)
-  one_in_range word e token none =
-      either_act IsInRange word (codes "shutdown") _ _ (λ is. site_stands Sent plain e (alone Sent plain (named (codes "shutdown") is)))
-      (either_act IsInRange word (codes "rec-connect") _ _ (λ is. result_in_range connected e (kept connected (named (codes "rec-connect") is)) (kept connected (named (codes "rec-connect") is)).has_result)
-      (either_act IsInRange word (codes "rec-disconnect") _ _ (λ is. leaving_in_range e (kept disconnected (named (codes "rec-disconnect") is)) (out-AstKind e.kind) refl)
-      (list_in_range word e [] token none)))
-    where
-      named : (name : List ℕ) → word ≡ name → arguments_faults script known (word_of name) (e ∷ []) ≡ []
-      named name is = named_as script known (e ∷ []) token word name none is
+  -- a lone argument
+  alone : (position : Position) (expected_sort : Expectation) (e : Ast) → site_faults script known position expected_sort e ++ [] ≡ [] → site_faults script known position expected_sort e ≡ []
+  alone position expected_sort e all = (append_none (site_faults script known position expected_sort e) [] all).0
 
-      alone : (position : Position) (expected_sort : Expectation) → site_faults script known position expected_sort e ++ [] ≡ [] → site_faults script known position expected_sort e ≡ []
-      alone position expected_sort all = (append_none (site_faults script known position expected_sort e) [] all).0
-
-      kept : (expected_sort : Expectation) → site_faults script known Taken expected_sort e ++ [] ≡ [] → IsKept script known Taken expected_sort e
-      kept expected_sort all = kept_site script known Taken expected_sort e (alone Taken expected_sort all)
-
-  more_in_range : (word : List ℕ) (x y : Ast) (es : List Ast) (token : ℕ) → named_faults script known (word_of word) (x ∷ y ∷ es) token ≡ [] → IsInRange (act_of_more scope word x (y ∷ es))
-  more_in_range word x y es token none =
-      either_act IsInRange word (codes "rec-event") _ _ (λ is. more_stand Sent Received of_tool plain x y es (arguments (codes "rec-event") is))
-      (either_act IsInRange word (codes "snd-ack-event") _ _ (λ is. more_stand Sent Sent of_tool plain x y es (arguments (codes "snd-ack-event") is))
-      (list_in_range word x (y ∷ es) token none))
-    where
-      arguments : (name : List ℕ) → word ≡ name → arguments_faults script known (word_of name) (x ∷ y ∷ es) ≡ []
-      arguments name is = named_as script known (x ∷ y ∷ es) token word name none is
+  kept : (expected_sort : Expectation) (e : Ast) → site_faults script known Taken expected_sort e ++ [] ≡ [] → IsKept script known Taken expected_sort e
+  kept expected_sort e all = kept_site script known Taken expected_sort e (alone Taken expected_sort e all)
 
   -- the variable of an `execute`, whatever its tool
   executed_in_range : (position : Position) (expected_sort : Expectation) (tool : Option (List ℕ)) (x y : Ast)
@@ -166,23 +127,61 @@ module _ (script : Script) (slots : ℕ) (scope : Scope) (known : List Known) (a
       let kept = kept_site script known Taken (started tool) y (flat_map_none (site_faults script known Taken (started tool)) y [] parts.1).0 in
       result_in_range (started tool) y kept kept.has_result
 
-  two_in_range : (word : List ℕ) (x y : Ast) (token : ℕ) → named_faults script known (word_of word) (x ∷ y ∷ []) token ≡ [] → IsInRange (act_of_two script scope word x y)
-  two_in_range word x y token none =
-      either_act IsInRange word (codes "execute") _ _ (λ is. executed_in_range Sent command (name_alone (out-AstKind x.kind)) x y (arguments (codes "execute") is))
-      (either_act IsInRange word (codes "snd-eval") _ _ (λ is. two_stand Sent Sent of_tool plain x y (arguments (codes "snd-eval") is))
-      (either_act IsInRange word (codes "rec-value") _ _ (λ is. two_stand Sent Received of_tool plain x y (arguments (codes "rec-value") is))
-      (either_act IsInRange word (codes "snd-do") _ _ (λ is. two_stand Sent Sent of_tool plain x y (arguments (codes "snd-do") is))
-      (either_act IsInRange word (codes "snd-terminate") _ _ (λ is. two_stand Sent Sent of_tool plain x y (arguments (codes "snd-terminate") is))
-      (more_in_range word x y [] token none)))))
-    where
-      arguments : (name : List ℕ) → word ≡ name → arguments_faults script known (word_of name) (x ∷ y ∷ []) ≡ []
-      arguments name is = named_as script known (x ∷ y ∷ []) token word name none is
-
-  word_in_range : (word : List ℕ) (arguments : List Ast) (token : ℕ) → named_faults script known (word_of word) arguments token ≡ [] → IsInRange (act_of_word script scope word arguments)
-  word_in_range word [] token none = cond_both (bytes_eq word (codes "tau")) Tau Delta IsInRange (λ e. refl) (λ e. refl)
-  word_in_range word (e ∷ []) token none = one_in_range word e token none
-  word_in_range word (x ∷ y ∷ []) token none = two_in_range word x y token none
-  word_in_range word (x ∷ y ∷ z ∷ es) token none = more_in_range word x y (z ∷ es) token none
+  word_in_range : (word : AtomWord) (arguments : List Ast) → arguments_faults script known word arguments ≡ [] → IsInRange (act_of_word script scope word arguments)
+  word_in_range atom.Delta es none = refl
+  word_in_range atom.Tau [] none = refl
+  word_in_range atom.Tau (e ∷ es) none = refl
+  word_in_range atom.Printf [] none = refl
+  word_in_range atom.Printf (e ∷ es) none = both_stand Sent Sent (of_sort sorts.Str) plain e es none
+  word_in_range atom.SndMsg [] none = refl
+  word_in_range atom.SndMsg (e ∷ es) none = both_stand Sent Sent plain plain e es none
+  word_in_range atom.RecMsg [] none = refl
+  word_in_range atom.RecMsg (e ∷ es) none = both_stand Received Received plain plain e es none
+  word_in_range atom.SndNote [] none = refl
+  word_in_range atom.SndNote (e ∷ es) none = both_stand Sent Sent plain plain e es none
+  word_in_range atom.RecNote [] none = refl
+  word_in_range atom.RecNote (e ∷ es) none = both_stand Received Received plain plain e es none
+  word_in_range atom.NoNote [] none = refl
+  word_in_range atom.NoNote (e ∷ es) none = both_stand Noted Noted plain plain e es none
+  word_in_range atom.Subscribe [] none = refl
+  word_in_range atom.Subscribe (e ∷ es) none = both_stand Noted Noted plain plain e es none
+  word_in_range atom.Unsubscribe [] none = refl
+  word_in_range atom.Unsubscribe (e ∷ es) none = both_stand Noted Noted plain plain e es none
+  word_in_range atom.Execute [] none = refl
+  word_in_range atom.Execute (e ∷ []) none = refl
+  word_in_range atom.Execute (x ∷ y ∷ []) none = executed_in_range Sent command (name_alone (out-AstKind x.kind)) x y none
+  word_in_range atom.Execute (x ∷ y ∷ z ∷ es) none = refl
+  word_in_range atom.RecConnect [] none = refl
+  word_in_range atom.RecConnect (e ∷ []) none = result_in_range connected e (kept connected e none) (kept connected e none).has_result
+  word_in_range atom.RecConnect (x ∷ y ∷ es) none = refl
+  word_in_range atom.RecDisconnect [] none = refl
+  word_in_range atom.RecDisconnect (e ∷ []) none = leaving_in_range e (kept disconnected e none) (out-AstKind e.kind) refl
+  word_in_range atom.RecDisconnect (x ∷ y ∷ es) none = refl
+  word_in_range atom.SndEval [] none = refl
+  word_in_range atom.SndEval (e ∷ []) none = refl
+  word_in_range atom.SndEval (x ∷ y ∷ []) none = two_stand Sent Sent of_tool plain x y none
+  word_in_range atom.SndEval (x ∷ y ∷ z ∷ es) none = refl
+  word_in_range atom.RecValue [] none = refl
+  word_in_range atom.RecValue (e ∷ []) none = refl
+  word_in_range atom.RecValue (x ∷ y ∷ []) none = two_stand Sent Received of_tool plain x y none
+  word_in_range atom.RecValue (x ∷ y ∷ z ∷ es) none = refl
+  word_in_range atom.SndDo [] none = refl
+  word_in_range atom.SndDo (e ∷ []) none = refl
+  word_in_range atom.SndDo (x ∷ y ∷ []) none = two_stand Sent Sent of_tool plain x y none
+  word_in_range atom.SndDo (x ∷ y ∷ z ∷ es) none = refl
+  word_in_range atom.RecEvent [] none = refl
+  word_in_range atom.RecEvent (e ∷ []) none = refl
+  word_in_range atom.RecEvent (x ∷ y ∷ es) none = more_stand Sent Received of_tool plain x y es none
+  word_in_range atom.SndAckEvent [] none = refl
+  word_in_range atom.SndAckEvent (e ∷ []) none = refl
+  word_in_range atom.SndAckEvent (x ∷ y ∷ es) none = more_stand Sent Sent of_tool plain x y es none
+  word_in_range atom.SndTerminate [] none = refl
+  word_in_range atom.SndTerminate (e ∷ []) none = refl
+  word_in_range atom.SndTerminate (x ∷ y ∷ []) none = two_stand Sent Sent of_tool plain x y none
+  word_in_range atom.SndTerminate (x ∷ y ∷ z ∷ es) none = refl
+  word_in_range atom.Shutdown [] none = refl
+  word_in_range atom.Shutdown (e ∷ []) none = site_stands Sent plain e (alone Sent plain e none)
+  word_in_range atom.Shutdown (x ∷ y ∷ es) none = refl
 
   actuals_in_range : (formals : List Formal) (position : ℕ) (actuals : List Ast) → actuals_faults script known Made formals position actuals ≡ [] → list_all (is_value slots) (exprs_of scope actuals) ≡ true
   actuals_in_range formals position [] none = refl
@@ -212,7 +211,7 @@ module _ (script : Script) (slots : ℕ) (scope : Scope) (known : List Known) (a
       let kept = kept_site script known Taken made variable parts.1 in
       and_from (list_all (is_value slots) (exprs_of scope call.actuals)) (nat_lt (slot_of scope (name_of variable)) slots)
       (created_in_range call parts.0) (result_in_range made variable kept kept.has_result)
-  act_in_range (def.Named word arguments) token none = word_in_range word arguments token none
+  act_in_range (def.Named name arguments) token none = word_in_range (word_of name) arguments (of_arguments script known (word_of name) arguments token none)
 
   times_in_range : (times : List TimeDef) → flat_map (time_faults script known) times ≡ [] → list_all (λ (time : Time). is_value slots time.value) (map (time_of scope) times) ≡ true
   times_in_range [] none = refl

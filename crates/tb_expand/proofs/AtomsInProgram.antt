@@ -1,16 +1,17 @@
 -- Atoms that break no condition name processes and tools that are there.
-use Rattle.std.proofs.Common.{◌≡◌, ℕ, ◌<◌, ◌+◌, ◌==◌, Bool, true, false, cond, ◌&&◌, not, nat_lt, List, [], ◌∷◌, ◌++◌, map, length, slice_get, codes, Option, Some, None, refl, ap, sym, ◌∙◌, arith}
-use Rattle.std.specs.Prelude.{is_none, is_some, option_and_then}
+use Rattle.std.proofs.Common.{◌≡◌, ℕ, ◌<◌, ◌+◌, ◌==◌, Bool, true, false, cond, ◌&&◌, not, nat_lt, List, [], ◌∷◌, ◌++◌, map, length, slice_get, Option, Some, None, refl, ap, sym, ◌∙◌, arith}
+use Rattle.std.specs.Prelude.{is_none, is_some, option_and_then, option_map, unwrap_or}
 use Rattle.std.specs.List.{flat_map}
 use Rattle.std.specs.Str.{bytes_eq}
-use Rattle.std.proofs.lemmas.Bool.{cond_both, lt-ltb, eqb-true, not-false, or_parts}
+use Rattle.std.proofs.lemmas.Bool.{lt-ltb, eqb-true, not-false, or_parts}
 use Rattle.std.proofs.lemmas.List.{length-map}
+use Rattle.tb_terms.specs.declared.expr.Expr.{Expr}
 use Rattle.tb_terms.specs.declared.sort.Sort.{Sort, out-Sort}
 use Rattle.tb_terms.specs.declared.sort.Sort.TheOpen as sort_layer
 use Rattle.tb_terms.specs.declared.sort.Sort.TheOpen.{Sort-F}
 use Rattle.tb_terms.specs.declared.sort.Sort.TheFolds.{fold_out-Sort, map-Sort}
 use Rattle.tb_body.specs.declared.act.Act.{Act}
-use Rattle.tb_body.specs.declared.act.Act.TheVariants.{Delta, Tau}
+use Rattle.tb_body.specs.declared.act.Act.TheVariants as act
 use Rattle.tb_body.specs.declared.body.Body.{Body}
 use Rattle.tb_body.specs.declared.program.Tool.{Tool}
 use Rattle.tb_body.specs.Programs.{takes, has_command, is_act_in_program}
@@ -18,6 +19,8 @@ use Rattle.tb_syntax.specs.declared.ast.Ast.{Ast}
 use Rattle.tb_syntax.specs.declared.ast.AstKind.{AstKind, out-AstKind}
 use Rattle.tb_syntax.specs.declared.ast.AstKind.TheOpen as layer
 use Rattle.tb_syntax.specs.declared.ast.AstKind.TheOpen.{AstKind-F}
+use Rattle.tb_syntax.specs.declared.atom_words.AtomWord.{AtomWord}
+use Rattle.tb_syntax.specs.declared.atom_words.AtomWord.TheVariants as atom
 use Rattle.tb_syntax.specs.declared.proc.ActDef.{ActDef}
 use Rattle.tb_syntax.specs.declared.proc.ActDef.TheVariants as def
 use Rattle.tb_syntax.specs.declared.proc.AtomDef.{AtomDef}
@@ -29,7 +32,7 @@ use Rattle.tb_types.specs.declared.violation.Rule.TheVariants.{NoProcess, Arity}
 use Rattle.tb_types.specs.declared.calls.Manner.TheVariants.{Made}
 use Rattle.tb_types.specs.declared.positions.Position.TheVariants.{Sent, Taken}
 use Rattle.tb_types.specs.declared.scope.Known.{Known}
-use Rattle.tb_types.specs.Atoms.{word_of, arguments_faults, named_faults, act_faults, time_faults, atom_faults}
+use Rattle.tb_types.specs.Atoms.{word_of, arguments_faults, act_faults, time_faults, atom_faults}
 use Rattle.tb_types.specs.Violation.{noted_if}
 use Rattle.tb_types.specs.Calls.{actuals_faults, formals_of, has_wrong_actuals, call_faults}
 use Rattle.tb_types.specs.ExpectedSorts.{Expectation, made, command, started, connected, disconnected, name_alone, result_name, taken_sort, is_refused_by, is_sort_of_tool, is_result, fits_some_tool, site_faults}
@@ -37,10 +40,10 @@ use Rattle.tb_types.specs.Fitting.{is_any_tool}
 use Rattle.tb_types.specs.Names.{process_named, tool_named, is_tool, is_unknown_sort, unknown_step, has_command as is_command}
 use Rattle.tb_types.specs.Scopes.{sort_in}
 use Rattle.tb_expand.specs.Helpers.Agreeing.{Agrees}
-use Rattle.tb_expand.specs.Acts.{name_in, name_of, position_of, process_of, tool_of, tool_of_open, tool_of_sort, disconnected as leaves, act_of_list, act_of_one, act_of_more, act_of_two, act_of_word, act_of, atom_of}
+use Rattle.tb_expand.specs.Acts.{name_in, name_of, position_of, process_of, tool_of, tool_of_open, tool_of_sort, leaving as leaves, some_exprs, two_exprs, more_exprs, act_of_word, act_of, atom_of}
 use Rattle.tb_expand.specs.Exprs.{expr_of, exprs_of}
 use Rattle.tb_expand.specs.Scopes.{Scope, sort_of}
-use Rattle.tb_expand.proofs.AtomRanges.{either_act, named_as}
+use Rattle.tb_expand.proofs.AtomRanges.{of_arguments}
 use Rattle.tb_expand.proofs.ExprRanges.{result_declared}
 use Rattle.tb_expand.proofs.KeptSites.{IsKept, kept_site, is_result_of}
 use Rattle.tb_expand.proofs.KnownSlots.{sort_of_known, known_sort}
@@ -122,17 +125,6 @@ module _ (script : Script) (slots : ℕ) (scope : Scope) (known : List Known) (a
       let taken : taken_sort known e ≡ Some own.0 = ap (λ (x : AstKind-F AstKind Ast). option_and_then (sort_in known) (result_name x)) is ∙ own.1 in
       variable_within name own.0 own.1 (accepted (taken_sort known e) own.0 accepts taken)
 
-  list_in_program : (word : List ℕ) (es : List Ast) → IsInProgram (act_of_list scope word es)
-  list_in_program word es =
-      either_act IsInProgram word (codes "snd-msg") _ _ (λ is. refl)
-      (either_act IsInProgram word (codes "rec-msg") _ _ (λ is. refl)
-      (either_act IsInProgram word (codes "snd-note") _ _ (λ is. refl)
-      (either_act IsInProgram word (codes "rec-note") _ _ (λ is. refl)
-      (either_act IsInProgram word (codes "no-note") _ _ (λ is. refl)
-      (either_act IsInProgram word (codes "subscribe") _ _ (λ is. refl)
-      (either_act IsInProgram word (codes "unsubscribe") _ _ (λ is. refl)
-      (either_act IsInProgram word (codes "printf") _ _ (λ is. refl) refl)))))))
-
   -- a tool that leaves
   leaving_in_program : (e : Ast) → IsKept script known Taken disconnected e → (x : AstKind-F AstKind Ast) → out-AstKind e.kind ≡ x → IsInProgram (leaves script scope e x)
   leaving_in_program e kept (layer.Int number) is = refl
@@ -145,26 +137,11 @@ module _ (script : Script) (slots : ℕ) (scope : Scope) (known : List Known) (a
   leaving_in_program e kept (layer.Hole s) is = refl
   leaving_in_program e kept (layer.List parts) is = refl
 
-  one_in_program : (word : List ℕ) (e : Ast) (token : ℕ) → named_faults script known (word_of word) (e ∷ []) token ≡ [] → IsInProgram (act_of_one script scope word e)
-  one_in_program word e token none =
-      either_act IsInProgram word (codes "shutdown") _ _ (λ is. refl)
-      (either_act IsInProgram word (codes "rec-connect") _ _ (λ is. joining (kept connected (named (codes "rec-connect") is)))
-      (either_act IsInProgram word (codes "rec-disconnect") _ _ (λ is. leaving_in_program e (kept disconnected (named (codes "rec-disconnect") is)) (out-AstKind e.kind) refl)
-      (list_in_program word (e ∷ []))))
-    where
-      named : (name : List ℕ) → word ≡ name → arguments_faults script known (word_of name) (e ∷ []) ≡ []
-      named name is = named_as script known (e ∷ []) token word name none is
+  kept_alone : (expected_sort : Expectation) (e : Ast) → site_faults script known Taken expected_sort e ++ [] ≡ [] → IsKept script known Taken expected_sort e
+  kept_alone expected_sort e all = kept_site script known Taken expected_sort e (append_none (site_faults script known Taken expected_sort e) [] all).0
 
-      kept : (expected_sort : Expectation) → site_faults script known Taken expected_sort e ++ [] ≡ [] → IsKept script known Taken expected_sort e
-      kept expected_sort all = kept_site script known Taken expected_sort e (append_none (site_faults script known Taken expected_sort e) [] all).0
-
-      joining : IsKept script known Taken connected e → nat_lt (tool_of_sort script (sort_of scope (name_of e))) (length tools) ≡ true
-      joining it = taken_within e connected (name_of e) it (is_result_of e it.has_result) it.no_clash
-
-  more_in_program : (word : List ℕ) (e : Ast) (es : List Ast) → IsInProgram (act_of_more scope word e es)
-  more_in_program word e es =
-      either_act IsInProgram word (codes "rec-event") _ _ (λ is. refl)
-      (either_act IsInProgram word (codes "snd-ack-event") _ _ (λ is. refl) (list_in_program word (e ∷ es)))
+  joining_in_program : (e : Ast) → IsKept script known Taken connected e → nat_lt (tool_of_sort script (sort_of scope (name_of e))) (length tools) ≡ true
+  joining_in_program e it = taken_within e connected (name_of e) it (is_result_of e it.has_result) it.no_clash
 
   executed_in_program : (x : Ast) (others : List Ast) (expected_sort : Expectation) → site_faults script known Sent command x ++ flat_map (site_faults script known Taken expected_sort) others ≡ []
       → has_command (slice_get tools (tool_of script (name_of x))) ≡ true
@@ -174,21 +151,42 @@ module _ (script : Script) (slots : ℕ) (scope : Scope) (known : List Known) (a
       (command_named script.tools (out-AstKind x.kind) (not-false (is_command (option_and_then (tool_named script.tools) (name_alone (out-AstKind x.kind)))) kept.has_tool)) in
       has_commands (name_of x) tool.0 tool.1 tool.2
 
-  two_in_program : (word : List ℕ) (x y : Ast) (token : ℕ) → named_faults script known (word_of word) (x ∷ y ∷ []) token ≡ [] → IsInProgram (act_of_two script scope word x y)
-  two_in_program word x y token none =
-      either_act IsInProgram word (codes "execute") _ _
-      (λ is. executed_in_program x (y ∷ []) (started (name_alone (out-AstKind x.kind))) (named_as script known (x ∷ y ∷ []) token word (codes "execute") none is))
-      (either_act IsInProgram word (codes "snd-eval") _ _ (λ is. refl)
-      (either_act IsInProgram word (codes "rec-value") _ _ (λ is. refl)
-      (either_act IsInProgram word (codes "snd-do") _ _ (λ is. refl)
-      (either_act IsInProgram word (codes "snd-terminate") _ _ (λ is. refl)
-      (more_in_program word x (y ∷ []))))))
+  -- acts that name neither, whatever their arguments
+  given : {A : Type 0} (make : A → Act) → ((a : A) → IsInProgram (make a)) → (o : Option A) → IsInProgram (unwrap_or (option_map make o) act.Delta)
+  given make all None = refl
+  given make all (Some a) = all a
 
-  word_in_program : (word : List ℕ) (arguments : List Ast) (token : ℕ) → named_faults script known (word_of word) arguments token ≡ [] → IsInProgram (act_of_word script scope word arguments)
-  word_in_program word [] token none = cond_both (bytes_eq word (codes "tau")) Tau Delta IsInProgram (λ e. refl) (λ e. refl)
-  word_in_program word (e ∷ []) token none = one_in_program word e token none
-  word_in_program word (x ∷ y ∷ []) token none = two_in_program word x y token none
-  word_in_program word (x ∷ y ∷ z ∷ es) token none = more_in_program word x (y ∷ z ∷ es)
+  word_in_program : (word : AtomWord) (arguments : List Ast) → arguments_faults script known word arguments ≡ [] → IsInProgram (act_of_word script scope word arguments)
+  word_in_program atom.Delta es none = refl
+  word_in_program atom.Tau [] none = refl
+  word_in_program atom.Tau (e ∷ es) none = refl
+  word_in_program atom.Printf es none = given act.Printf (λ exprs. refl) (some_exprs scope es)
+  word_in_program atom.SndMsg es none = given act.SndMsg (λ exprs. refl) (some_exprs scope es)
+  word_in_program atom.RecMsg es none = given act.RecMsg (λ exprs. refl) (some_exprs scope es)
+  word_in_program atom.SndNote es none = given act.SndNote (λ exprs. refl) (some_exprs scope es)
+  word_in_program atom.RecNote es none = given act.RecNote (λ exprs. refl) (some_exprs scope es)
+  word_in_program atom.NoNote es none = given act.NoNote (λ exprs. refl) (some_exprs scope es)
+  word_in_program atom.Subscribe es none = given act.Subscribe (λ exprs. refl) (some_exprs scope es)
+  word_in_program atom.Unsubscribe es none = given act.Unsubscribe (λ exprs. refl) (some_exprs scope es)
+  word_in_program atom.Execute [] none = refl
+  word_in_program atom.Execute (e ∷ []) none = refl
+  word_in_program atom.Execute (x ∷ y ∷ []) none = executed_in_program x (y ∷ []) (started (name_alone (out-AstKind x.kind))) none
+  word_in_program atom.Execute (x ∷ y ∷ z ∷ es) none = refl
+  word_in_program atom.RecConnect [] none = refl
+  word_in_program atom.RecConnect (e ∷ []) none = joining_in_program e (kept_alone connected e none)
+  word_in_program atom.RecConnect (x ∷ y ∷ es) none = refl
+  word_in_program atom.RecDisconnect [] none = refl
+  word_in_program atom.RecDisconnect (e ∷ []) none = leaving_in_program e (kept_alone disconnected e none) (out-AstKind e.kind) refl
+  word_in_program atom.RecDisconnect (x ∷ y ∷ es) none = refl
+  word_in_program atom.SndEval es none = given (λ (both : Expr × Expr). act.SndEval both.0 both.1) (λ both. refl) (two_exprs scope es)
+  word_in_program atom.RecValue es none = given (λ (both : Expr × Expr). act.RecValue both.0 both.1) (λ both. refl) (two_exprs scope es)
+  word_in_program atom.SndDo es none = given (λ (both : Expr × Expr). act.SndDo both.0 both.1) (λ both. refl) (two_exprs scope es)
+  word_in_program atom.RecEvent es none = given (λ (both : Expr × List Expr). act.RecEvent both.0 both.1) (λ both. refl) (more_exprs scope es)
+  word_in_program atom.SndAckEvent es none = given (λ (both : Expr × List Expr). act.SndAckEvent both.0 both.1) (λ both. refl) (more_exprs scope es)
+  word_in_program atom.SndTerminate es none = given (λ (both : Expr × Expr). act.SndTerminate both.0 both.1) (λ both. refl) (two_exprs scope es)
+  word_in_program atom.Shutdown [] none = refl
+  word_in_program atom.Shutdown (e ∷ []) none = refl
+  word_in_program atom.Shutdown (x ∷ y ∷ es) none = refl
 
   created_in_program : (call : Call) → call_faults script known Made call ≡ [] → takes (slice_get bodies (process_of script call.name)) (length (exprs_of scope call.actuals)) ≡ true
   created_in_program call none =
@@ -204,7 +202,7 @@ module _ (script : Script) (slots : ℕ) (scope : Scope) (known : List Known) (a
   named_act_in_program (def.Set name value) token none = refl
   named_act_in_program (def.Create call variable) token none =
       created_in_program call (append_none (call_faults script known Made call) (site_faults script known Taken made variable) none).0
-  named_act_in_program (def.Named word arguments) token none = word_in_program word arguments token none
+  named_act_in_program (def.Named name arguments) token none = word_in_program (word_of name) arguments (of_arguments script known (word_of name) arguments token none)
 
 pub act_in_program : (script : Script) (slots : ℕ) (scope : Scope) (known : List Known) (def : AtomDef) (bodies : List Body) (tools : List Tool)
     → ((name : List ℕ) (d : ProcDef) → process_named script.procs name ≡ Some d → takes (slice_get bodies (process_of script name)) (length d.formals) ≡ true)

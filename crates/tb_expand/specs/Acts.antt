@@ -1,6 +1,7 @@
 -- What an atom of a script is in a body.
-use Rattle.std.specs.Prelude.{ℕ, ◌+◌, List, [], ◌∷◌, map, codes, if◌then◌else◌}
+use Rattle.std.specs.Prelude.{ℕ, ◌+◌, List, [], ◌∷◌, map, Option, Some, None, option_map, unwrap_or, if◌then◌else◌}
 use Rattle.std.specs.Str.{bytes_eq}
+use Rattle.tb_terms.specs.declared.expr.Expr.{Expr}
 use Rattle.tb_terms.specs.declared.sort.Sort.{Sort, out-Sort}
 use Rattle.tb_terms.specs.declared.sort.Sort.TheOpen as sort
 use Rattle.tb_body.specs.declared.act.Act.{Act}
@@ -12,6 +13,10 @@ use Rattle.tb_body.specs.declared.atom.TimeKind.TheVariants as time
 use Rattle.tb_syntax.specs.declared.ast.Ast.{Ast}
 use Rattle.tb_syntax.specs.declared.ast.AstKind.{AstKind, out-AstKind}
 use Rattle.tb_syntax.specs.declared.ast.AstKind.TheOpen as ast
+use Rattle.tb_syntax.specs.declared.atom_words.AtomWord.{AtomWord}
+use Rattle.tb_syntax.specs.declared.atom_words.AtomWord.TheVariants as atom
+use Rattle.tb_syntax.specs.declared.atom_words.TimeWord.{TimeWord}
+use Rattle.tb_syntax.specs.declared.atom_words.TimeWord.TheVariants as times
 use Rattle.tb_syntax.specs.declared.proc.ActDef.{ActDef}
 use Rattle.tb_syntax.specs.declared.proc.ActDef.TheVariants as def
 use Rattle.tb_syntax.specs.declared.proc.AtomDef.{AtomDef}
@@ -19,6 +24,8 @@ use Rattle.tb_syntax.specs.declared.proc.TimeDef.{TimeDef}
 use Rattle.tb_syntax.specs.declared.script.ProcDef.{ProcDef}
 use Rattle.tb_syntax.specs.declared.script.Script.{Script}
 use Rattle.tb_syntax.specs.declared.script.ToolDef.{ToolDef}
+use Rattle.tb_syntax.specs.AtomWords.{time_word}
+use Rattle.tb_types.specs.Atoms.{word_of}
 use Rattle.tb_expand.specs.Scopes.{Scope, slot_of, sort_of}
 use Rattle.tb_expand.specs.Exprs.{expr_of, exprs_of}
 
@@ -58,81 +65,108 @@ name_in (ast.List parts) = []
 abbrev pub name_of : Ast → List ℕ
 name_of e = name_in (out-AstKind e.kind)
 
--- The acts by their words and arguments, each with the number of arguments that a checked script gives it; `Delta` stands for all else.
--- no arguments
-abbrev pub act_without : List ℕ → Act
-act_without word = if bytes_eq word (codes "tau") then act.Tau else act.Delta
+-- The arguments of an atom as expressions, where their number is right. A checked script has no other.
+-- one or more
+abbrev pub some_exprs : Scope → List Ast → Option (List Expr)
+some_exprs scope [] = None
+some_exprs scope (e ∷ es) = Some (exprs_of scope (e ∷ es))
+
+-- two
+abbrev pub two_exprs : Scope → List Ast → Option (Expr × Expr)
+two_exprs scope [] = None
+two_exprs scope (e ∷ []) = None
+two_exprs scope (x ∷ y ∷ []) = Some (expr_of scope x, expr_of scope y)
+two_exprs scope (x ∷ y ∷ z ∷ es) = None
+
+-- a first one, and one or more others
+abbrev pub more_exprs : Scope → List Ast → Option (Expr × List Expr)
+more_exprs scope [] = None
+more_exprs scope (e ∷ []) = None
+more_exprs scope (x ∷ y ∷ es) = Some (expr_of scope x, exprs_of scope (y ∷ es))
+
+abbrev pub tau : List Ast → Option Act
+tau [] = Some act.Tau
+tau (e ∷ es) = None
+
+abbrev pub shutdown : Scope → List Ast → Option Act
+shutdown scope [] = None
+shutdown scope (e ∷ []) = Some (act.Shutdown (expr_of scope e))
+shutdown scope (x ∷ y ∷ es) = None
 
 -- a tool that leaves: any of a variable's sort, or the one that is named
-abbrev pub disconnected : Script → Scope → Ast → ast.AstKind-F AstKind Ast → Act
-disconnected script scope e (ast.Result name) = act.RecDisconnectAny (tool_of_sort script (sort_of scope name)) (slot_of scope name)
-disconnected script scope e (ast.Int number) = act.RecDisconnect (expr_of scope e)
-disconnected script scope e (ast.Str text) = act.RecDisconnect (expr_of scope e)
-disconnected script scope e (ast.Appl name parts) = act.RecDisconnect (expr_of scope e)
-disconnected script scope e (ast.Var name) = act.RecDisconnect (expr_of scope e)
-disconnected script scope e (ast.Hole s) = act.RecDisconnect (expr_of scope e)
-disconnected script scope e (ast.List parts) = act.RecDisconnect (expr_of scope e)
+abbrev pub leaving : Script → Scope → Ast → ast.AstKind-F AstKind Ast → Act
+leaving script scope e (ast.Result name) = act.RecDisconnectAny (tool_of_sort script (sort_of scope name)) (slot_of scope name)
+leaving script scope e (ast.Int number) = act.RecDisconnect (expr_of scope e)
+leaving script scope e (ast.Str text) = act.RecDisconnect (expr_of scope e)
+leaving script scope e (ast.Appl name parts) = act.RecDisconnect (expr_of scope e)
+leaving script scope e (ast.Var name) = act.RecDisconnect (expr_of scope e)
+leaving script scope e (ast.Hole s) = act.RecDisconnect (expr_of scope e)
+leaving script scope e (ast.List parts) = act.RecDisconnect (expr_of scope e)
 
-abbrev pub connected : Script → Scope → Ast → Act
-connected script scope e = act.RecConnect (tool_of_sort script (sort_of scope (name_of e))) (slot_of scope (name_of e))
+abbrev pub any_connected : Script → Scope → Ast → Act
+any_connected script scope e = act.RecConnect (tool_of_sort script (sort_of scope (name_of e))) (slot_of scope (name_of e))
 
--- the one act where the word is this name, and else the other
-abbrev pub or_act : List ℕ → List ℕ → Act → Act → Act
-or_act word name found other = if bytes_eq word name then found else other
+abbrev pub disconnected : Script → Scope → List Ast → Option Act
+disconnected script scope [] = None
+disconnected script scope (e ∷ []) = Some (leaving script scope e (out-AstKind e.kind))
+disconnected script scope (x ∷ y ∷ es) = None
 
--- any number of arguments of one kind
-abbrev pub act_of_list : Scope → List ℕ → List Ast → Act
-act_of_list scope word arguments =
-    or_act word (codes "snd-msg") (act.SndMsg (exprs_of scope arguments))
-    (or_act word (codes "rec-msg") (act.RecMsg (exprs_of scope arguments))
-    (or_act word (codes "snd-note") (act.SndNote (exprs_of scope arguments))
-    (or_act word (codes "rec-note") (act.RecNote (exprs_of scope arguments))
-    (or_act word (codes "no-note") (act.NoNote (exprs_of scope arguments))
-    (or_act word (codes "subscribe") (act.Subscribe (exprs_of scope arguments))
-    (or_act word (codes "unsubscribe") (act.Unsubscribe (exprs_of scope arguments))
-    (or_act word (codes "printf") (act.Printf (exprs_of scope arguments)) act.Delta)))))))
+abbrev pub connected : Script → Scope → List Ast → Option Act
+connected script scope [] = None
+connected script scope (e ∷ []) = Some (any_connected script scope e)
+connected script scope (x ∷ y ∷ es) = None
 
--- one argument
-abbrev pub act_of_one : Script → Scope → List ℕ → Ast → Act
-act_of_one script scope word e =
-    or_act word (codes "shutdown") (act.Shutdown (expr_of scope e))
-    (or_act word (codes "rec-connect") (connected script scope e)
-    (or_act word (codes "rec-disconnect") (disconnected script scope e (out-AstKind e.kind)) (act_of_list scope word (e ∷ []))))
+abbrev pub executed : Script → Scope → List Ast → Option Act
+executed script scope [] = None
+executed script scope (e ∷ []) = None
+executed script scope (x ∷ y ∷ []) = Some (act.Execute (tool_of script (name_of x)) (slot_of scope (name_of y)))
+executed script scope (x ∷ y ∷ z ∷ es) = None
 
--- a first argument, and others
-abbrev pub act_of_more : Scope → List ℕ → Ast → List Ast → Act
-act_of_more scope word e others =
-    or_act word (codes "rec-event") (act.RecEvent (expr_of scope e) (exprs_of scope others))
-    (or_act word (codes "snd-ack-event") (act.SndAckEvent (expr_of scope e) (exprs_of scope others))
-    (act_of_list scope word (e ∷ others)))
+-- the act of each atom, by its arguments; none where their number is wrong
+abbrev pub word_act : Script → Scope → AtomWord → List Ast → Option Act
+word_act script scope atom.Delta es = Some act.Delta
+word_act script scope atom.Tau es = tau es
+word_act script scope atom.Printf es = option_map act.Printf (some_exprs scope es)
+word_act script scope atom.SndMsg es = option_map act.SndMsg (some_exprs scope es)
+word_act script scope atom.RecMsg es = option_map act.RecMsg (some_exprs scope es)
+word_act script scope atom.SndNote es = option_map act.SndNote (some_exprs scope es)
+word_act script scope atom.RecNote es = option_map act.RecNote (some_exprs scope es)
+word_act script scope atom.NoNote es = option_map act.NoNote (some_exprs scope es)
+word_act script scope atom.Subscribe es = option_map act.Subscribe (some_exprs scope es)
+word_act script scope atom.Unsubscribe es = option_map act.Unsubscribe (some_exprs scope es)
+word_act script scope atom.Execute es = executed script scope es
+word_act script scope atom.RecConnect es = connected script scope es
+word_act script scope atom.RecDisconnect es = disconnected script scope es
+word_act script scope atom.SndEval es = option_map (λ both. act.SndEval both.0 both.1) (two_exprs scope es)
+word_act script scope atom.RecValue es = option_map (λ both. act.RecValue both.0 both.1) (two_exprs scope es)
+word_act script scope atom.SndDo es = option_map (λ both. act.SndDo both.0 both.1) (two_exprs scope es)
+word_act script scope atom.RecEvent es = option_map (λ both. act.RecEvent both.0 both.1) (more_exprs scope es)
+word_act script scope atom.SndAckEvent es = option_map (λ both. act.SndAckEvent both.0 both.1) (more_exprs scope es)
+word_act script scope atom.SndTerminate es = option_map (λ both. act.SndTerminate both.0 both.1) (two_exprs scope es)
+word_act script scope atom.Shutdown es = shutdown scope es
 
--- two arguments
-abbrev pub act_of_two : Script → Scope → List ℕ → Ast → Ast → Act
-act_of_two script scope word x y =
-    or_act word (codes "execute") (act.Execute (tool_of script (name_of x)) (slot_of scope (name_of y)))
-    (or_act word (codes "snd-eval") (act.SndEval (expr_of scope x) (expr_of scope y))
-    (or_act word (codes "rec-value") (act.RecValue (expr_of scope x) (expr_of scope y))
-    (or_act word (codes "snd-do") (act.SndDo (expr_of scope x) (expr_of scope y))
-    (or_act word (codes "snd-terminate") (act.SndTerminate (expr_of scope x) (expr_of scope y))
-    (act_of_more scope word x (y ∷ []))))))
+-- nothing where the number of arguments is wrong, which it isn't in a checked script
+abbrev pub act_of_word : Script → Scope → AtomWord → List Ast → Act
+act_of_word script scope word es = unwrap_or (word_act script scope word es) act.Delta
 
-abbrev pub act_of_word : Script → Scope → List ℕ → List Ast → Act
-act_of_word script scope word [] = act_without word
-act_of_word script scope word (e ∷ []) = act_of_one script scope word e
-act_of_word script scope word (x ∷ y ∷ []) = act_of_two script scope word x y
-act_of_word script scope word (x ∷ y ∷ z ∷ more) = act_of_more scope word x (y ∷ z ∷ more)
+abbrev pub act_of_name : Script → Scope → List ℕ → List Ast → Act
+act_of_name script scope name es = act_of_word script scope (word_of name) es
 
 abbrev pub act_of : Script → Scope → ActDef → Act
 act_of script scope (def.Set name value) = act.Set (slot_of scope name) (expr_of scope value)
 act_of script scope (def.Create call variable) =
     act.Create (process_of script call.name) (exprs_of scope call.actuals) (slot_of scope (name_of variable))
-act_of script scope (def.Named word arguments) = act_of_word script scope word arguments
+act_of script scope (def.Named name arguments) = act_of_name script scope name arguments
 
+abbrev pub kind_of_time : TimeWord → TimeKind
+kind_of_time times.Delay = time.Delay
+kind_of_time times.Timeout = time.Timeout
+kind_of_time times.AbsDelay = time.AbsDelay
+kind_of_time times.AbsTimeout = time.AbsTimeout
+
+-- No tokens spell a time with another name: it stands for the last one.
 abbrev pub time_kind : List ℕ → TimeKind
-time_kind word =
-    if bytes_eq word (codes "delay") then time.Delay
-    else (if bytes_eq word (codes "timeout") then time.Timeout
-    else (if bytes_eq word (codes "abs-delay") then time.AbsDelay else time.AbsTimeout))
+time_kind name = kind_of_time (unwrap_or (time_word name) times.AbsTimeout)
 
 abbrev pub time_of : Scope → TimeDef → Time
 time_of scope def = record { kind = time_kind def.name; value = expr_of scope def.value }

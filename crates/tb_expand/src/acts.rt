@@ -1,101 +1,108 @@
-ghost use Rattle.std.specs.Prelude.{◌≡◌, ◌∷◌, [], IfOk};
-ghost use Rattle.std.specs.Str.{bytes_eq};
-ghost use Rattle.tb_body.specs.declared.act.Act.TheVariants.{Set, Create, Execute, RecDisconnectAny};
+//! What the atoms of a script are in a body.
+
+ghost use Rattle.std.specs.Prelude.{◌≡◌, IfOk};
+ghost use Rattle.tb_body.specs.declared.act.Act.TheVariants.{Set, Create, RecDisconnectAny};
 ghost use Rattle.tb_syntax.specs.declared.ast.AstKind.{out-AstKind};
 ghost use Rattle.tb_expand.specs.Scopes.{of_blocks, slot_of, sort_of};
 ghost use Rattle.tb_expand.specs.Exprs.{expr_of, exprs_of};
-ghost use Rattle.tb_expand.specs.Acts.{act_of, act_of_word, act_of_list, act_of_one, act_of_two, act_of_more, act_without, connected, disconnected, name_of, process_of, tool_of, tool_of_sort};
+ghost use Rattle.tb_expand.specs.Acts.{act_of, act_of_name, word_act, some_exprs, two_exprs, more_exprs, tau, shutdown, executed, connected, any_connected, disconnected, leaving, name_of, process_of, tool_of, tool_of_sort};
 
 use crate::exprs::{expr_of, exprs_of};
 use crate::positions::{name_of, process_of, tool_of, tool_of_sort};
 use crate::scope::{Blocks, slot_of, sort_of};
 use std::alloc::Global;
 use tb_body::Act;
-use tb_syntax::{ActDef, Ast, AstKind, Call};
-use tb_terms::NoMemory;
+use tb_syntax::{ActDef, Ast, AstKind, AtomWord, Call, atom_word};
+use tb_terms::{Expr, Exprs, NoMemory};
 use tb_types::Names;
 
-pub(crate) fn is(word: &[u8], name: &str) -> bool
-    ensures { result ≡ bytes_eq word.now name.now }
+/// The one or more arguments as expressions; none where there are none.
+fn some_exprs(alloc: Global, blocks: &Blocks, arguments: &[Ast]) -> Result<Option<Exprs>, NoMemory>
+    ensures { IfOk result
+        (λ exprs. exprs ≡ some_exprs (of_blocks blocks.now) arguments.now) }
 {
-    word == name.as_bytes()
-}
-
-fn act_without(word: &[u8]) -> Act
-    ensures { result ≡ act_without word.now }
-{
-    match word {
-        b"tau" => Act::Tau,
-        _ => Act::Delta,
+    match arguments {
+        [] => Ok(None),
+        [_, ..] => Ok(Some(exprs_of(alloc, blocks, arguments)?)),
     }
 }
 
-/// Any number of arguments of one kind.
-fn act_of_list(
+/// The two arguments as expressions; none where there aren't two.
+fn two_exprs(
     alloc: Global,
     blocks: &Blocks,
-    word: &[u8],
     arguments: &[Ast],
-) -> Result<Act, NoMemory>
-    ensures { IfOk result (λ act. act ≡ act_of_list (of_blocks blocks.now) word.now arguments.now) }
+) -> Result<Option<(Expr, Expr)>, NoMemory>
+    ensures { IfOk result (λ both. both ≡ two_exprs (of_blocks blocks.now) arguments.now) }
 {
-    let parts = exprs_of(alloc, blocks, arguments)?;
-    if is(word, "snd-msg") {
-        return Ok(Act::SndMsg(parts));
+    match arguments {
+        [] => Ok(None),
+        [_] => Ok(None),
+        [x, y] => {
+            let x = expr_of(alloc, blocks, x)?;
+            Ok(Some((x, expr_of(alloc, blocks, y)?)))
+        }
+        [_, _, _, ..] => Ok(None),
     }
-    if is(word, "rec-msg") {
-        return Ok(Act::RecMsg(parts));
-    }
-    if is(word, "snd-note") {
-        return Ok(Act::SndNote(parts));
-    }
-    if is(word, "rec-note") {
-        return Ok(Act::RecNote(parts));
-    }
-    if is(word, "no-note") {
-        return Ok(Act::NoNote(parts));
-    }
-    if is(word, "subscribe") {
-        return Ok(Act::Subscribe(parts));
-    }
-    if is(word, "unsubscribe") {
-        return Ok(Act::Unsubscribe(parts));
-    }
-    if is(word, "printf") {
-        return Ok(Act::Printf(parts));
-    }
-    Ok(Act::Delta)
 }
 
-/// One argument, which is all the arguments.
-fn act_of_one(
+/// The first argument and the one or more others as expressions; none where there aren't so many.
+fn more_exprs(
+    alloc: Global,
+    blocks: &Blocks,
+    arguments: &[Ast],
+) -> Result<Option<(Expr, Exprs)>, NoMemory>
+    ensures { IfOk result (λ both. both ≡ more_exprs (of_blocks blocks.now) arguments.now) }
+{
+    match arguments {
+        [] => Ok(None),
+        [_] => Ok(None),
+        [x, others @ ..] => {
+            let x = expr_of(alloc, blocks, x)?;
+            Ok(Some((x, exprs_of(alloc, blocks, others)?)))
+        }
+    }
+}
+
+fn tau(arguments: &[Ast]) -> Option<Act>
+    ensures { result ≡ tau arguments.now }
+{
+    match arguments {
+        [] => Some(Act::Tau),
+        [_, ..] => None,
+    }
+}
+
+fn shutdown(alloc: Global, blocks: &Blocks, arguments: &[Ast]) -> Result<Option<Act>, NoMemory>
+    ensures { IfOk result (λ act. act ≡ shutdown (of_blocks blocks.now) arguments.now) }
+{
+    match arguments {
+        [] => Ok(None),
+        [e] => Ok(Some(Act::Shutdown(expr_of(alloc, blocks, e)?))),
+        [_, _, ..] => Ok(None),
+    }
+}
+
+fn connected(
     alloc: Global,
     names: &Names,
     blocks: &Blocks,
-    word: &[u8],
     arguments: &[Ast],
-    e: &Ast,
-) -> Result<Act, NoMemory>
-    requires { arguments.now ≡ e.now ∷ [] }
-    ensures { IfOk result
-        (λ act. act ≡ act_of_one names.now.script.now (of_blocks blocks.now) word.now e.now) }
+) -> Result<Option<Act>, NoMemory>
+    ensures { IfOk result (λ act. act
+        ≡ connected names.now.script.now (of_blocks blocks.now) arguments.now) }
 {
-    if is(word, "shutdown") {
-        return Ok(Act::Shutdown(expr_of(alloc, blocks, e)?));
+    match arguments {
+        [] => Ok(None),
+        [e] => Ok(Some(any_connected(alloc, names, blocks, e)?)),
+        [_, _, ..] => Ok(None),
     }
-    if is(word, "rec-connect") {
-        return connected(alloc, names, blocks, e);
-    }
-    if is(word, "rec-disconnect") {
-        return disconnected(alloc, names, blocks, e);
-    }
-    act_of_list(alloc, blocks, word, arguments)
 }
 
 /// A tool that has connected: any of the variable's sort.
-fn connected(alloc: Global, names: &Names, blocks: &Blocks, e: &Ast) -> Result<Act, NoMemory>
+fn any_connected(alloc: Global, names: &Names, blocks: &Blocks, e: &Ast) -> Result<Act, NoMemory>
     ensures { IfOk result
-        (λ act. act ≡ connected names.now.script.now (of_blocks blocks.now) e.now) }
+        (λ act. act ≡ any_connected names.now.script.now (of_blocks blocks.now) e.now) }
 {
     let sort = sort_of(alloc, blocks, name_of(e))?;
     let tool = tool_of_sort(names, &sort)?;
@@ -103,10 +110,26 @@ fn connected(alloc: Global, names: &Names, blocks: &Blocks, e: &Ast) -> Result<A
     Ok(Act::RecConnect { tool, slot })
 }
 
-/// A tool that leaves: any of a variable's sort, or the one that is named.
-fn disconnected(alloc: Global, names: &Names, blocks: &Blocks, e: &Ast) -> Result<Act, NoMemory>
+fn disconnected(
+    alloc: Global,
+    names: &Names,
+    blocks: &Blocks,
+    arguments: &[Ast],
+) -> Result<Option<Act>, NoMemory>
     ensures { IfOk result (λ act. act
-        ≡ disconnected names.now.script.now (of_blocks blocks.now) e.now (out-AstKind e.now.kind)) }
+        ≡ disconnected names.now.script.now (of_blocks blocks.now) arguments.now) }
+{
+    match arguments {
+        [] => Ok(None),
+        [e] => Ok(Some(leaving(alloc, names, blocks, e)?)),
+        [_, _, ..] => Ok(None),
+    }
+}
+
+/// A tool that leaves: any of a variable's sort, or the one that is named.
+fn leaving(alloc: Global, names: &Names, blocks: &Blocks, e: &Ast) -> Result<Act, NoMemory>
+    ensures { IfOk result (λ act. act
+        ≡ leaving names.now.script.now (of_blocks blocks.now) e.now (out-AstKind e.now.kind)) }
 {
     match &e.kind {
         AstKind::Result(name) => any_disconnected(alloc, names, blocks, name.as_bytes()),
@@ -129,98 +152,78 @@ fn any_disconnected(
     Ok(Act::RecDisconnectAny { tool, slot })
 }
 
-/// A first argument, and the others.
-fn act_of_more(
-    alloc: Global,
-    blocks: &Blocks,
-    word: &[u8],
-    arguments: &[Ast],
-    e: &Ast,
-    others: &[Ast],
-) -> Result<Act, NoMemory>
-    requires { arguments.now ≡ e.now ∷ others.now }
+fn executed(names: &Names, blocks: &Blocks, arguments: &[Ast]) -> Result<Option<Act>, NoMemory>
     ensures { IfOk result
-        (λ act. act ≡ act_of_more (of_blocks blocks.now) word.now e.now others.now) }
+        (λ act. act ≡ executed names.now.script.now (of_blocks blocks.now) arguments.now) }
 {
-    if is(word, "rec-event") {
-        let tool = expr_of(alloc, blocks, e)?;
-        return Ok(Act::RecEvent(tool, exprs_of(alloc, blocks, others)?));
+    match arguments {
+        [] => Ok(None),
+        [_] => Ok(None),
+        [x, y] => {
+            let tool = tool_of(names, name_of(x))?;
+            let slot = slot_of(blocks, name_of(y));
+            Ok(Some(Act::Execute { tool, slot }))
+        }
+        [_, _, _, ..] => Ok(None),
     }
-    if is(word, "snd-ack-event") {
-        let tool = expr_of(alloc, blocks, e)?;
-        return Ok(Act::SndAckEvent(tool, exprs_of(alloc, blocks, others)?));
-    }
-    act_of_list(alloc, blocks, word, arguments)
 }
 
-/// Two arguments, the second of which is all the others.
-fn act_of_two(
+/// What the atom does, by its arguments; none where their number is wrong.
+fn word_act(
     alloc: Global,
     names: &Names,
     blocks: &Blocks,
-    word: &[u8],
+    word: AtomWord,
     arguments: &[Ast],
-    x: &Ast,
-    others: &[Ast],
-    y: &Ast,
-) -> Result<Act, NoMemory>
-    requires whole { arguments.now ≡ x.now ∷ others.now }
-    requires second { others.now ≡ y.now ∷ [] }
+) -> Result<Option<Act>, NoMemory>
     ensures { IfOk result
-        (λ act. act ≡ act_of_two names.now.script.now (of_blocks blocks.now) word.now x.now y.now) }
+        (λ act. act ≡ word_act names.now.script.now (of_blocks blocks.now) word arguments.now) }
 {
-    if is(word, "execute") {
-        return executed(names, blocks, x, y);
+    let some = || some_exprs(alloc, blocks, arguments);
+    let two = || two_exprs(alloc, blocks, arguments);
+    let more = || more_exprs(alloc, blocks, arguments);
+    match word {
+        AtomWord::Delta => Ok(Some(Act::Delta)),
+        AtomWord::Tau => Ok(tau(arguments)),
+        AtomWord::Printf => Ok(some()?.map(Act::Printf)),
+        AtomWord::SndMsg => Ok(some()?.map(Act::SndMsg)),
+        AtomWord::RecMsg => Ok(some()?.map(Act::RecMsg)),
+        AtomWord::SndNote => Ok(some()?.map(Act::SndNote)),
+        AtomWord::RecNote => Ok(some()?.map(Act::RecNote)),
+        AtomWord::NoNote => Ok(some()?.map(Act::NoNote)),
+        AtomWord::Subscribe => Ok(some()?.map(Act::Subscribe)),
+        AtomWord::Unsubscribe => Ok(some()?.map(Act::Unsubscribe)),
+        AtomWord::Execute => executed(names, blocks, arguments),
+        AtomWord::RecConnect => connected(alloc, names, blocks, arguments),
+        AtomWord::RecDisconnect => disconnected(alloc, names, blocks, arguments),
+        AtomWord::SndEval => Ok(two()?.map(|(tool, e)| Act::SndEval(tool, e))),
+        AtomWord::RecValue => Ok(two()?.map(|(tool, e)| Act::RecValue(tool, e))),
+        AtomWord::SndDo => Ok(two()?.map(|(tool, e)| Act::SndDo(tool, e))),
+        AtomWord::RecEvent => Ok(more()?.map(|(tool, es)| Act::RecEvent(tool, es))),
+        AtomWord::SndAckEvent => Ok(more()?.map(|(tool, es)| Act::SndAckEvent(tool, es))),
+        AtomWord::SndTerminate => Ok(two()?.map(|(tool, e)| Act::SndTerminate(tool, e))),
+        AtomWord::Shutdown => shutdown(alloc, blocks, arguments),
     }
-    if is(word, "snd-eval") {
-        let tool = expr_of(alloc, blocks, x)?;
-        return Ok(Act::SndEval(tool, expr_of(alloc, blocks, y)?));
-    }
-    if is(word, "rec-value") {
-        let tool = expr_of(alloc, blocks, x)?;
-        return Ok(Act::RecValue(tool, expr_of(alloc, blocks, y)?));
-    }
-    if is(word, "snd-do") {
-        let tool = expr_of(alloc, blocks, x)?;
-        return Ok(Act::SndDo(tool, expr_of(alloc, blocks, y)?));
-    }
-    if is(word, "snd-terminate") {
-        let tool = expr_of(alloc, blocks, x)?;
-        return Ok(Act::SndTerminate(tool, expr_of(alloc, blocks, y)?));
-    }
-    act_of_more(alloc, blocks, word, arguments, x, others)
 }
 
-fn executed(names: &Names, blocks: &Blocks, x: &Ast, y: &Ast) -> Result<Act, NoMemory>
-    ensures { IfOk result (λ act. act ≡ Execute (tool_of names.now.script.now (name_of x.now))
-        (slot_of (of_blocks blocks.now) (name_of y.now))) }
-{
-    let tool = tool_of(names, name_of(x))?;
-    let slot = slot_of(blocks, name_of(y));
-    Ok(Act::Execute { tool, slot })
-}
-
-/// What an atom does by its word and its arguments.
-fn act_of_word(
+/// What the atom of this name does. A checked script has the right number of arguments.
+fn act_of_name(
     alloc: Global,
     names: &Names,
     blocks: &Blocks,
-    word: &[u8],
+    name: &[u8],
     arguments: &[Ast],
 ) -> Result<Act, NoMemory>
-    ensures { IfOk result (λ act. act
-        ≡ act_of_word names.now.script.now (of_blocks blocks.now) word.now arguments.now) }
+    ensures { IfOk result
+        (λ act. act ≡ act_of_name names.now.script.now (of_blocks blocks.now) name.now arguments.now) }
 {
-    let Some((x, others)) = arguments.split_first() else {
-        return Ok(act_without(word));
+    let Some(word) = atom_word(name) else {
+        return Ok(Act::Delta);
     };
-    let Some((y, more)) = others.split_first() else {
-        return act_of_one(alloc, names, blocks, word, arguments, x);
-    };
-    if more.is_empty() {
-        return act_of_two(alloc, names, blocks, word, arguments, x, others, y);
+    match word_act(alloc, names, blocks, word, arguments)? {
+        Some(act) => Ok(act),
+        None => Ok(Act::Delta),
     }
-    act_of_more(alloc, blocks, word, arguments, x, others)
 }
 
 /// What an atom does, with its variables as slots and its processes and tools by their positions.
@@ -236,11 +239,11 @@ pub(crate) fn act_of(
     match def {
         ActDef::Set(name, value) => set(alloc, blocks, name.as_bytes(), value),
         ActDef::Create(call, variable) => created(alloc, names, blocks, call, variable),
-        ActDef::Named(word, arguments) => act_of_word(
+        ActDef::Named(name, arguments) => act_of_name(
             alloc,
             names,
             blocks,
-            word.as_bytes(),
+            name.as_bytes(),
             arguments.as_slice(),
         ),
     }

@@ -1,13 +1,15 @@
+//! Atoms with their times as a body has them.
+
 ghost use Rattle.std.specs.Prelude.{◌≡◌, IfOk, map};
 ghost use Rattle.tb_expand.specs.Scopes.{of_blocks};
 ghost use Rattle.tb_expand.specs.Acts.{atom_of, time_kind, time_of};
 
-use crate::acts::{act_of, is};
+use crate::acts::act_of;
 use crate::exprs::expr_of;
 use crate::scope::Blocks;
 use std::alloc::Global;
 use tb_body::{Atom, Time, TimeKind, Times};
-use tb_syntax::{AtomDef, TimeDef};
+use tb_syntax::{AtomDef, TimeDef, TimeWord, time_word};
 use tb_terms::{Items, NoMemory};
 use tb_types::Names;
 
@@ -44,17 +46,15 @@ fn time_of(alloc: Global, blocks: &Blocks, def: &TimeDef) -> Result<Time, NoMemo
     Ok(Time { kind, value })
 }
 
-fn time_kind(word: &[u8]) -> TimeKind
-    ensures { result ≡ time_kind word.now }
+/// No tokens spell a time with another name: it stands for the last one.
+fn time_kind(name: &[u8]) -> TimeKind
+    ensures { result ≡ time_kind name.now }
 {
-    if is(word, "delay") {
-        return TimeKind::Delay;
+    match time_word(name) {
+        Some(TimeWord::Delay) => TimeKind::Delay,
+        Some(TimeWord::Timeout) => TimeKind::Timeout,
+        Some(TimeWord::AbsDelay) => TimeKind::AbsDelay,
+        Some(TimeWord::AbsTimeout) => TimeKind::AbsTimeout,
+        None => TimeKind::AbsTimeout,
     }
-    if is(word, "timeout") {
-        return TimeKind::Timeout;
-    }
-    if is(word, "abs-delay") {
-        return TimeKind::AbsDelay;
-    }
-    TimeKind::AbsTimeout
 }

@@ -1,3 +1,5 @@
+//! What has been built of an expansion.
+
 use tb_body::Atoms;
 use tb_terms::Sorts;
 

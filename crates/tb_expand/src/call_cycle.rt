@@ -1,3 +1,5 @@
+//! A cycle of calls, turned so that its least position stands first.
+
 ghost use Rattle.std.specs.Prelude.{◌≡◌, ℕ, ◌<◌, List, length, nat_lt, Contains, IfOk};
 ghost use Rattle.std.specs.List.{IsFirstBest};
 ghost use Rattle.tb_expand.specs.Helpers.TurnedCycles.{onward, IsTurned};

@@ -1,3 +1,5 @@
+//! The order in which processes are expanded.
+
 ghost use Rattle.std.specs.Prelude.{IfOk, IfErr};
 ghost use Rattle.tb_expand.specs.Helpers.CallGraphs.{NamesDiffer};
 ghost use Rattle.tb_expand.specs.Helpers.CallOrders.{IsCallOrder};

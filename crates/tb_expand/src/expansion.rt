@@ -1,3 +1,5 @@
+//! The expansions of a script's processes.
+
 ghost use Rattle.std.specs.Prelude.{◌≡◌, ◌<◌, Some, Contains, true, false, length, slice_get, IfOk, IfErr, OnOk};
 ghost use Rattle.std.proofs.Props.{props};
 ghost use Rattle.tb_body.specs.declared.body.Body.{Body};

@@ -1,3 +1,5 @@
+//! Expressions with their variables as slots.
+
 ghost use Rattle.std.specs.Prelude.{◌≡◌, IfOk};
 ghost use Rattle.tb_expand.specs.Scopes.{of_blocks};
 ghost use Rattle.tb_expand.specs.Exprs.{expr_of, exprs_of, kind_expr, named};

@@ -1,3 +1,5 @@
+//! Why a process has no expansion.
+
 ghost use Rattle.std.specs.Prelude.{◌≡◌};
 ghost use Rattle.tb_message.specs.Messages.{message_text};
 ghost use Rattle.tb_expand.specs.Lines.{expand_line};

@@ -1,3 +1,5 @@
+//! Which processes each process calls.
+
 ghost use Rattle.std.specs.Prelude.{◌≡◌, ◌<◌, [], ◌∷◌, ◌++◌, length, option_map, All, IfOk, OnOk};
 ghost use Rattle.tb_expand.specs.Cycles.{called, or_none};
 ghost use Rattle.tb_expand.specs.Helpers.CallGraphs.{graph_of, names_of, positions_of};

@@ -1,3 +1,5 @@
+//! Positions as a body writes them.
+
 ghost use Rattle.std.specs.Prelude.{◌≡◌, ◌+◌, IfOk};
 
 use tb_terms::NoMemory;

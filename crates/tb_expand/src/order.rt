@@ -1,3 +1,5 @@
+//! The order of a graph, or its cycle.
+
 ghost use Rattle.std.specs.Prelude.{◌≡◌, ℕ, ◌<◌, List, [], ◌∷◌, ◌++◌, length, slice_get, Some, IfOk, OnOk, MatchOption};
 ghost use Rattle.tb_expand.specs.Helpers.Graphs.{Graph, IsClosed};
 ghost use Rattle.tb_expand.specs.Helpers.Ordered.{IsOrdered};

@@ -1,3 +1,5 @@
+//! The parts of an expansion's tree.
+
 ghost use Rattle.std.specs.Prelude.{◌≡◌, ◌+◌, IfOk, length, option_map};
 ghost use Rattle.std.specs.Option.{option_copied};
 ghost use Rattle.tb_body.specs.declared.tree.Tree.{Tree};

@@ -1,3 +1,5 @@
+//! The positions of processes and of tools.
+
 ghost use Rattle.std.specs.Prelude.{◌≡◌, IfOk};
 ghost use Rattle.tb_syntax.specs.declared.ast.AstKind.{out-AstKind};
 ghost use Rattle.tb_terms.specs.declared.sort.Sort.{out-Sort};

@@ -1,3 +1,5 @@
+//! Variables that are seen, and their blocks.
+
 use tb_terms::{Ident, Items, Sort};
 
 /// A variable that is seen: the slot for which its name stands, and its sort.

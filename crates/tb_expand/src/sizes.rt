@@ -1,3 +1,5 @@
+//! How large the expansions of processes are.
+
 ghost use Rattle.std.specs.Prelude.{◌≡◌, IfOk, length};
 ghost use Rattle.tb_expand.specs.Helpers.Sizes.{beside, above};
 ghost use Rattle.tb_expand.specs.Helpers.Measuring.{AreSizes, capped, called_measure, known_size, measure, with_measure};

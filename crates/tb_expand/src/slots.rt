@@ -1,3 +1,5 @@
+//! The slots of variables.
+
 ghost use Rattle.std.specs.Prelude.{◌≡◌, ◌+◌, IfOk, map};
 ghost use Rattle.tb_expand.specs.Scopes.{of_blocks, declared, formals_seen, slot_of};
 ghost use Rattle.tb_expand.specs.Exprs.{expr_of};

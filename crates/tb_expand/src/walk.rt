@@ -1,3 +1,5 @@
+//! A walk over a graph.
+
 ghost use Rattle.std.specs.Prelude.{◌≡◌, ℕ, ◌<◌, ◌+◌, ◌^◌, List, [], ◌∷◌, ◌++◌, length, slice_get, Some, ⊤, IfOk, IfSome, OnOk, MatchOption};
 ghost use Rattle.tb_expand.specs.Helpers.Graphs.{IsClosed, next_positions};
 ghost use Rattle.tb_expand.specs.declared.walk.Visit.TheVariants.{Open};

@@ -1,3 +1,5 @@
+//! The whole expansion of a process.
+
 ghost use Rattle.std.specs.Prelude.{◌≡◌, IfOk};
 ghost use Rattle.tb_expand.specs.Expansion.{expansion_of};
 
