@@ -1,11 +1,15 @@
 //! The chart of a log: lifelines, and a row for each entry that it shows.
-ghost use Rattle.std.specs.Prelude.{◌≡◌, ◌++◌, ◌∷◌, [], IfOk, OnOk, map};
+ghost use Rattle.std.specs.Prelude.{◌≡◌, ◌++◌, ◌∷◌, [], All, IfOk, IsTrue, OnOk, map};
+ghost use Rattle.tb_chart.specs.Ends.{ends_of, fits};
+ghost use Rattle.tb_chart.specs.Figures.{figure};
+ghost use Rattle.tb_chart.specs.Named.{NamesTools};
 ghost use Rattle.tb_chart.specs.Rows.{is_seen, is_shown, row, seen_row, rows_from, rows_of};
 
 use crate::cast::Cast;
 use crate::fault::ChartFault;
 use crate::figure::{Figure, ends_of, figure_of};
 use crate::lines::Lines;
+use crate::named::are_named;
 use crate::row::{Row, Who};
 use crate::scene::Scene;
 use std::alloc::Global;
@@ -39,13 +43,14 @@ pub fn chart_of<'a>(
 ) -> Result<Chart<'a>, ChartFault>
     ensures rows { IfOk result
         (λ chart. map seen_row chart.rows.items ≡ rows_from span.from span.to 1 entries.now) }
+    ensures named { IfOk result (λ chart. All (NamesTools cast.now.tools.items) chart.rows.items) }
 {
     let mut scene = Scene::new(alloc, cast, commands)?;
     let mut lines = root_lines(alloc, &scene, span.all)?;
     let mut rows = Vec::new(alloc);
     for (index, entry) in entries.iter().enumerate() {
         let number = index as u64 + 1;
-        add_entry(&mut scene, &mut lines, &mut rows, number, entry, span)?;
+        add_entry(cast, &mut scene, &mut lines, &mut rows, number, entry, span)?;
     }
     Ok(Chart { lines, rows })
 }
@@ -64,6 +69,7 @@ fn root_lines(alloc: Global, scene: &Scene, all: bool) -> Result<Lines, NoMemory
 
 /// Goes on by an entry, and adds its row if it is shown.
 fn add_entry<'a>(
+    cast: &Cast,
     scene: &mut Scene,
     lines: &mut Lines,
     rows: &mut Vec<Row<'a>>,
@@ -71,8 +77,10 @@ fn add_entry<'a>(
     entry: &'a Entry,
     span: Span,
 ) -> Result<(), ChartFault>
-    ensures { OnOk result (map seen_row rows.new.items
+    ensures rows { OnOk result (map seen_row rows.new.items
         ≡ map seen_row rows.old.items ++ rows_of span.from span.to number entry.now) }
+    ensures named { OnOk result (All (NamesTools cast.now.tools.items) rows.old.items
+        → All (NamesTools cast.now.tools.items) rows.new.items) }
 {
     if !scene.follow(entry)? {
         return Err(ChartFault::Line(number));
@@ -80,7 +88,7 @@ fn add_entry<'a>(
     if !is_shown(span.from, span.to, number, figure_of(entry)) {
         return Ok(());
     }
-    add_row(scene, lines, rows, number, entry)
+    add_row(cast, scene, lines, rows, number, entry)
 }
 
 /// Whether an entry of this figure has a row.
@@ -102,26 +110,43 @@ fn is_seen(figure: Figure) -> bool
 
 /// Adds the row of an entry.
 fn add_row<'a>(
+    cast: &Cast,
     scene: &Scene,
     lines: &mut Lines,
     rows: &mut Vec<Row<'a>>,
     number: u64,
     entry: &'a Entry,
 ) -> Result<(), ChartFault>
-    ensures { OnOk result (map seen_row rows.new.items
+    ensures rows { OnOk result (map seen_row rows.new.items
         ≡ map seen_row rows.old.items ++ row number entry.now ∷ []) }
+    ensures named { OnOk result (All (NamesTools cast.now.tools.items) rows.old.items
+        → All (NamesTools cast.now.tools.items) rows.new.items) }
 {
-    let Some(ends) = scene.ends(ends_of(figure_of(entry)), entry) else {
+    let wanted = ends_of(figure_of(entry));
+    let Some(ends) = scene.ends(wanted, entry) else {
         return Err(ChartFault::Line(number));
     };
+    if !are_named(cast.tools.as_slice(), entry, wanted, ends) {
+        return Err(ChartFault::Line(number));
+    }
     add_lines(lines, scene, ends)?;
-    rows.push(Row {
+    rows.push(row_of(scene, number, entry, ends))?;
+    Ok(())
+}
+
+/// The row of an entry with these ends.
+fn row_of<'a>(scene: &Scene, number: u64, entry: &'a Entry, ends: Option<(Who, Who)>) -> Row<'a>
+    requires { IsTrue (fits entry.now (ends_of (figure entry.now)) ends) }
+    ensures row { seen_row result ≡ row number entry.now }
+    ensures entry { result.entry.now ≡ entry.now }
+    ensures ends { result.ends ≡ ends }
+{
+    Row {
         number,
         entry,
         ends,
         bodies: scene.bodies(entry),
-    })?;
-    Ok(())
+    }
 }
 
 fn add_lines(lines: &mut Lines, scene: &Scene, ends: Option<(Who, Who)>) -> Result<(), NoMemory> {

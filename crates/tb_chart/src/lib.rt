@@ -8,6 +8,7 @@ mod fault;
 mod figure;
 mod lane;
 mod lines;
+mod named;
 mod row;
 mod scene;
 

@@ -32,5 +32,5 @@ pub struct Row<'a> {
     pub ends: Option<(Who, Who)>,
     /// The definitions of the processes that make a step, from 0: of the only one or the sender, and of the receiver.
     pub bodies: (Option<u32>, Option<u32>),
-    ghost are_ends: { IsTrue (fits (ends_of (figure entry.now)) ends) },
+    ghost are_ends: { IsTrue (fits entry.now (ends_of (figure entry.now)) ends) },
 }

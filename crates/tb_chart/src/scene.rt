@@ -1,6 +1,7 @@
 //! Who is there as a log goes on: the processes, the tools and their lanes.
-ghost use Rattle.std.specs.Prelude.{IsTrue, IfSome};
+ghost use Rattle.std.specs.Prelude.{◌≡◌, IsTrue, IfSome};
 ghost use Rattle.tb_chart.specs.Ends.{fits, is_at};
+ghost use Rattle.tb_chart.specs.Terms.{creates, is_number};
 
 use crate::cast::{Cast, index_of};
 use crate::figure::End;
@@ -47,7 +48,7 @@ impl<'a> Scene<'a> {
 
     /// Returns who is at these ends of what is shown of an entry, if they are there.
     pub(crate) fn ends(&self, ends: Option<(End, End)>, entry: &Entry) -> Option<Option<(Who, Who)>>
-        ensures { IfSome result (λ found. IsTrue (fits ends found)) }
+        ensures { IfSome result (λ found. IsTrue (fits entry.now ends found)) }
     {
         match ends {
             None => Some(None),
@@ -61,7 +62,7 @@ impl<'a> Scene<'a> {
 
     /// Returns who is at this end of what is shown of an entry, if it is there.
     fn who(&self, end: End, entry: &Entry) -> Option<Who>
-        ensures { IfSome result (λ found. IsTrue (is_at end found)) }
+        ensures { IfSome result (λ found. IsTrue (is_at entry.now end found)) }
     {
         match end {
             End::Process(number) => {
@@ -253,12 +254,25 @@ fn lowest_free(lanes: &[Lane]) -> Option<u8> {
 }
 
 /// The number of the process that a step creates.
-fn child_number(entry: &Entry) -> Option<u32> {
+fn child_number(entry: &Entry) -> Option<u32>
+    ensures { IfSome result (λ number. IsTrue (creates entry.now number)) }
+{
     let Entry::Did(label) = entry else {
         return None;
     };
-    let number = positive(label.terms.as_slice().first()?)?;
-    u32::try_from(number).ok()
+    match label.terms.as_slice() {
+        [] => None,
+        [first, ..] => small(positive(first)?),
+    }
+}
+
+fn small(number: u64) -> Option<u32>
+    ensures { IfSome result (λ small. small ≡ number) }
+{
+    match u32::try_from(number) {
+        Ok(number) => Some(number),
+        Err(_) => None,
+    }
 }
 
 /// The number of the tool that an entry names.
@@ -284,7 +298,9 @@ fn tool_name(label: &Label) -> Option<&[u8]> {
     }
 }
 
-fn positive(term: &Term) -> Option<u64> {
+fn positive(term: &Term) -> Option<u64>
+    ensures { IfSome result (λ number. IsTrue (is_number number term.now)) }
+{
     match term {
         Term::Int(number) => match u64::try_from(*number) {
             Ok(number) => Some(number),

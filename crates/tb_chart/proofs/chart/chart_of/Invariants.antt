@@ -1,8 +1,9 @@
-use Rattle.std.proofs.Common.{◌≡◌, ◌+◌, ◌++◌, map, drop}
+use Rattle.std.proofs.Common.{◌≡◌, ◌+◌, ◌++◌, All, map, drop}
+use Rattle.tb_chart.specs.Named.{NamesTools}
 use Rattle.tb_chart.specs.Rows.{seen_row, rows_from}
 use Rattle.tb_chart.proofs.chart.chart_of.Given as goal
 
--- with the rows of the entries that are left, the rows so far are all
+-- With the rows of the entries that are left, the rows so far are all. Each names the tools at its ends.
 abbrev pub invariant-loop-index : goal.invariant-loop-index
-invariant-loop-index l = map seen_row l.rows.items ++ rows_from l.span.from l.span.to (l.index + 1) (drop l.index l.entries)
-    ≡ rows_from l.span.from l.span.to 1 l.entries
+invariant-loop-index l = (map seen_row l.rows.items ++ rows_from l.span.from l.span.to (l.index + 1) (drop l.index l.entries)
+    ≡ rows_from l.span.from l.span.to 1 l.entries) × All (NamesTools l.cast.tools.items) l.rows.items
