@@ -49,7 +49,7 @@ pub(crate) fn say_lex(said: &mut Said, fault: LexFault) {
     match fault {
         LexFault::BadByte(at) => say_byte(said, at),
         LexFault::OpenString(_) => {
-            said.say("open string: this string isn't closed on its line", &[]);
+            said.say("this string isn't closed on its line", &[]);
             said.help(
                 "close it with `\"`; a newline in a string is written `\\n`",
                 &[],
@@ -57,7 +57,7 @@ pub(crate) fn say_lex(said: &mut Said, fault: LexFault) {
         }
         LexFault::Real(at) => {
             let number = numeral(between(text, at, text.len()));
-            said.say("real: the number `%` has a decimal point", &[number]);
+            said.say("the number `%` has a decimal point", &[number]);
             said.help(
                 "scripts have whole numbers only; 15 tenths of a second are `msec(1500)`",
                 &[],
@@ -65,17 +65,14 @@ pub(crate) fn say_lex(said: &mut Said, fault: LexFault) {
         }
         LexFault::IntRange(at) => {
             let number = numeral(between(text, at, text.len()));
-            said.say("integer: the number `%` doesn't fit in 64 bits", &[number]);
+            said.say("the number `%` doesn't fit in 64 bits", &[number]);
             said.help(
                 "numbers go from -9223372036854775808 to 9223372036854775807",
                 &[],
             );
         }
         LexFault::TooMany => {
-            said.say(
-                "too many tokens: the script has more than 200,000 tokens",
-                &[],
-            );
+            said.say("the script has more than 200,000 tokens", &[]);
             said.help(
                 "move parts that are repeated to a process that is called",
                 &[],
@@ -99,7 +96,6 @@ fn numeral(text: &[u8]) -> &[u8] {
 fn say_byte(said: &mut Said, at: usize) {
     let text = said.source.text;
     let byte = between(text, at, at.saturating_add(1));
-    said.say("byte: ", &[]);
     match lex(said.alloc, between(text, 0, at)) {
         Err(LexFault::OpenString(_)) => say_in_string(said, byte),
         Err(LexFault::NoMemory) => said.lacks = true,

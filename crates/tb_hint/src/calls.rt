@@ -21,7 +21,7 @@ pub(crate) fn say_expand(said: &mut Said, tokens: &Tokens, fault: &ExpandFault) 
 
 fn say_recursion(said: &mut Said, tokens: &Tokens, names: &[Ident]) {
     said.say(
-        "recursion: a call is replaced by the body of its process, and these calls have no end",
+        "a call is replaced by the body of its process, and these calls have no end",
         &[],
     );
     match parse(said.alloc, tokens) {
@@ -58,7 +58,7 @@ fn first_name(names: &[Ident]) -> &[u8] {
 
 fn say_large(said: &mut Said, name: &[u8]) {
     said.say(
-        "too large: with each call replaced by the body of its process, `%` has more than 20,000 atoms or 1,000 levels",
+        "with each call replaced by the body of its process, `%` has more than 20,000 atoms or 1,000 levels",
         &[name],
     );
     said.help("use `create`, or repeat with `*` instead of copies", &[]);
@@ -68,7 +68,7 @@ fn say_large(said: &mut Said, name: &[u8]) {
 pub(crate) fn say_roots(said: &mut Said, count: usize) {
     let mut buffer = Buffer::new();
     said.say(
-        "too many processes: `toolbus(..)` starts % processes, and this one is number 10,001",
+        "`toolbus(..)` starts % processes, and this one is number 10,001",
         &[buffer.format(count).as_bytes()],
     );
     said.help("start processes with `create`", &[]);
@@ -78,7 +78,7 @@ pub(crate) fn say_roots(said: &mut Said, count: usize) {
 pub(crate) fn say_long(said: &mut Said, count: usize) {
     let mut buffer = Buffer::new();
     said.say(
-        "too long: the file has % bytes, and 1,048,576 are the most",
+        "the file has % bytes, and 1,048,576 are the most",
         &[buffer.format(count).as_bytes()],
     );
     said.help("comments and whitespace count too", &[]);

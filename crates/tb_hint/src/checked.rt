@@ -8,7 +8,6 @@ use tb_types::CheckFault;
 
 /// Says which condition fails, and why.
 pub(crate) fn say_check(said: &mut Said, fault: CheckFault) {
-    said.say(words_of(fault), &[]);
     match fault {
         CheckFault::Twice(token) => say_twice(said, token),
         CheckFault::NoProcess(token) => say_no_process(said, token),
@@ -20,21 +19,5 @@ pub(crate) fn say_check(said: &mut Said, fault: CheckFault) {
         CheckFault::NotResult(token) => say_not_result(said, token),
         CheckFault::TypeClash(token) => say_clash(said, token),
         CheckFault::NoMemory => {}
-    }
-}
-
-/// The words with which the sentence begins: those of the line of `toolbus check`.
-fn words_of(fault: CheckFault) -> &'static str {
-    match fault {
-        CheckFault::Twice(_) => "twice: ",
-        CheckFault::NoProcess(_) => "no process: ",
-        CheckFault::NoTool(_) => "no tool: ",
-        CheckFault::NoFunction(_) => "no function: ",
-        CheckFault::Arity(_) => "arity: ",
-        CheckFault::Undeclared(_) => "undeclared: ",
-        CheckFault::ResultInSend(_) => "result in send: ",
-        CheckFault::NotResult(_) => "not result: ",
-        CheckFault::TypeClash(_) => "type clash: ",
-        CheckFault::NoMemory => "",
     }
 }

@@ -4,19 +4,18 @@ use tb_place::Mark;
 use tb_terms::NoMemory;
 use unicode_width::{UnicodeWidthChar, UnicodeWidthStr};
 
-/// Adds the line of these bytes, and a mark beneath them.
+/// Adds the line of these bytes, and a mark beneath them, each behind a newline.
 pub(crate) fn push_marked(text: &[u8], mark: Mark, into: &mut Vec<u8>) -> Result<(), NoMemory> {
     let from = mark.from.min(text.len());
     let before = last_line(&text[..from]);
     let behind = first_line(&text[from..]);
     let marked = &behind[..mark.to.saturating_sub(from).min(behind.len())];
+    into.push(b'\n')?;
     push_shown(before, into)?;
     push_shown(behind, into)?;
     into.push(b'\n')?;
     push_blanks(before, into)?;
-    push_times(b'^', columns_of(marked).max(1), into)?;
-    into.push(b'\n')?;
-    Ok(())
+    push_times(b'^', columns_of(marked).max(1), into)
 }
 
 /// The part after the last newline.

@@ -1,6 +1,6 @@
 //! The message about a script that is rejected.
 ghost use Rattle.std.specs.Prelude.{IfOk};
-ghost use Rattle.tb_point.specs.Points.{BeginsWithPlace};
+ghost use Rattle.tb_point.specs.Points.{TellsFault};
 
 use crate::bytes::say_lex;
 use crate::calls::{say_expand, say_long, say_roots};
@@ -13,30 +13,32 @@ use std::alloc::Global;
 use tb_lex::{LexFault, Tokens, lex};
 use tb_parse::ParseFault;
 use tb_place::mark_at;
-use tb_point::{Point, write_place};
+use tb_point::{Point, fault_name, write_place};
 use tb_script::ScriptFault;
 use tb_terms::{Items, NoMemory};
 
-/// The lines about a script that is rejected: the place and a sentence, the line of the script with a mark
-/// beneath it, notes, and help. `text` is the script, and `name` the name of its file.
-#[tactic(auto, using(tb_point::proofs::Begins::begins))]
+/// The lines about a script that is rejected: the place, the name of the fault and a sentence, the line of the
+/// script with a mark beneath it, notes, and help. `text` is the script, and `name` the name of its file.
+#[tactic(auto, using(tb_point::proofs::Tells::tells))]
 pub fn message_text(
     alloc: Global,
     name: &str,
     text: &[u8],
     point: &Point,
 ) -> Result<Vec<u8>, NoMemory>
-    ensures { IfOk result
-        (λ lines. BeginsWithPlace name.now text.now point.now.mark lines.items) }
+    ensures { IfOk result (λ lines. TellsFault name.now text.now point.now lines.items) }
 {
     let rest = rest_of(alloc, name, text, point)?;
     let mut lines = Vec::new(alloc);
     write_place(name, text, &point.mark, &mut lines)?;
+    lines.extend_from_slice(fault_name(&point.fault).as_bytes())?;
+    lines.extend_from_slice(b": ")?;
     lines.extend_from_slice(rest.as_slice())?;
+    lines.push(b'\n')?;
     Ok(lines)
 }
 
-/// All that follows the place.
+/// All that follows the name of the fault, except the last newline.
 fn rest_of(alloc: Global, name: &str, text: &[u8], point: &Point) -> Result<Vec<u8>, NoMemory> {
     match lex(alloc, text) {
         Ok(tokens) => rest_by(alloc, name, text, &tokens, point),
@@ -68,7 +70,6 @@ fn rest_by(
 /// The sentence, the line with its mark, and the other lines.
 fn joined(said: &Said, point: &Point) -> Result<Vec<u8>, NoMemory> {
     let mut lines = Vec::from_slice(said.alloc, said.sentence.as_slice())?;
-    lines.push(b'\n')?;
     if let Some(mark) = point.mark {
         push_marked(said.source.text, mark, &mut lines)?;
     }

@@ -14,7 +14,7 @@ pub(crate) struct Said<'a> {
     pub alloc: Global,
     pub source: Source<'a>,
     pub sentence: Vec<u8>,
-    /// The lines after the sentence and its mark.
+    /// The lines after the sentence and its mark. Each follows a newline.
     pub rest: Vec<u8>,
     /// Whether memory ran out at a piece.
     pub lacks: bool,
@@ -70,10 +70,8 @@ impl<'a> Said<'a> {
 }
 
 fn push_help(template: &str, parts: &[&[u8]], into: &mut Vec<u8>) -> Result<(), NoMemory> {
-    into.extend_from_slice(b"help: ")?;
-    fill(template, parts, into)?;
-    into.push(b'\n')?;
-    Ok(())
+    into.extend_from_slice(b"\nhelp: ")?;
+    fill(template, parts, into)
 }
 
 fn push_note(
@@ -84,10 +82,10 @@ fn push_note(
     into: &mut Vec<u8>,
 ) -> Result<(), NoMemory> {
     let mark = mark_at(source.tokens, token);
+    into.push(b'\n')?;
     write_place(source.name, source.text, &Some(mark), into)?;
     into.extend_from_slice(b"note: ")?;
     fill(template, parts, into)?;
-    into.push(b'\n')?;
     push_marked(source.text, mark, into)
 }
 

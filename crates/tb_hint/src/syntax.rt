@@ -73,7 +73,7 @@ enum Reading {
 pub(crate) fn say_syntax(said: &mut Said, mark: Mark) {
     let text = said.source.text;
     let prefix = between(text, 0, mark.from);
-    said.say("syntax: expected ", &[]);
+    said.say("expected ", &[]);
     match expected_behind(said.alloc, prefix) {
         Ok(expected) => {
             say_expected(said, expected.as_slice(), prefix);
@@ -283,11 +283,11 @@ fn template_of(name: &str) -> &'static str {
 /// Says that the brackets or the body at this token are too deep.
 pub(crate) fn say_deep(said: &mut Said, token: usize) {
     if said.source.is(token, "process") {
-        said.say("too deep: the body of this process is higher than 400", &[]);
+        said.say("the body of this process is higher than 400", &[]);
         return said.help("split it into several processes", &[]);
     }
     said.say(
-        "too deep: more than 128 of `(`, `[`, `let` and `if` are open behind this one",
+        "more than 128 of `(`, `[`, `let` and `if` are open behind this one",
         &[],
     );
     said.help("move an inner part to a process of its own", &[]);

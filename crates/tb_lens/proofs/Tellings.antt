@@ -4,20 +4,20 @@ use Rattle.std.proofs.lemmas.List.{take_all}
 use Rattle.tb_edge.specs.Sinks.{Writes}
 use Rattle.tb_edge.specs.FilesHeld.{IsOf, IsWithin}
 use Rattle.tb_edge.specs.declared.files.Loaded.TheVariants.{TooLong}
-use Rattle.tb_point.specs.Points.{BeginsWithPlace, IsPoint, IsAnswer}
+use Rattle.tb_point.specs.Points.{IsPoint, IsAnswer, TellsFault}
 use Rattle.tb_point.specs.declared.point.Point.{Point}
-use Rattle.tb_lens.specs.Told.{AtOutcome, IsLoaded, Says, TellsOf, TellsOfAll, accepted, refused, long}
+use Rattle.tb_lens.specs.Told.{AtOutcome, IsLoaded, Says, TellsOf, TellsOfAll, accepted, refused, long, long_point}
 use Rattle.tb_lens.specs.declared.status.Status.{Status}
 
 pub tells_none : (told : Option (List ℕ)) (name text bytes : List ℕ) → IsAnswer bytes None → text ≡ [] → IsLoaded told bytes → TellsOf told name text
 tells_none told name text bytes said empty loaded = accepted bytes said.0 loaded said.1 empty
 
 pub tells_point : (told : Option (List ℕ)) (name text bytes : List ℕ) (point : Point) → IsPoint bytes point
-    → BeginsWithPlace name bytes point.mark text → IsLoaded told bytes → TellsOf told name text
+    → TellsFault name bytes point text → IsLoaded told bytes → TellsOf told name text
 tells_point told name text bytes point said begins loaded = refused bytes point loaded said begins
 
 pub tells_long : (told : Option (List ℕ)) (name text : List ℕ) (len : ℕ) → IsWithin 1048576 (TooLong len) → IsOf told (TooLong len)
-    → BeginsWithPlace name [] None text → TellsOf told name text
+    → TellsFault name [] (long_point len) text → TellsOf told name text
 tells_long told name text len within held begins = long len (within, held) begins
 
 pub tells_more : (held : List ℕ → Option (List ℕ)) (name : List ℕ) (names : List (List ℕ)) (first rest text : List ℕ) → TellsOf (held name) name first

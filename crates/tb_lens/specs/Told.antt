@@ -3,7 +3,8 @@ use Rattle.std.specs.Prelude.{◌≡◌, ◌≢◌, ℕ, ◌<◌, ◌≤◌, Lis
 use Rattle.tb_edge.specs.Sinks.{Writes}
 use Rattle.tb_body.specs.declared.program.Program.{Program}
 use Rattle.tb_script.specs.Findings.{IsFound, Program'}
-use Rattle.tb_point.specs.Points.{BeginsWithPlace, IsPoint}
+use Rattle.tb_script.specs.declared.fault.ScriptFault.TheVariants as fault
+use Rattle.tb_point.specs.Points.{IsPoint, TellsFault}
 use Rattle.tb_point.specs.declared.point.Point.{Point}
 use Rattle.tb_lens.specs.declared.status.Status.{Status}
 use Rattle.tb_lens.specs.declared.status.Status.TheVariants.{Fine, Found, Trouble}
@@ -20,11 +21,15 @@ IsLoaded told bytes = IfSome told (λ held. bytes ≡ held) × (length bytes ≤
 abbrev pub IsTooLong : Option (List ℕ) → ℕ → Type 0
 IsTooLong told len = (most_bytes < len) × IfSome told (λ held. len ≡ length held)
 
--- What is told of the file of this name: nothing just where its script is accepted, and else the fault that `toolbus check` reports, behind its place.
+-- the fault of a file with so many bytes, which stands nowhere
+abbrev pub long_point : ℕ → Point
+long_point len = record { fault = fault.TooLong len; mark = None }
+
+-- What is told of the file of this name: nothing just where its script is accepted, and else the fault that `toolbus check` reports, by its place and its name.
 pub data TellsOf (told : Option (List ℕ)) (name text : List ℕ) : Type 0 where
   accepted : (bytes : List ℕ) (program : Program) → IsLoaded told bytes → IsFound bytes (Program' program) → text ≡ [] → TellsOf told name text
-  refused : (bytes : List ℕ) (point : Point) → IsLoaded told bytes → IsPoint bytes point → BeginsWithPlace name bytes point.mark text → TellsOf told name text
-  long : (len : ℕ) → IsTooLong told len → BeginsWithPlace name [] None text → TellsOf told name text
+  refused : (bytes : List ℕ) (point : Point) → IsLoaded told bytes → IsPoint bytes point → TellsFault name bytes point text → TellsOf told name text
+  long : (len : ℕ) → IsTooLong told len → TellsFault name [] (long_point len) text → TellsOf told name text
 
 -- the same of each file, in order
 abbrev pub TellsOfAll : (List ℕ → Option (List ℕ)) → List (List ℕ) → List ℕ → Type 0

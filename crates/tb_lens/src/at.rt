@@ -1,7 +1,7 @@
 //! `at`: the error of each script, and its place.
-ghost use Rattle.std.specs.Prelude.{◌≡◌, ℕ, List, [], Option, None, IfOk, map};
-ghost use Rattle.tb_point.specs.Points.{BeginsWithPlace, IsPoint};
-ghost use Rattle.tb_lens.specs.Told.{AtOutcome, IsLoaded, Says, TellsOf, TellsOfAll};
+ghost use Rattle.std.specs.Prelude.{◌≡◌, ℕ, List, [], Option, IfOk, map};
+ghost use Rattle.tb_point.specs.Points.{IsPoint, TellsFault};
+ghost use Rattle.tb_lens.specs.Told.{AtOutcome, IsLoaded, Says, TellsOf, TellsOfAll, long_point};
 
 use crate::status::{Status, Trouble};
 use std::alloc::Global;
@@ -95,7 +95,7 @@ fn tell_point(alloc: Global, name: &str, bytes: &[u8], found: &Point) -> Result<
 
 /// The report on a file with so many bytes, too many for a script.
 fn tell_long(alloc: Global, name: &str, len: usize) -> Result<Vec<u8>, NoMemory>
-    ensures { IfOk result (λ text. BeginsWithPlace name.now [] None text.items) }
+    ensures { IfOk result (λ text. TellsFault name.now [] (long_point len) text.items) }
 {
     let found = Point {
         fault: ScriptFault::TooLong(len),

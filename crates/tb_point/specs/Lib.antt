@@ -1,3 +1,4 @@
 pub mod Calls
+pub mod FaultNames
 pub mod Points
 pub mod Standing

@@ -24,7 +24,7 @@ use Rattle.tb_place.specs.declared.mark.Mark.{Mark}
 use Rattle.tb_place.specs.declared.spot.Spot.{Spot}
 use Rattle.tb_point.specs.Calls.{cycle_token, definition_token}
 
--- The byte that the fault names; too many tokens are a fault of no byte.
+-- The byte that the fault names, as an empty mark before it; too many tokens are a fault of no byte.
 abbrev pub lex_mark : LexFault → Option Mark
 lex_mark (lex.BadByte at) = Some (record { from = at; to = at })
 lex_mark (lex.OpenString at) = Some (record { from = at; to = at })
@@ -75,24 +75,13 @@ pub record InScript (text : List ℕ) (token : Script → Option ℕ) (mark : Op
   pub is_script : IsScriptOf (kinds_of tokens) script
   pub is : mark ≡ option_map (mark_at tokens) (token script)
 
--- the token of a fault that a script has as a whole
-abbrev pub script_token : ScriptFault → Script → Option ℕ
-script_token (fault.Expand f) script = expand_token f script
-script_token (fault.Roots count) script = root_token script
-script_token (fault.Lex f) script = None
-script_token (fault.Parse f) script = None
-script_token (fault.Check f) script = None
-script_token (fault.TooLong count) script = None
-script_token (fault.NotBuilt token) script = None
-script_token fault.NoMemory script = None
-
 -- The fault of this text stands at these bytes.
 abbrev pub StandsAt : List ℕ → ScriptFault → Option Mark → Type 0
 StandsAt text (fault.Lex f) mark = mark ≡ lex_mark f
 StandsAt text (fault.Parse f) mark = AtToken text (parse_token f) mark
 StandsAt text (fault.Check f) mark = AtToken text (check_token f) mark
-StandsAt text (fault.Expand f) mark = InScript text (script_token (fault.Expand f)) mark
-StandsAt text (fault.Roots count) mark = InScript text (script_token (fault.Roots count)) mark
+StandsAt text (fault.Expand f) mark = InScript text (expand_token f) mark
+StandsAt text (fault.Roots count) mark = InScript text root_token mark
 -- these are faults of no byte
 StandsAt text (fault.TooLong count) mark = mark ≡ None
 StandsAt text (fault.NotBuilt token) mark = mark ≡ None

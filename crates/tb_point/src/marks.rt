@@ -1,7 +1,7 @@
 //! The bytes of the place of a fault.
 ghost use Rattle.std.specs.Prelude.{◌≡◌, IfOk, option_map};
 ghost use Rattle.tb_place.specs.Marks.{mark_at};
-ghost use Rattle.tb_point.specs.Standing.{AtToken, InScript, StandsAt, check_token, expand_token, lex_mark, parse_token, root_token, script_token};
+ghost use Rattle.tb_point.specs.Standing.{AtToken, InScript, StandsAt, check_token, expand_token, lex_mark, parse_token, root_token};
 
 use crate::calls::{cycle_token, definition_token};
 use sqlite_items::at;
@@ -28,8 +28,8 @@ pub(crate) fn mark_of(
         ScriptFault::Lex(fault) => Ok(lex_mark(*fault)),
         ScriptFault::Parse(fault) => Ok(token_mark(alloc, text, parse_token(*fault))?),
         ScriptFault::Check(fault) => Ok(token_mark(alloc, text, check_token(*fault))?),
-        ScriptFault::Expand(_) => Ok(script_mark(alloc, text, fault)?),
-        ScriptFault::Roots(_) => Ok(script_mark(alloc, text, fault)?),
+        ScriptFault::Expand(fault) => Ok(expand_mark(alloc, text, fault)?),
+        ScriptFault::Roots(_) => Ok(root_mark(alloc, text)?),
         ScriptFault::TooLong(_) => Ok(None),
         ScriptFault::NotBuilt(_) => Ok(None),
         ScriptFault::NoMemory => Err(NoMemory),
@@ -95,9 +95,9 @@ fn mark_of_token(tokens: &[Token], token: Option<usize>) -> Option<Mark>
     }
 }
 
-/// The bytes of the token at which the script has this fault.
-fn script_mark(alloc: Global, text: &[u8], fault: &ScriptFault) -> Result<Option<Mark>, NoMemory>
-    ensures { IfOk result (InScript text.now (script_token fault.now)) }
+/// The bytes of the token at which the expansions of the script have this fault.
+fn expand_mark(alloc: Global, text: &[u8], fault: &ExpandFault) -> Result<Option<Mark>, NoMemory>
+    ensures { IfOk result (InScript text.now (expand_token fault.now)) }
 {
     let Ok(tokens) = lex(alloc, text) else {
         return Err(NoMemory);
@@ -105,22 +105,20 @@ fn script_mark(alloc: Global, text: &[u8], fault: &ScriptFault) -> Result<Option
     let Ok(script) = parse(alloc, &tokens) else {
         return Err(NoMemory);
     };
-    Ok(mark_of_token(tokens.as_slice(), script_token(&script, fault)))
+    Ok(mark_of_token(tokens.as_slice(), expand_token(&script, fault)))
 }
 
-fn script_token(script: &Script, fault: &ScriptFault) -> Option<usize>
-    ensures { result ≡ script_token fault.now script.now }
+/// The bytes of the first root of the script that is one too many.
+fn root_mark(alloc: Global, text: &[u8]) -> Result<Option<Mark>, NoMemory>
+    ensures { IfOk result (InScript text.now root_token) }
 {
-    match fault {
-        ScriptFault::Expand(fault) => expand_token(script, fault),
-        ScriptFault::Roots(_) => root_token(script),
-        ScriptFault::Lex(_) => None,
-        ScriptFault::Parse(_) => None,
-        ScriptFault::Check(_) => None,
-        ScriptFault::TooLong(_) => None,
-        ScriptFault::NotBuilt(_) => None,
-        ScriptFault::NoMemory => None,
-    }
+    let Ok(tokens) = lex(alloc, text) else {
+        return Err(NoMemory);
+    };
+    let Ok(script) = parse(alloc, &tokens) else {
+        return Err(NoMemory);
+    };
+    Ok(mark_of_token(tokens.as_slice(), root_token(&script)))
 }
 
 fn expand_token(script: &Script, fault: &ExpandFault) -> Option<usize>

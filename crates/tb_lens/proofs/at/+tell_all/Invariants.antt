@@ -1,6 +1,4 @@
 use Rattle.std.proofs.Common.{length, ◌≡◌, ℕ, List, [], Option, None, IfOk, map, ◌+◌, ◌-◌, ◌*◌, ◌<◌, ◌≤◌}
-use Rattle.tb_point.specs.Points.{BeginsWithPlace, IsPoint}
-use Rattle.tb_lens.specs.Told.{AtOutcome, IsLoaded, Says, TellsOf, TellsOfAll}
 use Rattle.tb_lens.proofs.at.+tell_all.Given as goal
 
 -- proposed from what the function passes where it calls itself
