@@ -65,7 +65,7 @@ kept_step_send : IsSend kept_step.the_row
 kept_step_send = declared_send kept_step.the_type (search sendable depth 60, (search sendable depth 40, (search sendable depth 40, (number_send, (number_send, tt)))))
 
 kept_send : IsSend kept.the_row
-kept_send = variants_send kept.enum ((kept_step_send, tt), (tt, ((number_send, tt), tt)))
+kept_send = variants_send kept.enum ((kept_step_send, tt), ((kept_step_send, tt), (tt, ((number_send, tt), tt))))
 
 out_row : IsSend out.the_field.row
 out_row = search (sendable, text_send, term_row) depth 40
