@@ -5,3 +5,4 @@ lines.on('line', (line) => {
   if (question) console.log(`snd-value(${Number(question[1]) < 20 ? 'on' : 'off'})`);
   if (line.startsWith('rec-terminate(')) process.exit(0);
 });
+lines.on('close', () => process.exit(0));
