@@ -1,6 +1,6 @@
 -- What `at` tells of the scripts in files.
-use Rattle.std.specs.Prelude.{◌≡◌, ◌≢◌, ℕ, ◌<◌, ◌≤◌, List, [], ◌∷◌, ◌++◌, length, Option, None, IfSome}
-use Rattle.tb_edge.specs.Sinks.{Writes}
+use Rattle.std.specs.Prelude.{◌≡◌, ◌≢◌, ℕ, ◌<◌, ◌≤◌, List, [], ◌∷◌, ◌++◌, length, Option, None, IfSome, Contains}
+use Rattle.tb_edge.specs.Sinks.{Writes, WritesPrefix}
 use Rattle.tb_body.specs.declared.program.Program.{Program}
 use Rattle.tb_script.specs.Findings.{IsFound, Program'}
 use Rattle.tb_script.specs.declared.fault.ScriptFault.TheVariants as fault
@@ -8,6 +8,8 @@ use Rattle.tb_point.specs.Points.{IsPoint, TellsFault}
 use Rattle.tb_point.specs.declared.point.Point.{Point}
 use Rattle.tb_lens.specs.declared.status.Status.{Status}
 use Rattle.tb_lens.specs.declared.status.Status.TheVariants.{Fine, Found, Trouble}
+use Rattle.tb_lens.specs.declared.status.Trouble.{Trouble as Reason}
+use Rattle.tb_lens.specs.declared.status.Trouble.TheVariants as trouble
 
 -- a file of more bytes is too long for a script
 abbrev pub most_bytes : ℕ
@@ -49,3 +51,25 @@ pub record AtOutcome (held : List ℕ → Option (List ℕ)) (names : List (List
   pub tells : TellsOfAll held names text
   pub says : Says text status
   pub written : Writes old new text
+
+-- Why nothing is told: one of the files couldn't be read, or what is told couldn't be written. Memory may run out at any time.
+abbrev pub IsReason : List (List ℕ) → Type 0 → Type 0 → Reason → Type 0
+IsReason names files_failed out_failed (trouble.File name) = Contains names name.bytes.items × files_failed
+IsReason names files_failed out_failed trouble.Out = out_failed
+IsReason names files_failed out_failed trouble.NoMemory = Unit {0}
+IsReason names files_failed out_failed (trouble.TooLong name) = ⊥
+IsReason names files_failed out_failed (trouble.Script name) = ⊥
+IsReason names files_failed out_failed trouble.Input = ⊥
+
+-- what is told of all files, of which the beginning is written
+abbrev pub TellsInPart : (List ℕ → Option (List ℕ)) → List (List ℕ) → Option (List ℕ) → Option (List ℕ) → Type 0
+TellsInPart held names old new = (text : List ℕ) × TellsOfAll held names text × WritesPrefix old new text
+
+-- nothing is written, unless it was the output that failed
+abbrev pub AtFailure : (List ℕ → Option (List ℕ)) → List (List ℕ) → Option (List ℕ) → Option (List ℕ) → Reason → Type 0
+AtFailure held names old new (trouble.File name) = new ≡ old
+AtFailure held names old new trouble.Out = TellsInPart held names old new
+AtFailure held names old new trouble.NoMemory = new ≡ old
+AtFailure held names old new (trouble.TooLong name) = new ≡ old
+AtFailure held names old new (trouble.Script name) = new ≡ old
+AtFailure held names old new trouble.Input = new ≡ old
