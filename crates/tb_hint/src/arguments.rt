@@ -2,8 +2,10 @@
 
 use crate::names::say_definition;
 use crate::said::Said;
-use crate::scan::{count_arguments, count_parameters, definition_of, head_of, parameter_of};
-use crate::source::is_upper;
+use crate::scan::{
+    count_arguments, count_parameters, definition_of, head_of, parameter_of, scope_of,
+};
+use crate::source::{Source, is_upper};
 use tb_func::{Signature, function, signature};
 use tb_syntax::is_atom_word;
 use tb_terms::Name;
@@ -12,31 +14,31 @@ use tb_terms::Name;
 static COUNTS: [(&str, &str); 12] = [
     ("tau", "no arguments"),
     ("delta", "no arguments"),
-    ("shutdown", "one argument"),
-    ("rec-connect", "one argument"),
-    ("rec-disconnect", "one argument"),
-    ("execute", "two arguments"),
-    ("snd-eval", "two arguments"),
-    ("snd-do", "two arguments"),
-    ("snd-terminate", "two arguments"),
-    ("rec-value", "two arguments"),
-    ("rec-event", "two arguments or more"),
-    ("snd-ack-event", "two arguments or more"),
+    ("shutdown", "1 argument"),
+    ("rec-connect", "1 argument"),
+    ("rec-disconnect", "1 argument"),
+    ("execute", "2 arguments"),
+    ("snd-eval", "2 arguments"),
+    ("snd-do", "2 arguments"),
+    ("snd-terminate", "2 arguments"),
+    ("rec-value", "2 arguments"),
+    ("rec-event", "2 arguments or more"),
+    ("snd-ack-event", "2 arguments or more"),
 ];
 
 /// Why an argument must be a variable with `?`, by the word of the atom.
 static RESULTS: [(&str, &str); 3] = [
     (
         "create",
-        "the second argument of `create` must be a variable with `?`, which takes the number of the process, but `%` is none",
+        "the second argument of `create` must be a variable with `?`, which takes the number of the process",
     ),
     (
         "execute",
-        "the second argument of `execute` must be a variable with `?`, which takes the tool, but `%` is none",
+        "the second argument of `execute` must be a variable with `?`, which takes the tool",
     ),
     (
         "rec-connect",
-        "the argument of `rec-connect` must be a variable with `?`, which takes the tool, but `%` is none",
+        "the argument of `rec-connect` must be a variable with `?`, which takes the tool",
     ),
 ];
 
@@ -79,7 +81,7 @@ fn say_process_count(said: &mut Said, name: &[u8], given: usize) {
 }
 
 fn say_atom_count(said: &mut Said, word: &[u8], given: usize) {
-    let takes = text_of(COUNTS.as_slice(), word, "one argument or more");
+    let takes = text_of(COUNTS.as_slice(), word, "1 argument or more");
     said.say("the atom `%` takes ", &[word]);
     said.say("%, but is given ", &[takes.as_bytes()]);
     said.say_number(given);
@@ -124,19 +126,47 @@ pub(crate) fn say_not_result(said: &mut Said, token: usize) {
     };
     let word = source.word(head.token);
     if !is_upper(word) {
-        let sentence = text_of(
-            RESULTS.as_slice(),
-            word,
-            "this must be a variable with `?`, but `%` is none",
-        );
-        return said.say(sentence, &[text]);
+        let sentence = text_of(RESULTS.as_slice(), word, "this must be a variable with `?`");
+        said.say(sentence, &[]);
+        say_instead(said, text);
+        return say_mark(said, text);
     }
     let definition = definition_of(&source, "process", word).unwrap_or(0);
     let parameter = parameter_of(&source, definition, head.argument).unwrap_or(0);
     said.say(
-        "the result parameter `%` of `%` needs a variable with `?`, but `%` is none",
-        &[source.word(parameter), word, text],
+        "the result parameter `%` of `%` needs a variable with `?`",
+        &[source.word(parameter), word],
     );
+    say_instead(said, text);
+    if is_started(&source, head.token) {
+        return said.help(
+            "neither `toolbus(..)` nor `create` can start a process with a result parameter",
+            &[],
+        );
+    }
+    say_mark(said, text);
+}
+
+/// Says what is in the place of a variable with `?`.
+fn say_instead(said: &mut Said, text: &[u8]) {
+    match text {
+        [b'A'..=b'Z', ..] => said.say(", but `%` has no `?`", &[text]),
+        [b'<', ..] => said.say(", but a placeholder stands here", &[]),
+        [b'[', ..] => said.say(", but a list stands here", &[]),
+        _ => said.say(", but `%` is no variable", &[text]),
+    }
+}
+
+/// Says how a variable is written that takes a value.
+fn say_mark(said: &mut Said, text: &[u8]) {
+    if is_upper(text) {
+        said.help("write `%?`", &[text]);
+    }
+}
+
+/// Whether the process that is named at this token is a root, or the process of a `create`.
+fn is_started(source: &Source, token: usize) -> bool {
+    scope_of(source, token).is_none() || source.has_before(token, 2, "create")
 }
 
 /// Says that a variable with `?` or a placeholder is where nothing is taken or matched.
@@ -157,6 +187,7 @@ pub(crate) fn say_misplaced(said: &mut Said, token: usize) {
         "`%?` takes a value, and no value can be taken here",
         &[text],
     );
+    said.help("to use the value of `%`, write `%`", &[text, text]);
     said.help(
         "`%?` may stand in the arguments of `rec-msg`, `rec-note`, `rec-value` and `rec-event`",
         &[text],

@@ -1,5 +1,6 @@
 //! The sentence about bytes that have no tokens.
 
+use crate::reals::say_real;
 use crate::said::Said;
 use crate::source::between;
 use tb_lex::{LexFault, lex};
@@ -57,11 +58,7 @@ pub(crate) fn say_lex(said: &mut Said, fault: LexFault) {
         }
         LexFault::Real(at) => {
             let number = numeral(between(text, at, text.len()));
-            said.say("the number `%` has a decimal point", &[number]);
-            said.help(
-                "scripts have whole numbers only; 15 tenths of a second are `msec(1500)`",
-                &[],
-            );
+            say_real(said, number, between(text, 0, at));
         }
         LexFault::IntRange(at) => {
             let number = numeral(between(text, at, text.len()));

@@ -1,7 +1,7 @@
 //! The sentences about calls that have no end, and about too much of something.
 
 use crate::said::Said;
-use itoa::Buffer;
+use crate::scan::{count_parameters, definition_of};
 use sqlite_items::at;
 use tb_expand::ExpandFault;
 use tb_lex::Tokens;
@@ -28,7 +28,31 @@ fn say_recursion(said: &mut Said, tokens: &Tokens, names: &[Ident]) {
         Ok(script) => say_calls(said, &script, names),
         Err(_) => said.lacks = true,
     }
-    said.help("repeat with `*`, or start a process with `create`", &[]);
+    say_repeat(said);
+    say_start(said, name_behind(names, 0));
+}
+
+/// Says how a process repeats.
+fn say_repeat(said: &mut Said) {
+    said.help(
+        "to repeat, write `x * y`: x any number of times, and then y",
+        &[],
+    );
+}
+
+/// Says how the process of this name is started.
+fn say_start(said: &mut Said, name: &[u8]) {
+    let source = said.source;
+    let definition = definition_of(&source, "process", name).unwrap_or(0);
+    let arguments: &[u8] = if count_parameters(&source, definition) > 0 {
+        b"(..)"
+    } else {
+        b""
+    };
+    said.help(
+        "or start a process: `let N : int in create(%%, N?) endlet`",
+        &[name, arguments],
+    );
 }
 
 /// Adds a note for each call of a cycle.
@@ -61,25 +85,28 @@ fn say_large(said: &mut Said, name: &[u8]) {
         "with each call replaced by the body of its process, `%` has more than 20,000 atoms or 1,000 levels",
         &[name],
     );
-    said.help("use `create`, or repeat with `*` instead of copies", &[]);
+    say_repeat(said);
+    said.help(
+        "or start a process in place of a call: `let N : int in create(P, N?) endlet`",
+        &[],
+    );
 }
 
 /// Says that a script starts with too many processes.
 pub(crate) fn say_roots(said: &mut Said, count: usize) {
-    let mut buffer = Buffer::new();
-    said.say(
-        "`toolbus(..)` starts % processes, and this one is number 10,001",
-        &[buffer.format(count).as_bytes()],
+    said.say("`toolbus(..)` starts ", &[]);
+    said.say_grouped(count);
+    said.say(" processes, and 10,000 are the most", &[]);
+    said.help(
+        "start the others in a process: `let N : int in create(P, N?) endlet`",
+        &[],
     );
-    said.help("start processes with `create`", &[]);
 }
 
 /// Says that a file has too many bytes.
 pub(crate) fn say_long(said: &mut Said, count: usize) {
-    let mut buffer = Buffer::new();
-    said.say(
-        "the file has % bytes, and 1,048,576 are the most",
-        &[buffer.format(count).as_bytes()],
-    );
+    said.say("the file has ", &[]);
+    said.say_grouped(count);
+    said.say(" bytes, and 1,048,576 are the most", &[]);
     said.help("comments and whitespace count too", &[]);
 }

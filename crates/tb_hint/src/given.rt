@@ -2,8 +2,8 @@
 
 use crate::arguments::signature_of;
 use crate::said::Said;
-use crate::scan::{declaration_of, scope_of, type_of};
-use crate::wanted::shape_text;
+use crate::scan::declaration_of;
+use crate::wanted::{say_type, shape_text};
 
 /// Says what begins at this token, and of which type it is.
 pub(crate) fn say_given(said: &mut Said, token: usize) {
@@ -29,8 +29,8 @@ fn say_variable(said: &mut Said, token: usize, name: &[u8]) {
     match declaration_of(&source, token, name) {
         None => said.say("`%%` isn't declared", &[name, mark]),
         Some(declared) => {
-            let sort = type_of(&source, declared);
-            said.say("`%%` has the type %", &[name, mark, sort]);
+            said.say("`%%` has the type ", &[name, mark]);
+            say_type(said, declared);
         }
     }
 }
@@ -38,7 +38,7 @@ fn say_variable(said: &mut Said, token: usize, name: &[u8]) {
 fn say_name(said: &mut Said, token: usize, name: &[u8]) {
     let source = said.source;
     if source.is(token.saturating_add(1), "(") {
-        return say_application(said, token, name);
+        return say_application(said, name);
     }
     if source.is(token, "true") || source.is(token, "false") {
         return said.say("`%` is a bool", &[name]);
@@ -46,15 +46,10 @@ fn say_name(said: &mut Said, token: usize, name: &[u8]) {
     said.say("`%` is a plain term", &[name]);
 }
 
-/// The argument of a root must have a value, so that is said first there.
-fn say_application(said: &mut Said, token: usize, name: &[u8]) {
-    let source = said.source;
+fn say_application(said: &mut Said, name: &[u8]) {
     let Some(signature) = signature_of(said, name) else {
         return said.say("`%(..)` is a plain term", &[name]);
     };
-    if scope_of(&source, token).is_none() {
-        return said.say("`%(..)` has no value of this type", &[name]);
-    }
     said.say("the function `%` gives the type ", &[name]);
     said.say("%", &[shape_text(signature.result)]);
 }

@@ -1,21 +1,68 @@
 //! The line of a script, and a mark beneath it.
 
+use crate::source::between;
 use tb_place::Mark;
 use tb_terms::NoMemory;
 use unicode_width::{UnicodeWidthChar, UnicodeWidthStr};
 
-/// Adds the line of these bytes, and a mark beneath them, each behind a newline.
+/// How many bytes of a line are shown before its place, at most, and how many from there on.
+const MOST_SHOWN: usize = 100;
+
+/// Adds the line of these bytes, and a mark beneath them, each behind a newline. In place of what is too far
+/// from them, there is `..`.
 pub(crate) fn push_marked(text: &[u8], mark: Mark, into: &mut Vec<u8>) -> Result<(), NoMemory> {
     let from = mark.from.min(text.len());
     let before = last_line(&text[..from]);
     let behind = first_line(&text[from..]);
-    let marked = &behind[..mark.to.saturating_sub(from).min(behind.len())];
+    let left = last_part(before);
+    let right = first_part(behind);
+    let marked = between(right, 0, mark.to.saturating_sub(from));
     into.push(b'\n')?;
-    push_shown(before, into)?;
-    push_shown(behind, into)?;
+    push_times(b'.', cut_of(before, left), into)?;
+    push_shown(left, into)?;
+    push_shown(right, into)?;
+    push_times(b'.', cut_of(behind, right), into)?;
     into.push(b'\n')?;
-    push_blanks(before, into)?;
+    push_times(b' ', cut_of(before, left), into)?;
+    push_blanks(left, into)?;
     push_times(b'^', columns_of(marked).max(1), into)
+}
+
+/// How many points stand for what is left out of a line.
+fn cut_of(line: &[u8], part: &[u8]) -> usize {
+    if part.len() < line.len() { 2 } else { 0 }
+}
+
+/// The last bytes, from the beginning of a character on.
+fn last_part(line: &[u8]) -> &[u8] {
+    let begin = line.len().saturating_sub(MOST_SHOWN);
+    for position in begin..line.len() {
+        if !is_inner(line, position) {
+            return between(line, position, line.len());
+        }
+    }
+    line
+}
+
+/// The first bytes, up to the end of a character.
+fn first_part(line: &[u8]) -> &[u8] {
+    if line.len() <= MOST_SHOWN {
+        return line;
+    }
+    for position in (1..MOST_SHOWN).rev() {
+        if !is_inner(line, position) {
+            return between(line, 0, position);
+        }
+    }
+    line
+}
+
+/// Whether the byte at this position continues a character.
+fn is_inner(line: &[u8], position: usize) -> bool {
+    matches!(
+        between(line, position, position.saturating_add(1)),
+        [128..=191]
+    )
 }
 
 /// The part after the last newline.
@@ -28,17 +75,25 @@ fn last_line(bytes: &[u8]) -> &[u8] {
     bytes
 }
 
-/// The part before the first newline.
+/// The part before the first newline, and before the carriage return at its end.
 fn first_line(bytes: &[u8]) -> &[u8] {
     for (position, byte) in bytes.iter().enumerate() {
         if *byte == b'\n' {
-            return &bytes[..position];
+            return without_return(&bytes[..position]);
         }
     }
     bytes
 }
 
-/// Adds the bytes, with `?` in place of control characters other than tabs.
+fn without_return(line: &[u8]) -> &[u8] {
+    match line {
+        [rest @ .., b'\r'] => rest,
+        _ => line,
+    }
+}
+
+/// Adds the bytes, with a space in place of a carriage return, and `?` in place of other control characters. A tab
+/// stays.
 fn push_shown(bytes: &[u8], into: &mut Vec<u8>) -> Result<(), NoMemory> {
     for byte in bytes {
         into.push(shown(*byte))?;
@@ -49,6 +104,7 @@ fn push_shown(bytes: &[u8], into: &mut Vec<u8>) -> Result<(), NoMemory> {
 fn shown(byte: u8) -> u8 {
     match byte {
         b'\t' => b'\t',
+        b'\r' => b' ',
         0..=31 | 127 => b'?',
         _ => byte,
     }

@@ -12,7 +12,6 @@ use crate::syntax::{say_deep, say_syntax};
 use std::alloc::Global;
 use tb_lex::{LexFault, Tokens, lex};
 use tb_parse::ParseFault;
-use tb_place::mark_at;
 use tb_point::{Point, fault_name, write_place};
 use tb_script::ScriptFault;
 use tb_terms::{Items, NoMemory};
@@ -92,7 +91,7 @@ fn say_fault(said: &mut Said, tokens: &Tokens, fault: &ScriptFault) {
 
 fn say_parse(said: &mut Said, fault: ParseFault) {
     match fault {
-        ParseFault::Syntax(token) => say_syntax(said, mark_at(said.source.tokens, token)),
+        ParseFault::Syntax(token) => say_syntax(said, token),
         ParseFault::TooDeep(token) => say_deep(said, token),
         ParseFault::NoMemory => said.lacks = true,
     }

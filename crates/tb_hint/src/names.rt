@@ -55,7 +55,11 @@ pub(crate) fn say_twice(said: &mut Said, token: usize) {
 
 fn say_again(said: &mut Said, keyword: &str, name: &[u8]) {
     said.say("the % `%` is defined already", &[keyword.as_bytes(), name]);
-    say_definition(said, keyword, name);
+    let source = said.source;
+    if let Some(definition) = definition_of(&source, keyword, name) {
+        let begin = definition.saturating_sub(1);
+        said.note(begin, "`%` is defined here", &[name]);
+    }
 }
 
 /// Adds a note at the definition that has this keyword and this name.
@@ -114,6 +118,9 @@ pub(crate) fn say_no_tool(said: &mut Said, token: usize) {
     let mut near = Near::to(said.alloc, name);
     near.offer_definitions(&source, "tool");
     near.ask(said);
+    if !near.has_found() {
+        said.help("declare it: `tool % is { command = \"..\" }`", &[name]);
+    }
 }
 
 fn say_no_type(said: &mut Said, token: usize) {
@@ -135,6 +142,9 @@ pub(crate) fn say_no_function(said: &mut Said, token: usize) {
     let source = said.source;
     let name = source.word(token);
     said.say("`%` is no function", &[name]);
+    if is_sort_word(name) {
+        return said.help("`%` is a type", &[name]);
+    }
     let mut near = Near::to(said.alloc, name);
     near.offer_words(FUNCTIONS.as_slice());
     near.ask(said);
@@ -145,7 +155,7 @@ pub(crate) fn say_undeclared(said: &mut Said, token: usize) {
     let source = said.source;
     let name = source.word(token);
     said.say(
-        "the variable `%` is no parameter here, and no `let` round it declares it",
+        "the variable `%` is no parameter here, and no `let` around it declares it",
         &[name],
     );
     let mut near = Near::to(said.alloc, name);

@@ -21,13 +21,15 @@ pub(crate) struct Near<'a> {
 }
 
 impl<'a> Near<'a> {
-    /// A name is near that differs in a third of the bytes and one, at most.
+    /// A name is near that differs in a third of the bytes and one, at most, and in less than a half.
     pub(crate) fn to(alloc: Global, name: &'a [u8]) -> Near<'a> {
+        let third = name.len() / 3;
+        let half = name.len() - name.len() / 2;
         Near {
             alloc,
             name,
             best: b"",
-            distance: name.len() / 3 + 2,
+            distance: half.min(third + 2),
             lacks: false,
         }
     }
@@ -48,6 +50,11 @@ impl<'a> Near<'a> {
             self.best = other;
             self.distance = distance;
         }
+    }
+
+    /// Offers this word.
+    pub(crate) fn offer_word(&mut self, word: &'static str) {
+        self.offer(word.as_bytes());
     }
 
     /// Offers each of these words.
@@ -91,12 +98,17 @@ impl<'a> Near<'a> {
         }
     }
 
+    /// Whether a name is near.
+    pub(crate) fn has_found(&self) -> bool {
+        !self.best.is_empty()
+    }
+
     /// Asks whether the nearest name was meant, if there is one.
     pub(crate) fn ask(&self, said: &mut Said) {
         if self.lacks {
             said.lacks = true;
         }
-        if !self.best.is_empty() {
+        if self.has_found() {
             said.help("did you mean `%`?", &[self.best]);
         }
     }

@@ -1,7 +1,7 @@
 //! A message, piece by piece. If memory runs out at one piece, the message lacks it.
 
 use crate::lines::push_marked;
-use crate::source::Source;
+use crate::source::{Source, between};
 use itoa::Buffer;
 use std::alloc::Global;
 use tb_place::mark_at;
@@ -42,6 +42,21 @@ impl<'a> Said<'a> {
     pub(crate) fn say_number(&mut self, number: usize) {
         let mut buffer = Buffer::new();
         self.say("%", &[buffer.format(number).as_bytes()]);
+    }
+
+    /// Adds a number to the sentence, with a comma before each three digits.
+    pub(crate) fn say_grouped(&mut self, number: usize) {
+        let mut buffer = Buffer::new();
+        let digits = buffer.format(number).as_bytes();
+        for position in 0..digits.len() {
+            if position > 0 && digits.len().saturating_sub(position) % 3 == 0 {
+                self.say(",", &[]);
+            }
+            self.say(
+                "%",
+                &[between(digits, position, position.saturating_add(1))],
+            );
+        }
     }
 
     /// Adds how many there are to the sentence.

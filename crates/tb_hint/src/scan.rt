@@ -96,18 +96,13 @@ pub(crate) fn count_parameters(source: &Source, definition: usize) -> usize {
     count
 }
 
-/// The type with which the name at this token is declared, as the script writes it.
-pub(crate) fn type_of<'a>(source: &Source<'a>, declared: usize) -> &'a [u8] {
-    source.words(declared.saturating_add(2), type_end(source, declared))
-}
-
 /// Whether the parameter at this token is a result parameter.
 pub(crate) fn is_result(source: &Source, parameter: usize) -> bool {
     source.is(type_end(source, parameter), "?")
 }
 
 /// The token after the type of the name at this token.
-fn type_end(source: &Source, declared: usize) -> usize {
+pub(crate) fn type_end(source: &Source, declared: usize) -> usize {
     let mut depth: usize = 0;
     for position in declared.saturating_add(2)..source.tokens.len() {
         match source.word(position) {

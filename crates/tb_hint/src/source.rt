@@ -20,14 +20,6 @@ impl<'a> Source<'a> {
         }
     }
 
-    /// The text from one token to before another.
-    pub(crate) fn words(&self, from: usize, to: usize) -> &'a [u8] {
-        match (at(self.tokens, from), at(self.tokens, to.saturating_sub(1))) {
-            (Some(first), Some(last)) => between(self.text, first.from, last.to),
-            _ => b"",
-        }
-    }
-
     /// Whether a token has this text.
     pub(crate) fn is(&self, token: usize, word: &str) -> bool {
         self.word(token) == word.as_bytes()

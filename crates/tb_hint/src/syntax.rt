@@ -1,12 +1,12 @@
 //! The sentence about tokens that spell no script. Which tokens may come next is found by trying the parser.
 
-use crate::near::Near;
+use crate::cures::{cure_end, cure_token};
 use crate::said::Said;
-use crate::source::{between, is_lower, is_upper};
+use crate::source::between;
 use std::alloc::Global;
 use tb_lex::{LexFault, lex};
 use tb_parse::{ParseFault, parse};
-use tb_place::Mark;
+use tb_place::mark_at;
 use tb_terms::{Items, NoMemory};
 
 /// A token of each kind that the grammar tells apart.
@@ -36,31 +36,6 @@ static UNQUOTED: [(&str, &str); 3] = [
     ("delay", "a time such as `delay(1)`"),
 ];
 
-/// The words of atoms.
-static ATOMS: [&str; 21] = [
-    "delta",
-    "tau",
-    "printf",
-    "snd-msg",
-    "rec-msg",
-    "snd-note",
-    "rec-note",
-    "no-note",
-    "subscribe",
-    "unsubscribe",
-    "execute",
-    "rec-connect",
-    "rec-disconnect",
-    "snd-eval",
-    "rec-value",
-    "snd-do",
-    "rec-event",
-    "snd-ack-event",
-    "snd-terminate",
-    "shutdown",
-    "create",
-];
-
 /// How tokens are read.
 #[derive(Clone, Copy, PartialEq, Eq)]
 enum Reading {
@@ -69,15 +44,15 @@ enum Reading {
     Broken,
 }
 
-/// Says what may come at these bytes, and what is there.
-pub(crate) fn say_syntax(said: &mut Said, mark: Mark) {
-    let text = said.source.text;
-    let prefix = between(text, 0, mark.from);
+/// Says what may come at this token, and what is there.
+pub(crate) fn say_syntax(said: &mut Said, token: usize) {
+    let source = said.source;
+    let prefix = between(source.text, 0, mark_at(source.tokens, token).from);
     said.say("expected ", &[]);
     match expected_behind(said.alloc, prefix) {
         Ok(expected) => {
             say_expected(said, expected.as_slice(), prefix);
-            say_found(said, expected.as_slice(), between(text, mark.from, mark.to));
+            say_found(said, expected.as_slice(), token);
         }
         Err(NoMemory) => said.lacks = true,
     }
@@ -137,12 +112,14 @@ fn say_name(said: &mut Said, position: usize, count: usize, name: &str) {
     said.say(template_of(name), &[name.as_bytes()]);
 }
 
-fn say_found<'a>(said: &mut Said<'a>, expected: &[&'static str], found: &'a [u8]) {
+fn say_found(said: &mut Said, expected: &[&'static str], token: usize) {
+    let found = said.source.word(token);
     if found.is_empty() {
-        return said.say(", but the script ends here", &[]);
+        said.say(", but the script ends here", &[]);
+        return cure_end(said, expected);
     }
     said.say(", but found `%`", &[found]);
-    say_help(said, expected, found);
+    cure_token(said, expected, token);
 }
 
 /// The candidates that may come after the tokens of this text.
@@ -177,28 +154,7 @@ fn reading_of(alloc: Global, text: &[u8]) -> Result<Reading, NoMemory> {
     }
 }
 
-/// Says what helps if a word is misspelt, or a letter is of the other case.
-fn say_help<'a>(said: &mut Said<'a>, expected: &[&'static str], found: &'a [u8]) {
-    if begins_process(expected) && is_lower(found) {
-        let mut near = Near::to(said.alloc, found);
-        near.offer_words(ATOMS.as_slice());
-        return near.ask(said);
-    }
-    if has(expected, "X") && !has(expected, "x") && is_lower(found) {
-        return said.help(
-            "the names of processes and variables begin with an upper-case letter",
-            &[],
-        );
-    }
-    if has(expected, "x") && !has(expected, "X") && is_upper(found) {
-        said.help(
-            "the names of types and tools begin with a lower-case letter",
-            &[],
-        );
-    }
-}
-
-fn has(words: &[&'static str], word: &str) -> bool {
+pub(crate) fn has(words: &[&'static str], word: &str) -> bool {
     for each in words {
         if each.as_bytes() == word.as_bytes() {
             return true;
@@ -208,7 +164,7 @@ fn has(words: &[&'static str], word: &str) -> bool {
 }
 
 /// Whether a process may begin here. Words that begin one begin an expression too.
-fn begins_process(expected: &[&'static str]) -> bool {
+pub(crate) fn begins_process(expected: &[&'static str]) -> bool {
     has(expected, "tau") && !has(expected, "x")
 }
 
@@ -283,11 +239,15 @@ fn template_of(name: &str) -> &'static str {
 /// Says that the brackets or the body at this token are too deep.
 pub(crate) fn say_deep(said: &mut Said, token: usize) {
     if said.source.is(token, "process") {
-        said.say("the body of this process is higher than 400", &[]);
+        said.say("the body of this process has more than 400 levels", &[]);
+        said.help(
+            "a step has one level; each `.`, `+`, `||`, `>>`, `*`, `let` and `if` has one more than its deepest part",
+            &[],
+        );
         return said.help("split it into several processes", &[]);
     }
     said.say(
-        "more than 128 of `(`, `[`, `let` and `if` are open behind this one",
+        "128 of `(`, `[`, `let` and `if` are open before this one, and no more can be",
         &[],
     );
     said.help("move an inner part to a process of its own", &[]);

@@ -2,7 +2,9 @@
 
 use crate::arguments::signature_of;
 use crate::said::Said;
-use crate::scan::{Head, declaration_of, definition_of, head_of, is_result, parameter_of, type_of};
+use crate::scan::{
+    Head, declaration_of, definition_of, head_of, is_result, parameter_of, type_end,
+};
 use crate::source::is_upper;
 use tb_func::Shape;
 
@@ -63,7 +65,16 @@ fn say_assigned(said: &mut Said, token: usize) {
     let source = said.source;
     let name = source.word(token);
     let declared = declaration_of(&source, token, name).unwrap_or(0);
-    said.say("`%` has the type %", &[name, type_of(&source, declared)]);
+    said.say("`%` has the type ", &[name]);
+    say_type(said, declared);
+}
+
+/// Adds the type with which the name at this token is declared.
+pub(crate) fn say_type(said: &mut Said, declared: usize) {
+    let source = said.source;
+    for token in declared.saturating_add(2)..type_end(&source, declared) {
+        said.say("%", &[source.word(token)]);
+    }
 }
 
 fn say_argument(said: &mut Said, head: Head) {
@@ -85,15 +96,16 @@ fn say_parameter(said: &mut Said, process: &[u8], number: usize) {
     let source = said.source;
     let definition = definition_of(&source, "process", process).unwrap_or(0);
     let parameter = parameter_of(&source, definition, number).unwrap_or(0);
-    let parts = [source.word(parameter), process, type_of(&source, parameter)];
+    let parts = [source.word(parameter), process];
     if is_result(&source, parameter) {
         said.say(
-            "the result parameter `%` of `%` needs a variable of just the type %",
+            "the result parameter `%` of `%` needs a variable of just the type ",
             &parts,
         );
     } else {
-        said.say("the parameter `%` of `%` has the type %", &parts);
+        said.say("the parameter `%` of `%` has the type ", &parts);
     }
+    say_type(said, parameter);
 }
 
 fn say_function_argument(said: &mut Said, word: &[u8], argument: usize) {
