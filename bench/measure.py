@@ -7,7 +7,7 @@ import time
 TOP = os.path.dirname(os.path.dirname(os.path.abspath(__file__)))
 BUILT = os.path.join(TOP, "crates", "toolbus", "out", "toolbus")
 RUNS = 3
-ENDED = 0
+ENDED, LIMIT = 0, 4
 
 
 def built(words):
