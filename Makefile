@@ -1,6 +1,6 @@
 # The commands for developers. hello, quick, build, and test need rt of the Rattle kit. The others need the built program. All but hello,
 # build, test, and install need Python 3. bench and faults also need a C compiler. quick, faults, hostile, and soak need Linux.
-.PHONY: hello quick build test install uninstall pages order examples kits at lens installed bench walkers faults hostile soak
+.PHONY: hello quick build test test-tools install uninstall pages order examples kits at lens installed bench walkers faults hostile soak
 
 SCRIPT := $(CURDIR)/examples/hello.tb
 PROGRAM := $(CURDIR)/crates/toolbus/out/toolbus
@@ -60,6 +60,9 @@ uninstall:
 	rm -f "$(SHARE)/vim/vimfiles/ftdetect/toolbus.vim" "$(SHARE)/vim/vimfiles/syntax/toolbus.vim"
 	rm -rf "$(SHARE)/toolbus" "$(SHARE)/doc/toolbus"
 
+# Runs the tests with real tools, and those of the pages: all that the gate leaves out and that takes no more than some minutes.
+test-tools: order pages installed at lens examples kits
+
 # Compares what README.md, docs/RULES.md, and man/ show with what the built program does. Some seconds. This and all targets below aren't
 # part of the gate.
 pages:
@@ -77,7 +80,8 @@ order:
 examples:
 	examples/run "$(PROGRAM)"
 
-# Runs the tests of the kits for tools. One or two minutes. Tests whose compiler or shell is missing are left out, each with a line.
+# Runs the tests of the kits for tools. One to three minutes. Tests whose compiler, shell, or broker is missing are left out, each with a
+# line.
 kits:
 	kits/test "$(PROGRAM)"
 
@@ -85,15 +89,16 @@ kits:
 at:
 	tests/at "$(LENS)" "$(PROGRAM)"
 
-# Runs toolbus_lens chart, and uses its page in Chromium, if that is installed. Half a minute.
+# Runs toolbus_lens chart, and uses its pages in Chromium, if that is installed. Half a minute.
 lens:
 	tests/lens "$(LENS)"
 
-# Measures the time of the built program, on scripts and with live tools.
+# Measures the time of the built program, on scripts and with live tools, and beside other systems. Draws the latter: bench/peers.svg.
 bench:
 	bench/run
 	bench/live
 	bench/pipe
+	bench/peers --rows bench/peers.tsv --svg bench/peers.svg
 
 # Simulates 200 random scripts, and compares their logs with those of a small model of the rules. It needs the built crates/scenarios.
 # Then the built program verifies random logs of these scripts.

@@ -11,14 +11,26 @@ import time
 
 KITS = os.path.dirname(os.path.dirname(os.path.abspath(__file__)))
 PYTHONS = ["python3", "/usr/bin/python3"]
-SECONDS = 120
+# On a machine with much other work, the many terms take minutes.
+SECONDS = 600
 MANY = 10_000
+AWAY = "mqtt.py: the broker is away: trying again\n"
+LOST = "mqtt.py: the broker has lost the session: messages can be lost or come twice\n"
 REFUSED = """tool mqtt is { command = "PYTHON mqtt.py --port PORT --id refused" }
 process P is
   let M : mqtt, V : term in
     execute(mqtt, M?) . rec-event(M, ready) .
     snd-eval(M, publish("a/#", 1)) . rec-value(M, V?) . printf("%t\\n", V) .
     snd-eval(M, publish(a, 1)) . rec-value(M, V?) . printf("%t\\n", V) . snd-terminate(M, done)
+  endlet
+toolbus(P)
+"""
+SHOW = """tool mqtt is { command = "/usr/bin/python3 mqtt.py --id shows --subscribe numbers" }
+process P is
+  let M : mqtt, X : int in
+    execute(mqtt, M?) . rec-event(M, ready) . printf("ready\\n") .
+    ( rec-event(M, message("numbers", X?)) . snd-ack-event(M, message("numbers", X)) . printf("%d\\n", X) )
+    * ( rec-event(M, message("numbers", end)) . snd-terminate(M, done) )
   endlet
 toolbus(P)
 """
@@ -77,7 +89,10 @@ class Broker:
 
     def stop(self):
         """Ends the broker, as a system does: it saves the sessions first."""
-        self.running.send_signal(signal.SIGTERM)
+        self.end_by(signal.SIGTERM)
+
+    def end_by(self, number):
+        self.running.send_signal(number)
         self.running.wait()
 
 
@@ -107,13 +122,24 @@ class Bus:
 
     def ends(self):
         """Waits for the end, and returns the status."""
-        return self.running.wait(SECONDS)
+        try:
+            return self.running.wait(SECONDS)
+        except subprocess.TimeoutExpired:
+            self.running.kill()
+            raise
 
 
 def script(name, python, port):
     with open(os.path.join(KITS, "bridge", name), encoding="utf-8") as it:
-        text = it.read()
+        return at_port(it.read(), python, port)
+
+
+def at_port(text, python, port):
     return text.replace("/usr/bin/python3 mqtt.py", f"{python} mqtt.py --port {port}")
+
+
+def publish(python, port, payloads):
+    subprocess.run([python, "-c", PUBLISH, str(port), *payloads], check=True)
 
 
 def many_terms(count, program, folder, python, broker):
@@ -132,8 +158,21 @@ def many_terms(count, program, folder, python, broker):
     count.check("mqtt.py: both buses end", (0, 0), (sender.ends(), receiver.ends()))
     count.check("mqtt.py: each term comes once and in order", ["ready", f"{MANY} numbers"], receiver.printed())
     count.check("mqtt.py: terms sent", MANY + 1, sender.count("rec-value"))
-    away = "mqtt.py: the broker is away: trying again\n"
-    count.check("mqtt.py: what it reports", (away, away), (sender.text("errors"), receiver.text("errors")))
+    count.check("mqtt.py: what it reports", (AWAY, AWAY), (sender.text("errors"), receiver.text("errors")))
+
+
+def lost_session(count, program, folder, python, broker):
+    """A broker that is killed has saved nothing. The tool reports this, and receives what comes afterwards."""
+    bus = Bus(program, folder, "lost", at_port(SHOW, python, broker.port))
+    until(lambda: bus.printed())
+    broker.end_by(signal.SIGKILL)
+    broker.start()
+    until(lambda: LOST in bus.text("errors"))
+    # The tool subscribes again: until then, the new broker keeps nothing for it.
+    until(lambda: publish(python, broker.port, ["7"]) or len(bus.printed()) > 1)
+    publish(python, broker.port, ["end"])
+    count.check("mqtt.py: a lost session, status", 0, bus.ends())
+    count.check("mqtt.py: a lost session", ({"ready", "7"}, AWAY + LOST), (set(bus.printed()), bus.text("errors")))
 
 
 def bad_messages(count, program, folder, python, broker):
@@ -141,7 +180,7 @@ def bad_messages(count, program, folder, python, broker):
     receiver = Bus(program, folder, "bad", script("receive.tb", python, broker.port))
     until(lambda: receiver.printed())
     payloads = ["1", *BAD, " 2 ", "end"]
-    subprocess.run([python, "-c", PUBLISH, str(broker.port), *payloads], check=True)
+    publish(python, broker.port, payloads)
     count.check("mqtt.py: bad messages, status", 0, receiver.ends())
     count.check("mqtt.py: bad messages are dropped", ["ready", "2 numbers"], receiver.printed())
     reports = receiver.text("errors").splitlines()
@@ -157,9 +196,9 @@ def refusals(count, program, folder, python, broker):
 
 
 def bridge_tests(count, program, folder):
-    broker = Broker(os.path.join(folder, "broker"))
-    try:
-        for test in (many_terms, bad_messages, refusals):
+    for number, test in enumerate((many_terms, lost_session, bad_messages, refusals)):
+        broker = Broker(os.path.join(folder, f"broker-{number}"))
+        try:
             test(count, program, folder, python_with_paho(), broker)
-    finally:
-        broker.stop()
+        finally:
+            broker.stop()
