@@ -1,2 +1,7 @@
+pub mod LineLemmas
+pub mod ListLemmas
 pub mod NameLemmas
+pub mod PlaceLemmas
 pub mod RowLemmas
+pub mod SceneLemmas
+pub mod ToolLemmas

@@ -1,5 +1,5 @@
 -- Lemmas on the names of tools at the ends of rows.
-use Rattle.std.proofs.Common.{◌≡◌, ◌++◌, ◌∷◌, [], ℕ, List, Bool, true, Option, All, IsTrue, sym, subst}
+use Rattle.std.proofs.Common.{◌≡◌, ◌++◌, ◌∷◌, [], ℕ, List, true, Option, All, sym, subst}
 use Rattle.std.proofs.lemmas.List.Elements.{All-push}
 use Rattle.tb_log.specs.declared.entry.Entry.{Entry}
 use Rattle.tb_chart.specs.declared.figure.End.{End}

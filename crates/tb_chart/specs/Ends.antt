@@ -1,5 +1,5 @@
 -- Who is at the ends of what a chart shows of an entry.
-use Rattle.std.specs.Prelude.{ℕ, ◌==◌, ◌&&◌, Bool, true, false, Option, Some, None}
+use Rattle.std.specs.Prelude.{◌==◌, ◌&&◌, Bool, true, false, Option, Some, None}
 use Rattle.tb_log.specs.declared.entry.Entry.{Entry}
 use Rattle.tb_chart.specs.declared.figure.End.{End}
 use Rattle.tb_chart.specs.declared.figure.End.TheVariants.{Process, Child, Tool, Lane, Notes}

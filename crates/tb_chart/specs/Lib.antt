@@ -1,5 +1,9 @@
 pub mod Ends
 pub mod Figures
+pub mod Helpers
+pub mod Lifelines
 pub mod Named
+pub mod Numbers
+pub mod Players
 pub mod Rows
 pub mod Terms

@@ -1,5 +1,9 @@
 //! The definitions of a script whose processes and tools take part in a log.
 
+ghost use Rattle.std.specs.Prelude.{◌≡◌, slice_get, option_copied, option_and_then};
+ghost use Rattle.tb_chart.specs.Numbers.{index_of, numbered};
+
+use sqlite_items::at;
 use tb_terms::{Ident, Name};
 
 /// An atom of a process.
@@ -28,12 +32,32 @@ pub struct Cast {
     pub tools: Vec<Name>,
 }
 
+impl Role {
+    ghost use Rattle.std.specs.Prelude.{◌≡◌};
+    ghost use Rattle.tb_chart.specs.Players.{created_in};
+
+    fn created(&self, atom: u32) -> Option<u32>
+        ensures { result ≡ created_in self.now atom }
+    {
+        match numbered(self.sites.as_slice(), u64::from(atom)) {
+            Some(site) => site.creates,
+            None => None,
+        }
+    }
+}
+
 impl Cast {
+    ghost use Rattle.std.specs.Prelude.{◌≡◌};
+    ghost use Rattle.tb_chart.specs.Players.{created};
+
     /// Returns which definition an atom creates a process of, if it creates one. Atoms are numbered from 1.
-    pub fn created(&self, body: u32, atom: u32) -> Option<u32> {
-        let role = self.roles.get(body as usize)?;
-        let site = role.sites.get(index_of(u64::from(atom))?)?;
-        site.creates
+    pub fn created(&self, body: u32, atom: u32) -> Option<u32>
+        ensures { result ≡ created self.now body atom }
+    {
+        match at(self.roles.as_slice(), body as usize) {
+            Some(role) => role.created(atom),
+            None => None,
+        }
     }
 
     /// Returns the position of the tool that is declared with this name.
@@ -66,9 +90,21 @@ impl Cast {
 }
 
 /// Returns the index of what has this number, counted from 1. Nothing has the number 0.
-pub(crate) fn index_of(number: u64) -> Option<usize> {
+pub(crate) fn index_of(number: u64) -> Option<usize>
+    ensures { result ≡ index_of number }
+{
     match number.checked_sub(1) {
         Some(index) => Some(index as usize),
+        None => None,
+    }
+}
+
+/// Returns what has this number in a slice, counted from 1.
+pub(crate) fn numbered<T>(items: &[T], number: u64) -> Option<&T>
+    ensures { option_copied result ≡ numbered items.now number }
+{
+    match index_of(number) {
+        Some(index) => at(items, index),
         None => None,
     }
 }

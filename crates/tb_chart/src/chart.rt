@@ -1,7 +1,9 @@
 //! The chart of a log: lifelines, and a row for each entry that it shows.
 ghost use Rattle.std.specs.Prelude.{◌≡◌, ◌++◌, ◌∷◌, [], All, IfOk, IsTrue, OnOk, map};
+ghost use Rattle.tb_chart.specs.Helpers.Additions.{GoesOn, Stay, are_players};
 ghost use Rattle.tb_chart.specs.Ends.{ends_of, fits};
 ghost use Rattle.tb_chart.specs.Figures.{figure};
+ghost use Rattle.tb_chart.specs.Lifelines.{HasLines, have_lines};
 ghost use Rattle.tb_chart.specs.Named.{NamesTools};
 ghost use Rattle.tb_chart.specs.Rows.{is_seen, is_shown, row, seen_row, rows_from, rows_of};
 
@@ -41,9 +43,10 @@ pub fn chart_of<'a>(
     entries: &'a [Entry],
     span: Span,
 ) -> Result<Chart<'a>, ChartFault>
-    ensures rows { IfOk result
-        (λ chart. map seen_row chart.rows.items ≡ rows_from span.from span.to 1 entries.now) }
+    ensures rows { IfOk result (λ chart. map seen_row chart.rows.items
+        ≡ rows_from cast.now span cast.now.roots.items 1 entries.now) }
     ensures named { IfOk result (λ chart. All (NamesTools cast.now.tools.items) chart.rows.items) }
+    ensures lines { IfOk result (λ chart. All (HasLines chart.lines) chart.rows.items) }
 {
     let mut scene = Scene::new(alloc, cast, commands)?;
     let mut lines = root_lines(alloc, &scene, span.all)?;
@@ -77,10 +80,13 @@ fn add_entry<'a>(
     entry: &'a Entry,
     span: Span,
 ) -> Result<(), ChartFault>
+    ensures goes_on { OnOk result (GoesOn entry.now scene.old scene.new) }
     ensures rows { OnOk result (map seen_row rows.new.items
-        ≡ map seen_row rows.old.items ++ rows_of span.from span.to number entry.now) }
+        ≡ map seen_row rows.old.items ++ rows_of span scene.new.players.items number entry.now) }
     ensures named { OnOk result (All (NamesTools cast.now.tools.items) rows.old.items
         → All (NamesTools cast.now.tools.items) rows.new.items) }
+    ensures lines { OnOk result (All (HasLines lines.old) rows.old.items
+        → All (HasLines lines.new) rows.new.items) }
 {
     if !scene.follow(entry)? {
         return Err(ChartFault::Line(number));
@@ -118,9 +124,11 @@ fn add_row<'a>(
     entry: &'a Entry,
 ) -> Result<(), ChartFault>
     ensures rows { OnOk result (map seen_row rows.new.items
-        ≡ map seen_row rows.old.items ++ row number entry.now ∷ []) }
+        ≡ map seen_row rows.old.items ++ row scene.now.players.items number entry.now ∷ []) }
     ensures named { OnOk result (All (NamesTools cast.now.tools.items) rows.old.items
         → All (NamesTools cast.now.tools.items) rows.new.items) }
+    ensures lines { OnOk result (All (HasLines lines.old) rows.old.items
+        → All (HasLines lines.new) rows.new.items) }
 {
     let wanted = ends_of(figure_of(entry));
     let Some(ends) = scene.ends(wanted, entry) else {
@@ -137,7 +145,7 @@ fn add_row<'a>(
 /// The row of an entry with these ends.
 fn row_of<'a>(scene: &Scene, number: u64, entry: &'a Entry, ends: Option<(Who, Who)>) -> Row<'a>
     requires { IsTrue (fits entry.now (ends_of (figure entry.now)) ends) }
-    ensures row { seen_row result ≡ row number entry.now }
+    ensures row { seen_row result ≡ row scene.now.players.items number entry.now }
     ensures entry { result.entry.now ≡ entry.now }
     ensures ends { result.ends ≡ ends }
 {
@@ -149,11 +157,17 @@ fn row_of<'a>(scene: &Scene, number: u64, entry: &'a Entry, ends: Option<(Who, W
     }
 }
 
-fn add_lines(lines: &mut Lines, scene: &Scene, ends: Option<(Who, Who)>) -> Result<(), NoMemory> {
+#[tactic(auto, using(crate::proofs::LineLemmas::adds_both, crate::proofs::LineLemmas::stay_through))]
+fn add_lines(lines: &mut Lines, scene: &Scene, ends: Option<(Who, Who)>) -> Result<(), NoMemory>
+    ensures there { OnOk result (IsTrue (are_players scene.now.players.items ends)
+        → IsTrue (have_lines lines.new ends)) }
+    ensures stay { OnOk result (Stay lines.old lines.new) }
+{
     match ends {
         Some((from, to)) => {
             lines.add(from, scene)?;
-            lines.add(to, scene)
+            lines.add(to, scene)?;
+            Ok(())
         }
         None => Ok(()),
     }

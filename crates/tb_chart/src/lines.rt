@@ -1,8 +1,14 @@
 //! The lifelines of a chart.
+ghost use Rattle.std.specs.Prelude.{◌≡◌, ◌+◌, ◌≤◌, length, slice_get, option_copied, IfSome, IsTrue, OnOk};
+ghost use Rattle.std.specs.List.{list_any};
+ghost use Rattle.tb_chart.specs.Helpers.Additions.{Adds, AddsTool, Puts, SamePlaces, is_seat, is_seat_in};
+ghost use Rattle.tb_chart.specs.Lifelines.{columns, has_line, has_process, is_line_of, is_process, is_tool, is_tool_in, notes_count, place_of, spot_at, spot_behind};
+ghost use Rattle.tb_chart.specs.Numbers.{numbered};
 
-use crate::cast::index_of;
+use crate::cast::{index_of, numbered};
 use crate::row::{Seat, Who};
 use crate::scene::Scene;
+use sqlite_items::at;
 use std::alloc::Global;
 use tb_terms::NoMemory;
 
@@ -43,12 +49,17 @@ impl Lines {
     }
 
     /// Returns the number of lifelines.
-    pub fn columns(&self) -> usize {
+    pub fn columns(&self) -> usize
+        ensures { result ≡ columns self.now }
+    {
         self.first_tool().saturating_add(self.tools.len())
     }
 
     /// Returns the column of a lifeline: first the processes, then the notes, then the tools.
-    pub fn column(&self, who: Who) -> usize {
+    pub fn column(&self, who: Who) -> usize
+        ensures { IsTrue (has_line self.now who)
+            → IsTrue (is_line_of self.now who (spot_at self.now result)) }
+    {
         match who {
             Who::Process(number) => self.process_place(number).unwrap_or(0),
             Who::Notes => self.processes.len(),
@@ -59,27 +70,48 @@ impl Lines {
     }
 
     /// Returns the lifeline of a column.
-    pub fn spot_at(&self, column: usize) -> Spot {
+    pub fn spot_at(&self, column: usize) -> Spot
+        ensures { result ≡ spot_at self.now column }
+    {
         match column.checked_sub(self.processes.len()) {
             None => Spot::Process(column),
-            Some(0) if self.has_notes => Spot::Notes,
-            Some(behind) => Spot::Tool(behind.saturating_sub(usize::from(self.has_notes))),
+            Some(behind) => spot_behind(self.has_notes, behind),
         }
     }
 
-    fn first_tool(&self) -> usize {
+    fn first_tool(&self) -> usize
+        ensures { result ≡ length self.now.processes.items + notes_count self.now }
+    {
         self.processes
             .len()
             .saturating_add(usize::from(self.has_notes))
     }
 
-    fn process_place(&self, number: u32) -> Option<usize> {
-        let place = self.places.get(index_of(u64::from(number))?)?;
-        *place
+    fn process_place(&self, number: u32) -> Option<usize>
+        ensures { result ≡ place_of self.now.places.items number }
+    {
+        match numbered(self.places.as_slice(), u64::from(number)) {
+            Some(place) => *place,
+            None => None,
+        }
+    }
+
+    /// Whether the process with this number has a lifeline.
+    fn has_process(&self, number: u32) -> bool
+        ensures { result
+            ≡ has_process self.now.processes.items self.now.places.items number }
+    {
+        match self.process_place(number) {
+            Some(place) => is_process(number, at(self.processes.as_slice(), place)),
+            None => false,
+        }
     }
 
     /// Adds the lifeline of this one, if it isn't there.
-    pub(crate) fn add(&mut self, who: Who, scene: &Scene) -> Result<(), NoMemory> {
+    #[tactic(auto, using(crate::proofs::LineLemmas::added_tool, crate::proofs::LineLemmas::adds_tool, crate::proofs::LineLemmas::adds_notes))]
+    pub(crate) fn add(&mut self, who: Who, scene: &Scene) -> Result<(), NoMemory>
+        ensures { OnOk result (Adds scene.now.players.items who self.old self.new) }
+    {
         match who {
             Who::Process(number) => self.add_process(number, scene),
             Who::Tool(seat) => add_tool(&mut self.tools, seat),
@@ -90,8 +122,12 @@ impl Lines {
         }
     }
 
-    pub(crate) fn add_process(&mut self, number: u32, scene: &Scene) -> Result<(), NoMemory> {
-        if self.process_place(number).is_some() {
+    #[tactic(auto, using(crate::proofs::LineLemmas::adds_same, crate::proofs::LineLemmas::adds_nobody))]
+    pub(crate) fn add_process(&mut self, number: u32, scene: &Scene) -> Result<(), NoMemory>
+        ensures { OnOk result
+            (Adds scene.now.players.items (Who.Process number) self.old self.new) }
+    {
+        if self.has_process(number) {
             return Ok(());
         }
         match scene.body_of(number) {
@@ -105,21 +141,63 @@ impl Lines {
     }
 }
 
-/// Sets where the lifeline of a process is.
-fn put_place(places: &mut Vec<Option<usize>>, number: u32, line: usize) -> Result<(), NoMemory> {
-    for _ in places.len()..number as usize {
-        places.push(None)?;
+/// The lifeline behind those of the processes.
+fn spot_behind(has_notes: bool, column: usize) -> Spot
+    ensures { result ≡ spot_behind has_notes column }
+{
+    match column.checked_sub(usize::from(has_notes)) {
+        Some(index) => Spot::Tool(index),
+        None => Spot::Notes,
     }
-    if let Some(index) = index_of(u64::from(number)) {
-        if let Some(place) = places.get_mut(index) {
-            *place = Some(line);
-        }
+}
+
+/// Whether the lifeline is that of the process with this number.
+fn is_process(number: u32, line: Option<&ProcessLine>) -> bool
+    ensures { result ≡ is_process number (option_copied line.entry) }
+{
+    match line {
+        Some(line) => line.number == number,
+        None => false,
+    }
+}
+
+/// Sets where the lifeline of a process is.
+#[tactic(auto, using(crate::proofs::PlaceLemmas::puts_after))]
+fn put_place(places: &mut Vec<Option<usize>>, number: u32, line: usize) -> Result<(), NoMemory>
+    ensures { OnOk result (Puts number line places.old.items places.new.items) }
+{
+    fill_places(places, number)?;
+    set_place(places.as_mut_slice(), number, line);
+    Ok(())
+}
+
+/// Makes room for the place of a process.
+#[tactic(auto, using(crate::proofs::PlaceLemmas::place_push))]
+fn fill_places(places: &mut Vec<Option<usize>>, number: u32) -> Result<(), NoMemory>
+    ensures same { OnOk result (SamePlaces places.old.items places.new.items) }
+    ensures long { OnOk result (number ≤ length places.new.items) }
+{
+    while places.len() < number as usize {
+        places.push(None)?;
     }
     Ok(())
 }
 
+/// Sets a place that there is room for. Nothing has the number 0.
+fn set_place(places: &mut [Option<usize>], number: u32, line: usize)
+    requires { number ≤ length places.old }
+    ensures { Puts number line places.old places.new }
+{
+    match index_of(u64::from(number)) {
+        Some(index) => places[index] = Some(line),
+        None => {}
+    }
+}
+
 /// Adds the lifeline of a tool. A program that had no name yet keeps its lifeline.
-fn add_tool(tools: &mut Vec<Seat>, seat: Seat) -> Result<(), NoMemory> {
+fn add_tool(tools: &mut Vec<Seat>, seat: Seat) -> Result<(), NoMemory>
+    ensures { OnOk result (AddsTool seat tools.old.items tools.new.items) }
+{
     if find_seat(tools.as_slice(), seat).is_some() {
         return Ok(());
     }
@@ -141,30 +219,41 @@ fn add_tool(tools: &mut Vec<Seat>, seat: Seat) -> Result<(), NoMemory> {
     }
 }
 
-/// Where the lifeline of a tool is. What a program did before it had a name is on the first lifeline of its lane.
-fn tool_place(tools: &[Seat], seat: Seat) -> usize {
-    match find_seat(tools, seat) {
-        Some(place) => place,
-        None => find_lane(tools, seat.lane),
+/// Where the lifeline of a tool is, or 0. A program that has no name yet is on the first lifeline of its lane.
+fn tool_place(tools: &[Seat], seat: Seat) -> usize
+    ensures { IsTrue (list_any (is_tool seat) tools.now)
+        → IsTrue (is_tool_in seat (slice_get tools.now result)) }
+{
+    for (index, line) in tools.iter().enumerate() {
+        if is_tool(seat, *line) {
+            return index;
+        }
     }
+    0
 }
 
 /// The index of the lifeline of this tool.
-fn find_seat(lines: &[Seat], seat: Seat) -> Option<usize> {
+fn find_seat(lines: &[Seat], seat: Seat) -> Option<usize>
+    ensures { IfSome result (λ index. IsTrue (is_seat_in seat (slice_get lines.now index))) }
+{
     for (index, line) in lines.iter().enumerate() {
-        if line.lane == seat.lane && line.kind == seat.kind {
+        if is_seat(seat, *line) {
             return Some(index);
         }
     }
     None
 }
 
-/// The index of the first lifeline of this lane, or 0.
-fn find_lane(lines: &[Seat], lane: u8) -> usize {
-    for (index, line) in lines.iter().enumerate() {
-        if line.lane == lane {
-            return index;
-        }
-    }
-    0
+/// Whether the lifeline is that of this tool.
+fn is_seat(seat: Seat, line: Seat) -> bool
+    ensures { result ≡ is_seat seat line }
+{
+    line.lane == seat.lane && line.kind == seat.kind
+}
+
+/// Whether the lifeline is that of this tool, or of a program that has no name yet on its lane.
+fn is_tool(seat: Seat, line: Seat) -> bool
+    ensures { result ≡ is_tool seat line }
+{
+    line.lane == seat.lane && (seat.kind.is_none() || line.kind == seat.kind)
 }

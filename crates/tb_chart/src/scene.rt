@@ -1,9 +1,12 @@
 //! Who is there as a log goes on: the processes, the tools and their lanes.
-ghost use Rattle.std.specs.Prelude.{◌≡◌, IsTrue, IfSome};
+ghost use Rattle.std.specs.Prelude.{◌≡◌, Bool, true, IsTrue, IfOk, IfSome};
+ghost use Rattle.tb_chart.specs.Helpers.Additions.{Follows, Keeps, are_players, is_player};
 ghost use Rattle.tb_chart.specs.Ends.{fits, is_at};
+ghost use Rattle.tb_chart.specs.Numbers.{numbered};
+ghost use Rattle.tb_chart.specs.Players.{bodies_of, created_by};
 ghost use Rattle.tb_chart.specs.Terms.{creates, is_number};
 
-use crate::cast::{Cast, index_of};
+use crate::cast::{Cast, index_of, numbered};
 use crate::figure::End;
 use crate::lane::{Lane, Turn, UNUSED};
 use crate::row::{Seat, Who};
@@ -23,11 +26,10 @@ pub(crate) struct Scene<'a> {
 
 impl<'a> Scene<'a> {
     /// The scene at the start, with so many commands on the first lanes.
-    pub(crate) fn new(
-        alloc: Global,
-        cast: &'a Cast,
-        commands: usize,
-    ) -> Result<Scene<'a>, NoMemory> {
+    pub(crate) fn new(alloc: Global, cast: &'a Cast, commands: usize) -> Result<Scene<'a>, NoMemory>
+        ensures players { IfOk result (λ scene. scene.players.items ≡ cast.now.roots.items) }
+        ensures cast { IfOk result (λ scene. scene.cast.now ≡ cast.now) }
+    {
         Ok(Scene {
             cast,
             players: roots(alloc, cast)?,
@@ -37,7 +39,10 @@ impl<'a> Scene<'a> {
     }
 
     /// Goes on by an entry. Returns whether the processes and tools that the entry names are there.
-    pub(crate) fn follow(&mut self, entry: &Entry) -> Result<bool, NoMemory> {
+    #[tactic(auto, using(crate::proofs::SceneLemmas::follows_kept, crate::proofs::SceneLemmas::follows_result))]
+    pub(crate) fn follow(&mut self, entry: &Entry) -> Result<bool, NoMemory>
+        ensures { IfOk result (Follows entry.now self.old self.new) }
+    {
         match entry {
             Entry::Did(label) => self.follow_step(label),
             Entry::Fed(input, Reply::Took) => self.follow_input(input),
@@ -48,7 +53,9 @@ impl<'a> Scene<'a> {
 
     /// Returns who is at these ends of what is shown of an entry, if they are there.
     pub(crate) fn ends(&self, ends: Option<(End, End)>, entry: &Entry) -> Option<Option<(Who, Who)>>
-        ensures { IfSome result (λ found. IsTrue (fits entry.now ends found)) }
+        ensures fit { IfSome result (λ found. IsTrue (fits entry.now ends found)) }
+        ensures are { IfSome result
+            (λ found. IsTrue (are_players self.now.players.items found)) }
     {
         match ends {
             None => Some(None),
@@ -62,7 +69,8 @@ impl<'a> Scene<'a> {
 
     /// Returns who is at this end of what is shown of an entry, if it is there.
     fn who(&self, end: End, entry: &Entry) -> Option<Who>
-        ensures { IfSome result (λ found. IsTrue (is_at entry.now end found)) }
+        ensures at { IfSome result (λ found. IsTrue (is_at entry.now end found)) }
+        ensures is { IfSome result (λ found. IsTrue (is_player self.now.players.items found)) }
     {
         match end {
             End::Process(number) => {
@@ -86,7 +94,10 @@ impl<'a> Scene<'a> {
         }
     }
 
-    fn follow_step(&mut self, label: &Label) -> Result<bool, NoMemory> {
+    #[tactic(auto, using(crate::proofs::SceneLemmas::follows_kept, crate::proofs::SceneLemmas::follows_result))]
+    fn follow_step(&mut self, label: &Label) -> Result<bool, NoMemory>
+        ensures { IfOk result (Follows (Entry.Did label.now) self.old self.new) }
+    {
         match label.kind {
             LabelKind::Create => self.create(label),
             LabelKind::Execute => self.execute(label),
@@ -100,16 +111,26 @@ impl<'a> Scene<'a> {
                 self.shut_down();
                 Ok(true)
             }
-            _ => Ok(true),
+            LabelKind::Msg
+            | LabelKind::Set
+            | LabelKind::Tau
+            | LabelKind::Printf
+            | LabelKind::SndNote
+            | LabelKind::RecNote
+            | LabelKind::NoNote
+            | LabelKind::Subscribe
+            | LabelKind::Unsubscribe
+            | LabelKind::RecValue
+            | LabelKind::RecEvent => Ok(true),
         }
     }
 
     /// A process more. Its number is the next one.
-    fn create(&mut self, label: &Label) -> Result<bool, NoMemory> {
-        let Some(body) = self.body_of(label.from.proc) else {
-            return Ok(false);
-        };
-        match self.cast.created(body, label.from.atom) {
+    fn create(&mut self, label: &Label) -> Result<bool, NoMemory>
+        requires { label.now.kind ≡ LabelKind.Create }
+        ensures { IfOk result (Follows (Entry.Did label.now) self.old self.new) }
+    {
+        match self.created(label) {
             Some(body) => {
                 self.players.push(body)?;
                 Ok(true)
@@ -118,10 +139,24 @@ impl<'a> Scene<'a> {
         }
     }
 
+    /// Returns the definition of the process that a step creates.
+    fn created(&self, label: &Label) -> Option<u32>
+        ensures { result ≡ created_by self.now.cast.now self.now.players.items label.now }
+    {
+        match self.body_of(label.from.proc) {
+            Some(body) => self.cast.created(body, label.from.atom),
+            None => None,
+        }
+    }
+
     /// Returns the definition of the process with this number.
-    pub(crate) fn body_of(&self, number: u32) -> Option<u32> {
-        let body = self.players.get(index_of(u64::from(number))?)?;
-        Some(*body)
+    pub(crate) fn body_of(&self, number: u32) -> Option<u32>
+        ensures { result ≡ numbered self.now.players.items number }
+    {
+        match numbered(self.players.as_slice(), u64::from(number)) {
+            Some(body) => Some(*body),
+            None => None,
+        }
     }
 
     /// Returns how many processes there have been.
@@ -130,15 +165,19 @@ impl<'a> Scene<'a> {
     }
 
     /// Returns the definitions of the processes that make a step.
-    pub(crate) fn bodies(&self, entry: &Entry) -> (Option<u32>, Option<u32>) {
+    pub(crate) fn bodies(&self, entry: &Entry) -> (Option<u32>, Option<u32>)
+        ensures { result ≡ bodies_of self.now.players.items entry.now }
+    {
         match entry {
             Entry::Did(label) => (self.body_of(label.from.proc), self.body_of(label.to.proc)),
-            _ => (None, None),
+            Entry::Quiet | Entry::Fed(_, _) | Entry::Gave(_, _) => (None, None),
         }
     }
 
     /// A tool more, on the lowest free lane.
-    fn execute(&mut self, label: &Label) -> Result<bool, NoMemory> {
+    fn execute(&mut self, label: &Label) -> Result<bool, NoMemory>
+        ensures { Keeps self.old self.new }
+    {
         let kind = match tool_name(label) {
             Some(name) => self.cast.tool(name),
             None => None,
@@ -153,7 +192,9 @@ impl<'a> Scene<'a> {
         Ok(self.turn(lane, Turn::Execute(kind)))
     }
 
-    fn follow_input(&mut self, input: &Input) -> Result<bool, NoMemory> {
+    fn follow_input(&mut self, input: &Input) -> Result<bool, NoMemory>
+        ensures { Keeps self.old self.new }
+    {
         match input {
             Input::Line(lane, ToolLine::Connect(name)) => self.connect(*lane, name.as_bytes()),
             Input::Line(lane, ToolLine::Disconnect) | Input::Cut(lane) => {
@@ -165,7 +206,9 @@ impl<'a> Scene<'a> {
         }
     }
 
-    fn connect(&mut self, lane: u8, name: &[u8]) -> Result<bool, NoMemory> {
+    fn connect(&mut self, lane: u8, name: &[u8]) -> Result<bool, NoMemory>
+        ensures { Keeps self.old self.new }
+    {
         match self.cast.tool(name) {
             Some(kind) => {
                 self.seats.push(Seat {
@@ -179,7 +222,9 @@ impl<'a> Scene<'a> {
     }
 
     /// What a step does on the lane of its tool.
-    fn tool_turn(&mut self, label: &Label, turn: Turn) -> bool {
+    fn tool_turn(&mut self, label: &Label, turn: Turn) -> bool
+        ensures { Keeps self.old self.new }
+    {
         match self.lane_of(label) {
             Some(lane) => self.turn(lane, turn),
             None => false,
@@ -192,7 +237,9 @@ impl<'a> Scene<'a> {
     }
 
     /// What happens on a lane. Returns whether there is such a lane.
-    fn turn(&mut self, lane: u8, turn: Turn) -> bool {
+    fn turn(&mut self, lane: u8, turn: Turn) -> bool
+        ensures { Keeps self.old self.new }
+    {
         let Some(index) = index_of(u64::from(lane)) else {
             return false;
         };
@@ -205,7 +252,9 @@ impl<'a> Scene<'a> {
         }
     }
 
-    fn shut_down(&mut self) {
+    fn shut_down(&mut self)
+        ensures { Keeps self.old self.new }
+    {
         for lane in self.lanes.as_mut_slice() {
             *lane = lane.after(Turn::Down);
         }
@@ -220,7 +269,9 @@ fn sent(out: &Out) -> Turn {
 }
 
 /// The roots of a script.
-fn roots(alloc: Global, cast: &Cast) -> Result<Vec<u32>, NoMemory> {
+fn roots(alloc: Global, cast: &Cast) -> Result<Vec<u32>, NoMemory>
+    ensures { IfOk result (λ players. players.items ≡ cast.now.roots.items) }
+{
     let mut players = Vec::new(alloc);
     for root in cast.roots.as_slice() {
         players.push(*root)?;

@@ -30,9 +30,9 @@ summary{list-style:none}
 #sizer{position:relative}
 #rows{position:absolute;left:0;top:0;display:block}
 #code{overflow:auto;border-left:1px solid var(--line);padding:6px 0}
-#code div{white-space:pre;padding:0 10px 0 0}
-#code i{display:inline-block;width:4.5em;text-align:right;padding-right:1em;color:var(--soft);font-style:normal;user-select:none}
-#code b{font-weight:inherit;cursor:pointer;border-bottom:1px dotted var(--thin)}
+#code div{white-space:pre;padding:0 10px 0 0;width:max-content;min-width:100%}
+#code i{display:inline-block;width:4.5em;text-align:right;padding-right:1em;color:var(--soft);background:var(--paper);font-style:normal;user-select:none;position:sticky;left:0}
+#code b{font-weight:inherit;cursor:pointer;border-bottom:1px dotted var(--thin);scroll-margin:0 1em 0 5em}
 #code b.on{background:var(--pick);outline:2px solid var(--ink);font-weight:bold}
 svg text{fill:var(--ink);font:12px ui-monospace,'DejaVu Sans Mono',monospace;paint-order:stroke;stroke:var(--paper);stroke-width:4px;stroke-linejoin:round}
 svg .h{font-weight:bold;text-anchor:middle;stroke:none}
@@ -53,7 +53,11 @@ svg .z{fill:transparent;stroke:none}
 svg g{cursor:pointer}
 svg g.hit .z{fill:var(--hit)}
 svg g.on .z{fill:var(--pick)}
-svg g.on.pick .z{stroke:var(--ink);stroke-width:1px}
+svg g.pick .z{stroke:var(--ink);stroke-width:2px}
+svg g.hit .n{fill:var(--ink);font-weight:bold}
+svg .g{fill:var(--paper);stroke:none}
+svg g.hit .g{fill:var(--hit)}
+svg g.on .g{fill:var(--pick)}
 svg g.hit text,svg g.on text{stroke:none}
 @media print{body{display:block;height:auto}header,footer,#code{display:none}#view{overflow:visible}}
 </style>
@@ -65,9 +69,9 @@ svg g.hit text,svg g.on text{stroke:none}
 <button id="back" title="Shift+Enter, or N">previous</button>
 <button id="next" title="Enter, or n">next</button>
 <span id="count" role="status"></span>
-<details><summary>lifelines</summary><div id="lines"></div></details>
+<details name="menu"><summary>lifelines</summary><div id="lines"></div></details>
 <button id="side" title="s">source</button>
-<details><summary>keys</summary><div id="keys">/ find &#183; n, N next and previous<br>Down, Up or j, k one row &#183; PageDown, PageUp twenty<br>Home, End first and last row<br>Left, Right scroll &#183; s source on or off<br>a show all lifelines &#183; Escape let go</div></details>
+<details name="menu"><summary>keys</summary><div id="keys">/ find &#183; n, N or Enter, Shift+Enter next and previous<br>Down, Up or j, k one row &#183; PageDown, PageUp twenty<br>Home, End first and last row<br>Left, Right scroll &#183; s source on or off<br>a show all lifelines &#183; Escape let go</div></details>
 </header>
 <main id="view" tabindex="0"><svg id="heads"></svg><div id="sizer"><svg id="rows"></svg></div></main>
 <aside id="code"></aside>
@@ -88,7 +92,7 @@ const LINE = {message: 'm', note: 't', question: 'm', order: 'e', event: 'e', an
 const FULL = {message: 1, note: 1, question: 1};
 const rows = data.rows.map(r => ({number: r[0], kind: r[1], from: r[2], to: r[3], line: r[4], label: r[5], atoms: pairs(r.slice(6))}));
 const hidden = new Set();
-let shown = [], places = [], step = 150, hits = [], hit = -1, picked = -1, pointed = -1, byAtom = new Map(), atomOf = null;
+let shown = [], places = [], step = 150, hits = [], hit = -1, picked = -1, pointed = -1, still = false, byAtom = new Map(), atomOf = null;
 
 function pairs(list) {
   const all = [];
@@ -128,12 +132,14 @@ function head(line, at, narrow) {
 
 // Only the rows in sight are in the page, so that a long log scrolls as a short one does.
 function draw(all) {
-  const first = all ? 0 : Math.max(0, Math.floor((view.scrollTop - HEAD) / PITCH) - 10);
+  const first = all ? 0 : Math.max(0, Math.min(shown.length, Math.floor((view.scrollTop - HEAD) / PITCH)) - 10);
   const last = all ? Math.min(shown.length, 5000) : Math.min(shown.length, first + Math.ceil(view.clientHeight / PITCH) + 24);
   const height = (last - first) * PITCH;
   const parts = [];
   places.forEach(column => { parts.push(`<path class="l" d="M${x(column)} 0V${height + 20}"/>`); });
-  for (let i = first; i < last; i++) parts.push(one(shown[i], (i - first) * PITCH + 18));
+  const left = all ? 0 : view.scrollLeft;
+  for (let i = first; i < last; i++) parts.push(one(shown[i], (i - first) * PITCH + 18, left));
+  if (all && last < shown.length) parts.push(`<text x="${LEFT}" y="${height + 14}">and ${shown.length - last} more rows</text>`);
   rowsBox.setAttribute('width', sizer.style.width.slice(0, -2));
   rowsBox.setAttribute('height', height + 20);
   rowsBox.style.top = first * PITCH + 'px';
@@ -141,11 +147,12 @@ function draw(all) {
   paint();
 }
 
-function one(i, y) {
+// The number of a row, and the text of a rule, stay at the left edge of what is in sight.
+function one(i, y, left) {
   const row = rows[i], label = esc(short(row.label, 100)), width = places.length ? LEFT + places.filter(p => p !== undefined).length * step : LEFT + step;
   let body;
   if (row.from < 0) {
-    body = `<path class="${row.kind === 'tick' ? 'r' : 'q'}" d="M${LEFT} ${y}H${width}"/><text x="${LEFT + 4}" y="${y - 5}">${label}</text>`;
+    body = `<path class="${row.kind === 'tick' ? 'r' : 'q'}" d="M${LEFT} ${y}H${width}"/><text x="${left + LEFT + 4}" y="${y - 5}">${label}</text>`;
   } else {
     const a = x(places[row.from]), b = x(places[row.to]);
     if (row.kind === 'mark') body = `<rect class="f" x="${a - 3}" y="${y - 3}" width="6" height="6"/><text x="${a + 9}" y="${y + 4}">${label}</text>`;
@@ -154,10 +161,11 @@ function one(i, y) {
     else {
       const s = b > a ? -1 : 1, full = FULL[row.kind];
       const tip = full ? `M${b} ${y}l${9 * s} -4v8z` : `M${b} ${y}m${9 * s} -5l${-9 * s} 5l${9 * s} 5`;
-      body = `<path class="${LINE[row.kind]}" d="M${a} ${y}H${b}"/><path class="${full ? 'f' : 'x'}" d="${tip}"/><text x="${Math.min(a, b) + 14}" y="${y - 5}">${label}</text>`;
+      body = `<text x="${Math.min(a, b) + 14}" y="${y - 5}">${label}</text><path class="${LINE[row.kind]}" d="M${a} ${y}H${b}"/><path class="${full ? 'f' : 'x'}" d="${tip}"/>`;
     }
   }
-  return `<g data-row="${i}"><rect class="z" x="0" y="${y - 18}" width="100%" height="${PITCH}"/><text class="n" x="${LEFT - 12}" y="${y + 4}">${row.number}</text>${body}</g>`;
+  const edge = left > 0 ? `<rect class="g" x="${left}" y="${y - 17}" width="${LEFT - 6}" height="${PITCH - 2}"/>` : '';
+  return `<g data-row="${i}"><rect class="z" x="0" y="${y - 18}" width="100%" height="${PITCH}"/>${body}${edge}<text class="n" x="${left + LEFT - 12}" y="${y + 4}">${row.number}</text></g>`;
 }
 
 // The source, with each place at which an atom begins as something to point at.
@@ -208,13 +216,13 @@ function paint() {
   $('status').textContent = now >= 0 ? rows[now].line : '';
 }
 
+// The atom of the sender comes into sight last, so that it stays there.
 function mark(keys) {
-  keys.forEach((key, i) => {
-    const b = key === undefined ? null : $('code').querySelector(`b[data-at="${key}"]`);
-    if (!b) return;
+  const found = keys.filter(key => key !== undefined).map(key => $('code').querySelector(`b[data-at="${key}"]`));
+  for (const b of found.reverse()) {
     b.classList.add('on');
-    if (i === 0) b.scrollIntoView({block: 'nearest', inline: 'nearest'});
-  });
+    b.scrollIntoView({block: 'nearest', inline: 'nearest'});
+  }
 }
 
 function look() {
@@ -241,13 +249,14 @@ function seek(by) {
 function pick(i) {
   picked = i;
   pointed = -1;
+  still = true;
   if (i >= 0) {
     const top = shown.indexOf(i) * PITCH + HEAD;
     if (top < view.scrollTop + HEAD + PITCH || top > view.scrollTop + view.clientHeight - 2 * PITCH) view.scrollTop = top - view.clientHeight / 2;
     const row = rows[i];
     if (row.from >= 0) {
       const a = Math.min(x(places[row.from]), x(places[row.to])), b = Math.max(x(places[row.from]), x(places[row.to]));
-      if (a - step / 2 < view.scrollLeft || b + step / 2 > view.scrollLeft + view.clientWidth) view.scrollLeft = Math.max(0, a - step);
+      if (a - step / 2 < view.scrollLeft + LEFT || b + step / 2 > view.scrollLeft + view.clientWidth) view.scrollLeft = Math.max(0, a - step - LEFT);
     }
   }
   draw();
@@ -270,14 +279,34 @@ function hide(line, off) {
 }
 
 function boxes() {
-  $('lines').innerHTML = data.lines.map(([kind, name, place], i) =>
+  $('lines').innerHTML = '<button id="all">all</button> <button id="none">none</button>' + data.lines.map(([kind, name, place], i) =>
     `<label><input type="checkbox" data-line="${i}"${hidden.has(i) ? '' : ' checked'}> ${esc(name)} ${kind === 'process' ? 'process ' + place : kind === 'tool' ? 'lane ' + place : ''}</label>`).join('');
+}
+
+function all() {
+  hidden.clear();
+  boxes();
+  sift();
+}
+
+function none() {
+  data.lines.forEach((_, i) => hidden.add(i));
+  if (picked >= 0 && rows[picked].from >= 0) picked = -1;
+  boxes();
+  sift();
+}
+
+function shut() {
+  document.querySelectorAll('details').forEach(d => { d.open = false; });
 }
 
 const rowAt = target => { const g = target.closest && target.closest('g[data-row]'); return g ? +g.dataset.row : -1; };
 
-rowsBox.addEventListener('mouseover', e => { pointed = rowAt(e.target); paint(); });
-rowsBox.addEventListener('mouseleave', () => { pointed = -1; paint(); });
+// After a key, the rows move below a pointer that rests. It points at nothing until it moves.
+const point = i => { if (i !== pointed) { pointed = i; paint(); } };
+rowsBox.addEventListener('mouseover', e => { if (!still) point(rowAt(e.target)); });
+rowsBox.addEventListener('mousemove', e => { if (e.movementX || e.movementY) { still = false; point(rowAt(e.target)); } });
+rowsBox.addEventListener('mouseleave', () => point(-1));
 rowsBox.addEventListener('click', e => { const i = rowAt(e.target); pick(i === picked ? -1 : i); });
 view.addEventListener('scroll', () => requestAnimationFrame(() => draw()));
 window.addEventListener('resize', () => draw());
@@ -303,23 +332,26 @@ $('code').addEventListener('click', e => {
   draw();
 });
 $('lines').addEventListener('change', e => hide(+e.target.dataset.line, !e.target.checked));
+$('lines').addEventListener('click', e => { e.stopPropagation(); if (e.target.id === 'all') all(); else if (e.target.id === 'none') none(); });
+document.addEventListener('click', e => { if (!e.target.closest('details')) shut(); });
 $('find').addEventListener('input', () => { look(); draw(); });
 $('next').addEventListener('click', () => seek(1));
 $('back').addEventListener('click', () => seek(-1));
 $('side').addEventListener('click', () => { document.body.classList.toggle('alone'); draw(); });
 document.addEventListener('keydown', e => {
   if (e.ctrlKey || e.metaKey || e.altKey) return;
-  if (e.key === 'Escape') { $('find').value = ''; $('find').blur(); look(); pick(-1); document.querySelectorAll('details').forEach(d => { d.open = false; }); return; }
+  if (e.key === 'Escape') { $('find').value = ''; look(); pick(-1); shut(); view.focus(); return; }
   if (e.target === $('find')) {
-    if (e.key === 'Enter') { seek(e.shiftKey ? -1 : 1); e.preventDefault(); }
+    if (e.key === 'Enter') { seek(e.shiftKey ? -1 : 1); view.focus(); e.preventDefault(); }
     return;
   }
+  if (e.key === 'Enter' && e.target.closest('button,summary,input')) return;
   const keys = {
-    '/': () => $('find').focus(), n: () => seek(1), N: () => seek(-1),
+    '/': () => { $('find').focus(); $('find').select(); }, n: () => seek(1), N: () => seek(-1), Enter: () => seek(e.shiftKey ? -1 : 1),
     ArrowDown: () => move(1), j: () => move(1), ArrowUp: () => move(-1), k: () => move(-1),
     PageDown: () => move(20), PageUp: () => move(-20), Home: () => go(0), End: () => go(shown.length - 1),
     s: () => $('side').click(),
-    a: () => { hidden.clear(); boxes(); sift(); },
+    a: () => all(),
   };
   if (keys[e.key]) { keys[e.key](); e.preventDefault(); }
 });

@@ -352,16 +352,17 @@ fn push_arrow(
     label: &[u8],
     into: &mut Vec<u8>,
 ) -> Result<(), NoMemory> {
-    push_text(b"<path class=\"", into)?;
-    push_text(line_class(kind), into)?;
-    push_filled(b"\" d=\"M# #H#\"/>", &[from, y, to], into)?;
-    push_filled(tip_of(kind, from < to), &[to, y], into)?;
+    // The margin around the label must not hide the tip.
     push_label(
         from.min(to).saturating_add(14),
         y.saturating_sub(5),
         label,
         into,
-    )
+    )?;
+    push_text(b"<path class=\"", into)?;
+    push_text(line_class(kind), into)?;
+    push_filled(b"\" d=\"M# #H#\"/>", &[from, y, to], into)?;
+    push_filled(tip_of(kind, from < to), &[to, y], into)
 }
 
 /// The class of an arrow's line.

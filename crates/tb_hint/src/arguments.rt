@@ -1,30 +1,15 @@
 //! The sentences about numbers of arguments, and about arguments of a wrong kind.
 
+use crate::forms::say_form;
 use crate::names::say_definition;
 use crate::said::Said;
 use crate::scan::{
     count_arguments, count_parameters, definition_of, head_of, parameter_of, scope_of,
 };
-use crate::source::{Source, is_upper};
+use crate::source::{Source, is_upper, text_of};
 use tb_func::{Signature, function, signature};
-use tb_syntax::is_atom_word;
+use tb_syntax::{AtomWord, atom_word};
 use tb_terms::Name;
-
-/// How many arguments an atom takes, by its word. An atom that isn't here takes one or more.
-static COUNTS: [(&str, &str); 12] = [
-    ("tau", "no arguments"),
-    ("delta", "no arguments"),
-    ("shutdown", "1 argument"),
-    ("rec-connect", "1 argument"),
-    ("rec-disconnect", "1 argument"),
-    ("execute", "2 arguments"),
-    ("snd-eval", "2 arguments"),
-    ("snd-do", "2 arguments"),
-    ("snd-terminate", "2 arguments"),
-    ("rec-value", "2 arguments"),
-    ("rec-event", "2 arguments or more"),
-    ("snd-ack-event", "2 arguments or more"),
-];
 
 /// Why an argument must be a variable with `?`, by the word of the atom.
 static RESULTS: [(&str, &str); 3] = [
@@ -42,20 +27,6 @@ static RESULTS: [(&str, &str); 3] = [
     ),
 ];
 
-/// The text of this word in a table.
-fn text_of(
-    table: &'static [(&'static str, &'static str)],
-    word: &[u8],
-    other: &'static str,
-) -> &'static str {
-    for (key, text) in table {
-        if word == key.as_bytes() {
-            return *text;
-        }
-    }
-    other
-}
-
 /// Says that what begins at this token has a wrong number of arguments.
 pub(crate) fn say_count(said: &mut Said, token: usize) {
     let source = said.source;
@@ -63,8 +34,8 @@ pub(crate) fn say_count(said: &mut Said, token: usize) {
     let given = count_arguments(&source, token);
     if is_upper(word) {
         say_process_count(said, word, given);
-    } else if is_atom_word(word) {
-        say_atom_count(said, word, given);
+    } else if let Some(atom) = atom_word(word) {
+        say_atom_count(said, atom, given);
     } else {
         say_function_count(said, word, given);
     }
@@ -80,11 +51,24 @@ fn say_process_count(said: &mut Said, name: &[u8], given: usize) {
     say_definition(said, "process", name);
 }
 
-fn say_atom_count(said: &mut Said, word: &[u8], given: usize) {
-    let takes = text_of(COUNTS.as_slice(), word, "1 argument or more");
+fn say_atom_count(said: &mut Said, atom: AtomWord, given: usize) {
+    let word = atom.text().as_bytes();
     said.say("the atom `%` takes ", &[word]);
-    said.say("%, but is given ", &[takes.as_bytes()]);
+    say_taken(said, atom);
+    said.say(", but is given ", &[]);
     said.say_number(given);
+    say_form(said, word);
+}
+
+/// Says how many arguments an atom takes.
+fn say_taken(said: &mut Said, atom: AtomWord) {
+    if atom.fewest() == 0 {
+        return said.say("no arguments", &[]);
+    }
+    said.say_count(atom.fewest(), "argument");
+    if atom.takes_more() {
+        said.say(" or more", &[]);
+    }
 }
 
 fn say_function_count(said: &mut Said, word: &[u8], given: usize) {
@@ -126,8 +110,8 @@ pub(crate) fn say_not_result(said: &mut Said, token: usize) {
     };
     let word = source.word(head.token);
     if !is_upper(word) {
-        let sentence = text_of(RESULTS.as_slice(), word, "this must be a variable with `?`");
-        said.say(sentence, &[]);
+        let sentence = text_of(RESULTS.as_slice(), word);
+        said.say(sentence.unwrap_or("this must be a variable with `?`"), &[]);
         say_instead(said, text);
         return say_mark(said, text);
     }
@@ -187,13 +171,25 @@ pub(crate) fn say_misplaced(said: &mut Said, token: usize) {
         "`%?` takes a value, and no value can be taken here",
         &[text],
     );
-    said.help("to use the value of `%`, write `%`", &[text, text]);
+    say_takers(said, token, text);
+    said.help("to use the value that `%` has, write `%`", &[text, text]);
+}
+
+/// Says where the variable of this name can take a value.
+fn say_takers(said: &mut Said, token: usize, name: &[u8]) {
     said.help(
-        "`%?` may stand in the arguments of `rec-msg`, `rec-note`, `rec-value` and `rec-event`",
-        &[text],
+        "to take a value, write `%?` in `rec-msg(..)`, `rec-note(..)`, `rec-value(T, ..)` or `rec-event(T, ..)`",
+        &[name],
     );
     said.help(
-        "and alone as the variable of `create`, `execute`, `rec-connect`, `rec-disconnect` or of a parameter with `?`",
+        "or alone as the variable of `create`, `execute`, `rec-connect`, `rec-disconnect` or of a parameter with `?`",
         &[],
     );
+    let Some(head) = head_of(&said.source, token) else {
+        return;
+    };
+    let word = said.source.word(head.token);
+    if signature_of(said, word).is_some() {
+        said.help("no value can be taken within the function `%`", &[word]);
+    }
 }

@@ -15,7 +15,7 @@ static OUTSIDE: [(u8, &str, &str); 7] = [
     (
         b'|',
         "`%` alone is no symbol",
-        "two processes side by side are written `||`",
+        "either x or y is written `x + y`; x and y side by side are written `x || y`",
     ),
     (
         b'-',

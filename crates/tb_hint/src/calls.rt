@@ -28,8 +28,14 @@ fn say_recursion(said: &mut Said, tokens: &Tokens, names: &[Ident]) {
         Ok(script) => say_calls(said, &script, names),
         Err(_) => said.lacks = true,
     }
-    say_repeat(said);
+    say_repetition(said);
     say_start(said, name_behind(names, 0));
+}
+
+/// Says how a process repeats, and how it does so for ever.
+pub(crate) fn say_repetition(said: &mut Said) {
+    say_repeat(said);
+    said.help("to repeat for ever, write `x * delta`", &[]);
 }
 
 /// Says how a process repeats.

@@ -13,6 +13,7 @@ pub(crate) fn say_clash(said: &mut Said, token: usize) {
             say_wanted(said, token);
             said.say(", but ", &[]);
             say_given(said, token);
+            say_any(said, token);
         }
         Ok(Argument::Without) => say_no_value(said, token),
         Ok(Argument::With(value)) => {
@@ -21,5 +22,12 @@ pub(crate) fn say_clash(said: &mut Said, token: usize) {
             say_value(said, token, &value);
         }
         Err(NoMemory) => said.lacks = true,
+    }
+}
+
+/// Says which variable takes each value, if this one is assigned.
+fn say_any(said: &mut Said, token: usize) {
+    if said.source.has_before(token, 1, ":=") {
+        said.help("a variable of the type `term` takes any value", &[]);
     }
 }

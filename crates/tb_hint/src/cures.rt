@@ -1,36 +1,15 @@
 //! Help about tokens that spell no script.
 
 use crate::arguments::signature_of;
+use crate::forms::{ATOMS, say_form};
 use crate::near::Near;
 use crate::said::Said;
-use crate::source::{is_lower, is_upper};
+use crate::scan::head_of;
+use crate::source::{Source, is_lower, is_upper, text_of};
 use crate::syntax::{begins_process, has};
-use tb_syntax::{atom_word, is_time_word};
-
-/// The words of atoms.
-static ATOMS: [&str; 21] = [
-    "delta",
-    "tau",
-    "printf",
-    "snd-msg",
-    "rec-msg",
-    "snd-note",
-    "rec-note",
-    "no-note",
-    "subscribe",
-    "unsubscribe",
-    "execute",
-    "rec-connect",
-    "rec-disconnect",
-    "snd-eval",
-    "rec-value",
-    "snd-do",
-    "rec-event",
-    "snd-ack-event",
-    "snd-terminate",
-    "shutdown",
-    "create",
-];
+use std::alloc::Global;
+use tb_syntax::{atom_word, is_reserved, is_time_word};
+use tb_terms::NoMemory;
 
 /// The words that are never names.
 static RESERVED: [&str; 11] = [
@@ -43,8 +22,26 @@ static TIMES: [&str; 4] = ["delay", "timeout", "abs-delay", "abs-timeout"];
 /// The word in the braces of a tool.
 static COMMAND: [&str; 1] = ["command"];
 
+/// The functions that stand for the operators of other languages.
+static OPERATORS: [(&str, &str); 5] = [
+    ("<", "`less(x, y)` or `less-equal(x, y)`"),
+    (">", "`greater(x, y)` or `greater-equal(x, y)`"),
+    ("=", "`equal(x, y)`"),
+    ("+", "`add(x, y)`"),
+    ("*", "`mul(x, y)`"),
+];
+
+/// Says what helps against the token that is found, or against the end of the script.
+pub(crate) fn cure(said: &mut Said, expected: &[&'static str], token: usize) {
+    if said.source.word(token).is_empty() {
+        cure_end(said, expected);
+    } else {
+        cure_token(said, expected, token);
+    }
+}
+
 /// Says what helps if the script ends too early.
-pub(crate) fn cure_end(said: &mut Said, expected: &[&'static str]) {
+fn cure_end(said: &mut Said, expected: &[&'static str]) {
     if has(expected, "toolbus") {
         said.help(
             "a script ends with `toolbus(..)`, which names the processes that start",
@@ -53,19 +50,85 @@ pub(crate) fn cure_end(said: &mut Said, expected: &[&'static str]) {
     }
 }
 
-/// Says what helps against the token that is found.
-pub(crate) fn cure_token(said: &mut Said, expected: &[&'static str], token: usize) {
+fn cure_token(said: &mut Said, expected: &[&'static str], token: usize) {
     let source = said.source;
     let found = source.word(token);
     if expected.is_empty() {
         cure_after_end(said, found);
     } else if is_lower(found) || is_upper(found) {
-        cure_word(said, expected, found);
+        cure_word(said, expected, token);
     } else if source.is(token, "=") && has(expected, ":=") {
         said.help("did you mean `:=`?", &[]);
     } else if source.is(token, ")") && has(expected, "0") {
         cure_parentheses(said, token);
+    } else if source.is(token, ")") && has(expected, ",") {
+        cure_create(said, token);
+    } else {
+        cure_operator(said, expected, token);
     }
+}
+
+/// Says how `create` is written, if its first argument ends before this token.
+fn cure_create(said: &mut Said, token: usize) {
+    let source = said.source;
+    if let Some(head) = head_of(&source, token) {
+        if source.is(head.token, "create") {
+            say_form(said, b"create");
+        }
+    }
+}
+
+/// Says which function stands for the operator at this token, or before it.
+fn cure_operator(said: &mut Said, expected: &[&'static str], token: usize) {
+    let source = said.source;
+    if begins_process(expected) {
+        cure_assigned(said, token);
+    } else if is_behind_expression(&source, expected, token) && !is_placeholder(&source, token) {
+        say_functions(said, source.word(token));
+    }
+}
+
+/// Says which function stands for the operator before this token, if it is the first one behind a `:=`.
+pub(crate) fn cure_assigned(said: &mut Said, token: usize) {
+    let source = said.source;
+    if source.has_before(token, 3, ":=") {
+        say_functions(said, source.word(token.saturating_sub(1)));
+    }
+}
+
+fn say_functions(said: &mut Said, operator: &[u8]) {
+    if let Some(functions) = text_of(OPERATORS.as_slice(), operator) {
+        said.help(
+            "expressions have no operators: write %",
+            &[functions.as_bytes()],
+        );
+    }
+}
+
+/// Whether an expression ends before this token, and not the type of a variable or of a parameter.
+fn is_behind_expression(source: &Source, expected: &[&'static str], token: usize) -> bool {
+    let is_behind = has(expected, "then")
+        || has(expected, "?")
+        || has(expected, ",")
+        || source.has_before(token, 2, ":=");
+    is_behind && !has(expected, "in") && !is_among_parameters(source, token)
+}
+
+/// Whether this token is behind the name of a process, and its `is` doesn't come before the token.
+fn is_among_parameters(source: &Source, token: usize) -> bool {
+    for position in (0..token).rev() {
+        match source.word(position) {
+            b"process" => return true,
+            b"is" | b"toolbus" => return false,
+            _ => {}
+        }
+    }
+    false
+}
+
+/// Whether a placeholder such as `<int>` begins at this token.
+fn is_placeholder(source: &Source, token: usize) -> bool {
+    source.is(token, "<") && source.is(token.saturating_add(2), ">")
 }
 
 /// Says that nothing follows `toolbus(..)`.
@@ -84,11 +147,20 @@ fn cure_after_end(said: &mut Said, found: &[u8]) {
 }
 
 /// Says what helps if a word is misspelt, or a letter is of the other case.
-fn cure_word<'a>(said: &mut Said<'a>, expected: &[&'static str], found: &'a [u8]) {
+fn cure_word(said: &mut Said, expected: &[&'static str], token: usize) {
+    let source = said.source;
+    let found = source.word(token);
+    if begins_process(expected) && is_time_word(found) {
+        return said.help("a time stands behind an atom, as in `tau %(..)`", &[found]);
+    }
     let mut near = Near::to(said.alloc, found);
     offer_expected(&mut near, expected);
+    if begins_process(expected) && !is_reserved(found) {
+        near.offer_definitions(&source, "process");
+        near.offer_known(&source, token);
+    }
     near.ask(said);
-    if !near.has_found() && !begins_process(expected) {
+    if !near.has_found() {
         cure_case(said, expected, found);
     }
 }
@@ -104,7 +176,9 @@ fn offer_expected(near: &mut Near, expected: &[&'static str]) {
         return;
     }
     if begins_process(expected) {
-        near.offer_words(ATOMS.as_slice());
+        for (word, _, _) in ATOMS.as_slice() {
+            near.offer_word(*word);
+        }
     }
     if has(expected, "delay") {
         near.offer_words(TIMES.as_slice());
@@ -114,26 +188,63 @@ fn offer_expected(near: &mut Near, expected: &[&'static str]) {
     }
 }
 
+/// Says what helps if a name begins with a letter of the other case.
 fn cure_case(said: &mut Said, expected: &[&'static str], found: &[u8]) {
-    if has(expected, "X") && !has(expected, "x") && is_lower(found) {
+    if has(expected, "X") && !has(expected, "x") && is_lower(found) && !is_reserved(found) {
         said.help(
             "the names of processes and variables begin with an upper-case letter",
             &[],
         );
+        if !begins_process(expected) {
+            say_other_case(said, found);
+        }
     } else if has(expected, "x") && !has(expected, "X") && is_upper(found) {
         said.help(
             "the names of types and tools begin with a lower-case letter",
             &[],
         );
+        say_other_case(said, found);
     }
 }
 
-/// Says how that is written which has empty parentheses, if it can be without arguments.
+/// Says which name to write in place of one that begins with a letter of the other case.
+fn say_other_case(said: &mut Said, name: &[u8]) {
+    match with_other_case(said.alloc, name) {
+        Ok(other) => say_instead(said, other.as_slice()),
+        Err(NoMemory) => said.lacks = true,
+    }
+}
+
+fn say_instead(said: &mut Said, name: &[u8]) {
+    if !is_reserved(name) {
+        said.help("write `%`, here and where it is used", &[name]);
+    }
+}
+
+/// The name with its first letter in the other case.
+fn with_other_case(alloc: Global, name: &[u8]) -> Result<Vec<u8>, NoMemory> {
+    let mut other = Vec::new(alloc);
+    for (position, byte) in name.iter().enumerate() {
+        if position == 0 {
+            other.push(*byte ^ 0x20)?;
+        } else {
+            other.push(*byte)?;
+        }
+    }
+    Ok(other)
+}
+
+/// Says how that is written which has empty parentheses.
 fn cure_parentheses(said: &mut Said, token: usize) {
     let source = said.source;
+    if !source.has_before(token, 1, "(") {
+        return;
+    }
     let word = source.word(token.saturating_sub(2));
-    if source.has_before(token, 1, "(") && stands_alone(said, word) {
+    if stands_alone(said, word) {
         said.help("without arguments write `%`", &[word]);
+    } else {
+        say_form(said, word);
     }
 }
 

@@ -1,6 +1,7 @@
 //! What an expression is that doesn't fit.
 
 use crate::arguments::signature_of;
+use crate::names::note_declared;
 use crate::said::Said;
 use crate::scan::declaration_of;
 use crate::wanted::{say_type, shape_text};
@@ -31,6 +32,7 @@ fn say_variable(said: &mut Said, token: usize, name: &[u8]) {
         Some(declared) => {
             said.say("`%%` has the type ", &[name, mark]);
             say_type(said, declared);
+            note_declared(said, declared);
         }
     }
 }

@@ -7,6 +7,7 @@ mod calls;
 mod checked;
 mod clashes;
 mod cures;
+mod forms;
 mod given;
 mod lines;
 mod message;
@@ -18,6 +19,7 @@ mod said;
 mod scan;
 mod source;
 mod syntax;
+mod unfinished;
 mod wanted;
 
 pub use message::message_text;

@@ -1,5 +1,6 @@
 //! The sentences about names that are defined twice, or not at all.
 
+use crate::cures::cure_assigned;
 use crate::near::Near;
 use crate::said::Said;
 use crate::scan::{definition_of, scope_of};
@@ -42,7 +43,11 @@ pub(crate) fn say_twice(said: &mut Said, token: usize) {
     let source = said.source;
     let name = source.word(token.saturating_add(1));
     if source.is(token, "process") {
-        return say_again(said, "process", name);
+        say_again(said, "process", name);
+        return said.help(
+            "to run `%` twice, define it once and name it twice in `toolbus(..)`",
+            &[name],
+        );
     }
     if !source.is(token, "tool") {
         return say_declared_twice(said, token, source.word(token));
@@ -92,6 +97,7 @@ pub(crate) fn say_no_process(said: &mut Said, token: usize) {
     let mut near = Near::to(said.alloc, name);
     near.offer_definitions(&source, "process");
     near.ask(said);
+    cure_assigned(said, token);
 }
 
 /// Says that the word at this token is no type, or no tool that `execute` can start.
@@ -148,6 +154,7 @@ pub(crate) fn say_no_function(said: &mut Said, token: usize) {
     let mut near = Near::to(said.alloc, name);
     near.offer_words(FUNCTIONS.as_slice());
     near.ask(said);
+    said.help_words("the functions are ", FUNCTIONS.as_slice());
 }
 
 /// Says that the variable at this token isn't known there.
@@ -161,4 +168,24 @@ pub(crate) fn say_undeclared(said: &mut Said, token: usize) {
     let mut near = Near::to(said.alloc, name);
     near.offer_known(&source, token);
     near.ask(said);
+    if !near.has_found() {
+        say_declaration(said, token, name);
+    }
+}
+
+/// Says how the variable of this name is declared, so that it is known at this token.
+fn say_declaration(said: &mut Said, token: usize, name: &[u8]) {
+    if scope_of(&said.source, token).is_none() {
+        return said.help("the arguments of `toolbus(..)` have no variables", &[]);
+    }
+    said.help(
+        "declare it, as in `let % : int in .. endlet`, or as a parameter of the process",
+        &[name],
+    );
+}
+
+/// Adds a note at the token that declares a variable.
+pub(crate) fn note_declared(said: &mut Said, declared: usize) {
+    let name = said.source.word(declared);
+    said.note(declared, "`%` is declared here", &[name]);
 }

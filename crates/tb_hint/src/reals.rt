@@ -3,43 +3,47 @@
 use crate::said::Said;
 use crate::source::{Source, between};
 use tb_lex::{LexFault, lex};
-
-/// The words whose argument can be meant as seconds.
-static TIMES: [&str; 5] = ["delay", "timeout", "abs-delay", "abs-timeout", "sec"];
+use tb_syntax::is_time_word;
 
 /// Says that the number after this text has a decimal point.
 pub(crate) fn say_real(said: &mut Said, number: &[u8], prefix: &[u8]) {
     said.say("the number `%` has a decimal point", &[number]);
-    if is_time(said, prefix) && has_milliseconds(number) {
-        return say_milliseconds(said, number);
-    }
     said.help("scripts have whole numbers only", &[]);
-}
-
-/// Whether the value of a time begins after this text.
-fn is_time(said: &mut Said, prefix: &[u8]) -> bool {
     match lex(said.alloc, prefix) {
-        Ok(tokens) => ends_in_time(&Source {
-            name: "",
-            text: prefix,
-            tokens: tokens.as_slice(),
-        }),
-        Err(LexFault::NoMemory) => {
-            said.lacks = true;
-            false
+        Ok(tokens) => {
+            let source = Source {
+                name: "",
+                text: prefix,
+                tokens: tokens.as_slice(),
+            };
+            say_time(said, number, word_of_argument(&source));
         }
-        Err(_) => false,
+        Err(LexFault::NoMemory) => said.lacks = true,
+        Err(_) => {}
     }
 }
 
-fn ends_in_time(source: &Source) -> bool {
+/// The word whose first argument begins after all tokens. It is empty if there is none.
+fn word_of_argument<'a>(source: &Source<'a>) -> &'a [u8] {
     let end = source.tokens.len();
-    for word in TIMES.as_slice() {
-        if source.has_before(end, 2, *word) && source.has_before(end, 1, "(") {
-            return true;
-        }
+    if source.has_before(end, 1, "(") {
+        return source.word(end.saturating_sub(2));
     }
-    false
+    b""
+}
+
+/// Says what the number is, if it is the argument of a time or of `sec`.
+fn say_time(said: &mut Said, number: &[u8], word: &[u8]) {
+    let is_time = is_time_word(word);
+    if is_time {
+        said.help(
+            "the number in `%(..)` counts ticks; in a run, a tick takes 100 milliseconds or more",
+            &[word],
+        );
+    }
+    if (is_time || word == b"sec".as_slice()) && has_milliseconds(number) {
+        say_milliseconds(said, number);
+    }
 }
 
 /// Whether the number is a whole number of milliseconds, more than none, and not too many.
@@ -67,10 +71,7 @@ fn say_milliseconds(said: &mut Said, number: &[u8]) {
         2 => b"0",
         _ => b"",
     };
-    said.help(
-        "scripts have whole numbers only; % seconds are `msec(%%%)`",
-        &[number, whole, part, zeros],
-    );
+    said.help("% seconds are `msec(%%%)`", &[number, whole, part, zeros]);
 }
 
 fn before_point(number: &[u8]) -> &[u8] {

@@ -75,6 +75,13 @@ impl<'a> Said<'a> {
         }
     }
 
+    /// Adds a line of help that ends with these words.
+    pub(crate) fn help_words(&mut self, begin: &str, words: &[&'static str]) {
+        if push_words(begin, words, &mut self.rest).is_err() {
+            self.lacks = true;
+        }
+    }
+
     /// Adds a note at a token likewise, with the line of the script.
     pub(crate) fn note(&mut self, token: usize, template: &str, parts: &[&[u8]]) {
         let source = self.source;
@@ -87,6 +94,26 @@ impl<'a> Said<'a> {
 fn push_help(template: &str, parts: &[&[u8]], into: &mut Vec<u8>) -> Result<(), NoMemory> {
     into.extend_from_slice(b"\nhelp: ")?;
     fill(template, parts, into)
+}
+
+fn push_words(begin: &str, words: &[&'static str], into: &mut Vec<u8>) -> Result<(), NoMemory> {
+    push_help(begin, &[], into)?;
+    for (position, word) in words.iter().enumerate() {
+        into.extend_from_slice(joint(position, words.len(), " and ").as_bytes())?;
+        fill("`%`", &[word.as_bytes()], into)?;
+    }
+    Ok(())
+}
+
+/// What stands before the word at this position of a list: a comma, or another text before the last word.
+pub(crate) fn joint(position: usize, count: usize, last: &'static str) -> &'static str {
+    if position == 0 {
+        ""
+    } else if position < count.saturating_sub(1) {
+        ", "
+    } else {
+        last
+    }
 }
 
 fn push_note(

@@ -34,6 +34,29 @@ impl<'a> Source<'a> {
     }
 }
 
+/// Whether a word is one of these.
+pub(crate) fn is_among(words: &[&'static str], word: &[u8]) -> bool {
+    for each in words {
+        if each.as_bytes() == word {
+            return true;
+        }
+    }
+    false
+}
+
+/// The text of this word in a table.
+pub(crate) fn text_of(
+    table: &'static [(&'static str, &'static str)],
+    word: &[u8],
+) -> Option<&'static str> {
+    for (key, text) in table {
+        if word == key.as_bytes() {
+            return Some(*text);
+        }
+    }
+    None
+}
+
 /// The bytes from one position to before another, as far as there are any.
 pub(crate) fn between(text: &[u8], from: usize, to: usize) -> &[u8] {
     let to = to.min(text.len());

@@ -1,8 +1,9 @@
 //! The sentence about tokens that spell no script. Which tokens may come next is found by trying the parser.
 
-use crate::cures::{cure_end, cure_token};
-use crate::said::Said;
-use crate::source::between;
+use crate::cures::cure;
+use crate::said::{Said, joint};
+use crate::source::{between, is_among};
+use crate::unfinished::{is_behind_symbol, is_symbol, note_open, note_symbol};
 use std::alloc::Global;
 use tb_lex::{LexFault, lex};
 use tb_parse::{ParseFault, parse};
@@ -108,18 +109,38 @@ fn count_names(expected: &[&'static str], construct: Construct, ends: bool) -> u
 }
 
 fn say_name(said: &mut Said, position: usize, count: usize, name: &str) {
-    said.say(before(position, count), &[]);
+    said.say(joint(position, count, " or "), &[]);
     said.say(template_of(name), &[name.as_bytes()]);
 }
 
 fn say_found(said: &mut Said, expected: &[&'static str], token: usize) {
-    let found = said.source.word(token);
+    let source = said.source;
+    let found = source.word(token);
     if found.is_empty() {
         said.say(", but the script ends here", &[]);
-        return cure_end(said, expected);
+    } else {
+        said.say(", but found `%`", &[found]);
     }
-    said.say(", but found `%`", &[found]);
-    cure_token(said, expected, token);
+    say_cure(said, expected, token);
+}
+
+/// Says what helps: a note at what isn't finished before this token, or help against the token. A `+` or a `*` behind
+/// an open parenthesis is hardly meant as an operator of an expression.
+fn say_cure(said: &mut Said, expected: &[&'static str], token: usize) {
+    let source = said.source;
+    if is_behind_symbol(&source, expected, token) {
+        note_symbol(said, token);
+    } else if is_symbol(&source, token) {
+        note_open(said, expected, token);
+        if said.rest.is_empty() {
+            cure(said, expected, token);
+        }
+    } else {
+        cure(said, expected, token);
+        if said.rest.is_empty() {
+            note_open(said, expected, token);
+        }
+    }
 }
 
 /// The candidates that may come after the tokens of this text.
@@ -155,12 +176,7 @@ fn reading_of(alloc: Global, text: &[u8]) -> Result<Reading, NoMemory> {
 }
 
 pub(crate) fn has(words: &[&'static str], word: &str) -> bool {
-    for each in words {
-        if each.as_bytes() == word.as_bytes() {
-            return true;
-        }
-    }
-    false
+    is_among(words, word.as_bytes())
 }
 
 /// Whether a process may begin here. Words that begin one begin an expression too.
@@ -214,16 +230,6 @@ fn shown(word: &'static str) -> &'static str {
         }
     }
     word
-}
-
-fn before(position: usize, count: usize) -> &'static str {
-    if position == 0 {
-        ""
-    } else if position < count.saturating_sub(1) {
-        ", "
-    } else {
-        " or "
-    }
 }
 
 /// A name of several words isn't quoted.

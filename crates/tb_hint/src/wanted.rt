@@ -1,6 +1,7 @@
 //! What is expected of an expression at its place.
 
 use crate::arguments::signature_of;
+use crate::names::note_declared;
 use crate::said::Said;
 use crate::scan::{
     Head, declaration_of, definition_of, head_of, is_result, parameter_of, type_end,
@@ -64,9 +65,11 @@ pub(crate) fn say_wanted(said: &mut Said, token: usize) {
 fn say_assigned(said: &mut Said, token: usize) {
     let source = said.source;
     let name = source.word(token);
-    let declared = declaration_of(&source, token, name).unwrap_or(0);
     said.say("`%` has the type ", &[name]);
-    say_type(said, declared);
+    if let Some(declared) = declaration_of(&source, token, name) {
+        say_type(said, declared);
+        note_declared(said, declared);
+    }
 }
 
 /// Adds the type with which the name at this token is declared.
@@ -95,7 +98,9 @@ fn say_argument(said: &mut Said, head: Head) {
 fn say_parameter(said: &mut Said, process: &[u8], number: usize) {
     let source = said.source;
     let definition = definition_of(&source, "process", process).unwrap_or(0);
-    let parameter = parameter_of(&source, definition, number).unwrap_or(0);
+    let Some(parameter) = parameter_of(&source, definition, number) else {
+        return said.say("this expression doesn't fit", &[]);
+    };
     let parts = [source.word(parameter), process];
     if is_result(&source, parameter) {
         said.say(
@@ -106,6 +111,7 @@ fn say_parameter(said: &mut Said, process: &[u8], number: usize) {
         said.say("the parameter `%` of `%` has the type ", &parts);
     }
     say_type(said, parameter);
+    note_declared(said, parameter);
 }
 
 fn say_function_argument(said: &mut Said, word: &[u8], argument: usize) {

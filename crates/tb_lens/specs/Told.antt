@@ -1,5 +1,6 @@
 -- What `at` tells of the scripts in files.
-use Rattle.std.specs.Prelude.{◌≡◌, ◌≢◌, ℕ, ◌<◌, ◌≤◌, List, [], ◌∷◌, ◌++◌, length, Option, None, IfSome, Contains}
+use Rattle.std.specs.Prelude.{◌≡◌, ◌≢◌, ℕ, ◌<◌, ◌≤◌, List, [], ◌∷◌, ◌++◌, length, Option, None, IfSome, Result, Ok, Err}
+use Rattle.tb_edge.specs.Faults.{Rose}
 use Rattle.tb_edge.specs.Sinks.{Writes, WritesPrefix}
 use Rattle.tb_body.specs.declared.program.Program.{Program}
 use Rattle.tb_script.specs.Findings.{IsFound, Program'}
@@ -52,14 +53,38 @@ pub record AtOutcome (held : List ℕ → Option (List ℕ)) (names : List (List
   pub says : Says text status
   pub written : Writes old new text
 
+-- Some of the names were asked for, the first of them, in order.
+pub record AsksSome (names old new : List (List ℕ)) : Type 0 where
+  pub asked : List (List ℕ)
+  pub others : List (List ℕ)
+  pub first : asked ++ others ≡ names
+  pub is : new ≡ old ++ asked
+
+-- which names were asked for in a call: all of them, in order, unless it failed before the output
+abbrev pub Asks : List (List ℕ) → Result Status Reason → List (List ℕ) → List (List ℕ) → Type 0
+Asks names (Ok status) old new = new ≡ old ++ names
+Asks names (Err trouble.Out) old new = new ≡ old ++ names
+Asks names (Err _) old new = AsksSome names old new
+
+-- The names up to this one were asked for, and nothing else. The last load, that of this name, failed.
+pub record CantRead {S : Type 0} (asked : S → List (List ℕ)) (faults : S → ℕ) (names : List (List ℕ)) (name : List ℕ) (old new : S) : Type 0 where
+  pub start : List (List ℕ)
+  pub others : List (List ℕ)
+  pub among : start ++ name ∷ others ≡ names
+  pub before : S
+  pub asked_before : asked before ≡ asked old ++ start
+  pub never_fell : faults old ≤ faults before
+  pub asked_last : asked new ≡ asked before ++ name ∷ []
+  pub failed : Rose (faults before) (faults new)
+
 -- Why nothing is told: one of the files couldn't be read, or what is told couldn't be written. Memory may run out at any time.
-abbrev pub IsReason : List (List ℕ) → Type 0 → Type 0 → Reason → Type 0
-IsReason names files_failed out_failed (trouble.File name) = Contains names name.bytes.items × files_failed
-IsReason names files_failed out_failed trouble.Out = out_failed
-IsReason names files_failed out_failed trouble.NoMemory = Unit {0}
-IsReason names files_failed out_failed (trouble.TooLong name) = ⊥
-IsReason names files_failed out_failed (trouble.Script name) = ⊥
-IsReason names files_failed out_failed trouble.Input = ⊥
+abbrev pub IsReason : {S : Type 0} → (S → List (List ℕ)) → (S → ℕ) → List (List ℕ) → S → S → Type 0 → Reason → Type 0
+IsReason asked faults names old new out_failed (trouble.File name) = CantRead asked faults names name.bytes.items old new
+IsReason asked faults names old new out_failed trouble.Out = out_failed
+IsReason asked faults names old new out_failed trouble.NoMemory = Unit {0}
+IsReason asked faults names old new out_failed (trouble.TooLong name) = ⊥
+IsReason asked faults names old new out_failed (trouble.Script name) = ⊥
+IsReason asked faults names old new out_failed trouble.Input = ⊥
 
 -- what is told of all files, of which the beginning is written
 abbrev pub TellsInPart : (List ℕ → Option (List ℕ)) → List (List ℕ) → Option (List ℕ) → Option (List ℕ) → Type 0

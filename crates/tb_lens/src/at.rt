@@ -1,8 +1,8 @@
 //! `at`: the error of each script, and its place.
-ghost use Rattle.std.specs.Prelude.{◌≡◌, ℕ, ◌≤◌, List, [], ◌∷◌, Option, IfOk, IfErr, map};
+ghost use Rattle.std.specs.Prelude.{◌≡◌, ℕ, ◌≤◌, List, [], ◌∷◌, ◌++◌, Option, IfOk, IfErr, map};
 ghost use Rattle.tb_edge.specs.Faults.{Rose};
 ghost use Rattle.tb_point.specs.Points.{IsPoint, TellsFault};
-ghost use Rattle.tb_lens.specs.Told.{AtFailure, AtOutcome, IsLoaded, IsReason, Says, TellsOf, TellsOfAll, long_point};
+ghost use Rattle.tb_lens.specs.Told.{Asks, AsksSome, AtFailure, AtOutcome, IsLoaded, IsReason, Says, TellsOf, TellsOfAll, long_point};
 
 use crate::status::{Status, Trouble};
 use std::alloc::Global;
@@ -17,7 +17,7 @@ pub(crate) const MOST_BYTES: usize = 1_048_576;
 
 /// Reports the error of each script in the files of these names, and its place. If a file can't be read, the call
 /// writes nothing.
-#[tactic(auto, using(crate::proofs::Tellings::outcome, crate::proofs::Reasons::reason_anyhow, crate::proofs::Reasons::untold))]
+#[tactic(auto, using(crate::proofs::Tellings::outcome, crate::proofs::Reasons::reason_anyhow, crate::proofs::Reasons::untold, crate::proofs::Asking::asks_anyhow))]
 pub fn tell_at<F: Files, O: Sink>(
     alloc: Global,
     scripts: &[&str],
@@ -28,9 +28,10 @@ pub fn tell_at<F: Files, O: Sink>(
         (O.taken out.old) (O.taken out.new)) }
     ensures err { IfErr result (AtFailure (F.held files.old) (map (λ name. name.now) scripts.now)
         (O.taken out.old) (O.taken out.new)) }
-    ensures reason { IfErr result (IsReason (map (λ name. name.now) scripts.now)
-        (Rose (F.faults files.old) (F.faults files.new))
-        (Rose (O.faults out.old) (O.faults out.new))) }
+    ensures asks { Asks (map (λ name. name.now) scripts.now) result
+        (F.asked files.old) (F.asked files.new) }
+    ensures reason { IfErr result (IsReason F.asked F.faults (map (λ name. name.now) scripts.now)
+        files.old files.new (Rose (O.faults out.old) (O.faults out.new))) }
 {
     let text = tell_all(alloc, scripts, files)?;
     match out.put(text.as_slice()) {
@@ -50,12 +51,16 @@ fn status_of(text: &[u8]) -> Status
 }
 
 /// The reports on the scripts, in their order.
-#[tactic(auto, using(crate::proofs::Reasons::reason_of_first, crate::proofs::Reasons::reason_of_others))]
+#[tactic(auto, using(crate::proofs::Reasons::reason_of_first, crate::proofs::Reasons::reason_of_others, crate::proofs::Asking::asks_nothing, crate::proofs::Asking::asks_first, crate::proofs::Asking::asks_others, crate::proofs::Asking::asks_each))]
 fn tell_all<F: Files>(alloc: Global, scripts: &[&str], files: &mut F) -> Result<Vec<u8>, Trouble>
     ensures tells { IfOk result (λ text. TellsOfAll (F.held files.old)
         (map (λ name. name.now) scripts.now) text.items) }
-    ensures reason { IfErr result (IsReason (map (λ name. name.now) scripts.now)
-        (Rose (F.faults files.old) (F.faults files.new)) ⊥) }
+    ensures asks { IfOk result (λ text. F.asked files.new
+        ≡ F.asked files.old ++ map (λ name. name.now) scripts.now) }
+    ensures asks_some { IfErr result (λ trouble. AsksSome (map (λ name. name.now) scripts.now)
+        (F.asked files.old) (F.asked files.new)) }
+    ensures reason { IfErr result (IsReason F.asked F.faults (map (λ name. name.now) scripts.now)
+        files.old files.new ⊥) }
 {
     match scripts {
         [] => Ok(Vec::new(alloc)),
@@ -72,8 +77,11 @@ fn tell_all<F: Files>(alloc: Global, scripts: &[&str], files: &mut F) -> Result<
 fn tell<F: Files>(alloc: Global, name: &str, files: &mut F) -> Result<Vec<u8>, Trouble>
     ensures tells { IfOk result (λ text. TellsOf (F.held files.old name.now) name.now text.items) }
     ensures held { F.held files.new ≡ F.held files.old }
+    ensures asks { IfOk result (λ text. F.asked files.new ≡ F.asked files.old ++ name.now ∷ []) }
+    ensures asks_some { IfErr result (λ trouble. AsksSome (name.now ∷ [])
+        (F.asked files.old) (F.asked files.new)) }
     ensures reason { IfErr result
-        (IsReason (name.now ∷ []) (Rose (F.faults files.old) (F.faults files.new)) ⊥) }
+        (IsReason F.asked F.faults (name.now ∷ []) files.old files.new ⊥) }
     ensures never_falls { F.faults files.old ≤ F.faults files.new }
 {
     match files.load(alloc, name, MOST_BYTES) {

@@ -1,9 +1,15 @@
 use Rattle.std.proofs.Common.{◌≡◌, ◌+◌, ◌++◌, All, map, drop}
+use Rattle.tb_chart.specs.Lifelines.{HasLines}
 use Rattle.tb_chart.specs.Named.{NamesTools}
 use Rattle.tb_chart.specs.Rows.{seen_row, rows_from}
 use Rattle.tb_chart.proofs.chart.chart_of.Given as goal
 
--- With the rows of the entries that are left, the rows so far are all. Each names the tools at its ends.
+-- With the rows of the entries that are left, the rows so far are all. Each names the tools at its ends, and has lifelines.
 abbrev pub invariant-loop-index : goal.invariant-loop-index
-invariant-loop-index l = (map seen_row l.rows.items ++ rows_from l.span.from l.span.to (l.index + 1) (drop l.index l.entries)
-    ≡ rows_from l.span.from l.span.to 1 l.entries) × All (NamesTools l.cast.tools.items) l.rows.items
+invariant-loop-index l = record {
+  cast : l.scene.cast.now ≡ l.cast;
+  rows : map seen_row l.rows.items ++ rows_from l.cast l.span l.scene.players.items (l.index + 1) (drop l.index l.entries)
+      ≡ rows_from l.cast l.span l.cast.roots.items 1 l.entries;
+  named : All (NamesTools l.cast.tools.items) l.rows.items;
+  lines : All (HasLines l.lines) l.rows.items;
+}

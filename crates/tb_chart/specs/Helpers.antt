@@ -1,0 +1,2 @@
+-- Definitions that proofs and private functions need, and that nobody has to believe.
+pub mod Additions

@@ -1,0 +1,142 @@
+//! Notes at what is begun before a token that spells no script, and isn't finished.
+
+use crate::calls::say_repetition;
+use crate::said::Said;
+use crate::source::{Source, is_among};
+use crate::syntax::{begins_process, has};
+
+/// The symbols that stand between two processes.
+static BETWEEN: [&str; 5] = [".", "+", "*", "||", ">>"];
+
+/// The other tokens before which a process has ended.
+static ENDS: [&str; 7] = [")", "endlet", "fi", "else", "process", "tool", "toolbus"];
+
+/// What is closed: how it begins, how it ends, and what is said of one without its end.
+static CLOSED: [(&str, &str, &str); 5] = [
+    ("(", ")", "this `(` isn't closed"),
+    ("[", "]", "this `[` isn't closed"),
+    ("{", "}", "this `{` isn't closed"),
+    ("if", "fi", "this `if` has no `fi`"),
+    ("let", "endlet", "this `let` has no `endlet`"),
+];
+
+/// Whether a process is missing at this token, behind a symbol that stands between two.
+pub(crate) fn is_behind_symbol(source: &Source, expected: &[&'static str], token: usize) -> bool {
+    let found = source.word(token);
+    let has_ended = found.is_empty()
+        || is_among(ENDS.as_slice(), found)
+        || is_symbol(source, token);
+    has_ended && begins_process(expected) && is_symbol(source, token.saturating_sub(1))
+}
+
+/// Whether a symbol that stands between two processes is at this token.
+pub(crate) fn is_symbol(source: &Source, token: usize) -> bool {
+    is_among(BETWEEN.as_slice(), source.word(token))
+}
+
+/// Adds a note at the symbol before this token: no process stands behind it.
+pub(crate) fn note_symbol(said: &mut Said, token: usize) {
+    let source = said.source;
+    let symbol = token.saturating_sub(1);
+    said.note(
+        symbol,
+        "nothing stands behind this `%`",
+        &[source.word(symbol)],
+    );
+    if source.is(symbol, "*") {
+        say_repetition(said);
+    }
+}
+
+/// Adds a note at the innermost construct around this token, if it may end here and ends nowhere.
+pub(crate) fn note_open(said: &mut Said, expected: &[&'static str], token: usize) {
+    let source = said.source;
+    let Some(open) = open_before(&source, token) else {
+        return;
+    };
+    for (begin, end, note) in CLOSED.as_slice() {
+        let may_end = source.is(open, *begin) && has(expected, *end);
+        if may_end && !is_closed(&source, open, token, *end) {
+            said.note(open, *note, &[]);
+        }
+    }
+}
+
+/// The last token before this one that begins what isn't closed between them.
+fn open_before(source: &Source, token: usize) -> Option<usize> {
+    let mut depth: usize = 0;
+    for position in (0..token).rev() {
+        let word = source.word(position);
+        if is_end(word) {
+            depth = depth.saturating_add(1);
+        } else if is_begin(word) {
+            if depth == 0 {
+                return Some(position);
+            }
+            depth = depth.saturating_sub(1);
+        }
+    }
+    None
+}
+
+/// Whether this end comes for what begins at `open`, from this token on. A wrong end is passed over as superfluous
+/// if nothing around `open` can have it.
+fn is_closed(source: &Source, open: usize, token: usize, end: &str) -> bool {
+    let mut depth: usize = 0;
+    for position in token..source.tokens.len() {
+        let word = source.word(position);
+        if is_definition(word) {
+            return false;
+        } else if is_begin(word) {
+            depth = depth.saturating_add(1);
+        } else if is_end(word) {
+            if depth == 0 {
+                return word == end.as_bytes() || !is_wanted(source, open, word);
+            }
+            depth = depth.saturating_sub(1);
+        }
+    }
+    false
+}
+
+/// Whether something that begins before this token can have this end.
+fn is_wanted(source: &Source, token: usize, end: &[u8]) -> bool {
+    let mut inner = token;
+    for _turn in 0..token {
+        let Some(open) = open_before(source, inner) else {
+            return false;
+        };
+        if end_of(source.word(open)) == end {
+            return true;
+        }
+        inner = open;
+    }
+    false
+}
+
+fn is_begin(word: &[u8]) -> bool {
+    !end_of(word).is_empty()
+}
+
+/// How that ends which begins with this word.
+fn end_of(word: &[u8]) -> &'static [u8] {
+    for (begin, end, _) in CLOSED.as_slice() {
+        if word == begin.as_bytes() {
+            return end.as_bytes();
+        }
+    }
+    b""
+}
+
+fn is_end(word: &[u8]) -> bool {
+    for (_, end, _) in CLOSED.as_slice() {
+        if word == end.as_bytes() {
+            return true;
+        }
+    }
+    false
+}
+
+fn is_definition(word: &[u8]) -> bool {
+    matches!(word, b"process" | b"tool" | b"toolbus")
+}
