@@ -4,9 +4,7 @@ ghost use Rattle.std.specs.Prelude.{◌≡◌, ◌≤◌, length};
 use std::alloc::{AllocError, Global};
 use std::io;
 use std::io::Read;
-
-/// A line of a tool has at most so many bytes, without its newline.
-const MOST_LINE: usize = 65_536;
+use tb_edge::MOST_LINE;
 
 /// So many bytes are read at once at most.
 const READ_BYTES: usize = 16_384;

@@ -20,3 +20,10 @@ abbrev pub asked_after : Result Loaded FilesFault → List (List ℕ) → List �
 asked_after (Ok loaded) asked name = asked ++ name ∷ []
 asked_after (Err Failed) asked name = asked ++ name ∷ []
 asked_after (Err NoMemory) asked name = asked
+
+-- Some of these names were asked for, the first ones in order.
+pub record AsksSome (names old new : List (List ℕ)) : Type 0 where
+  pub asked : List (List ℕ)
+  pub others : List (List ℕ)
+  pub first : asked ++ others ≡ names
+  pub is : new ≡ old ++ asked

@@ -3,12 +3,15 @@ ghost use Rattle.std.specs.Prelude.{◌≡◌, ℕ, ◌^◌, ◌<◌, ◌≤◌,
 ghost use Rattle.tb_edge.specs.Faults.{Rose};
 ghost use Rattle.tb_edge.specs.Ends.{InletView, inlet_after, MayGive};
 
+/// The longest line of a tool, in bytes without its newline.
+pub const MOST_LINE: usize = 65_536;
+
 /// What an inlet answers.
 #[derive(Clone, Copy, Debug, PartialEq, Eq)]
 pub enum Got {
     /// A line, which the buffer holds now.
     Line,
-    /// A line that is longer than 65,536 bytes, and is gone.
+    /// A line that is longer than [`MOST_LINE`], and is gone.
     Long,
     /// The end of one tool.
     End,

@@ -31,7 +31,7 @@ pub use fail_calls::FailCalls;
 pub use files::{Bytes, Files, FilesFault, Loaded};
 pub use given::{Given, Taken};
 pub use held_files::{HeldFile, HeldFiles};
-pub use inlet::{Got, Inlet};
+pub use inlet::{Got, Inlet, MOST_LINE};
 pub use job::Job;
 pub use lane_pair::LanePair;
 pub use mem_clock::MemClock;

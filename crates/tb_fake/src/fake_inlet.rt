@@ -8,10 +8,7 @@ use crate::{Cue, Cues};
 use std::alloc::Global;
 use std::marker::Model;
 use std::sync::Arc;
-use tb_edge::{Given, Got, Inlet};
-
-/// How many bytes a line has at most.
-const LINE: usize = 65_536;
+use tb_edge::{Given, Got, Inlet, MOST_LINE};
 
 /// An inlet that gives its cues in order, each once the outlet that it watches has taken so many items, and is over
 /// once it has given the last and its own outlet is closed. Where it has looked for one of these 20,000,000 times, it
@@ -108,7 +105,7 @@ fn give(cue: &Cue, line: &mut Vec<u8>) -> Got
     ensures { IsGiving cue.now result line.new.items }
 {
     match &cue.gives {
-        Given::Line(bytes) if bytes.len() <= LINE => {
+        Given::Line(bytes) if bytes.len() <= MOST_LINE => {
             line.clear();
             match line.extend_from_slice(bytes.as_slice()) {
                 Ok(()) => Got::Line,

@@ -5,19 +5,17 @@ ghost use Rattle.tb_lane.specs.ToolLines.{IsToolLine};
 
 use crate::line::line_of;
 use std::alloc::Global;
+use tb_edge::MOST_LINE;
 use tb_log::ToolLine;
 use tb_read::{Limits, TermFault, read_within};
 use tb_terms::{MOST_TERM_LEVELS, MOST_TERM_SIZE, NoMemory};
-
-/// How many bytes a line may have.
-const MOST_BYTES: usize = 65_536;
 
 /// The line of a tool that the bytes are; `Bad` where they are none.
 pub fn read_tool_line(alloc: Global, bytes: &[u8]) -> Result<ToolLine, NoMemory>
     ensures line { IfOk result (IsToolLine bytes.now) }
     ensures shape { IfOk result IsToolLineInShape }
 {
-    if bytes.len() > MOST_BYTES {
+    if bytes.len() > MOST_LINE {
         return Ok(ToolLine::Bad);
     }
     // The name around the parts, which have the limits of terms, is one more node and level.

@@ -12,12 +12,10 @@ ghost use Rattle.tb_refeed.specs.Helpers.Writing.{IsCaused, are_short, entry_lin
 
 use crate::fault::RefeedFault;
 use std::alloc::Global;
+use tb_edge::MOST_LINE;
 use tb_log::{Entry, Input, Reply, Seen, write_seen};
 use tb_log_read::read_log;
 use tb_terms::NoMemory;
-
-/// How many bytes a line of a tool has at most, in a feed as on a lane.
-const MOST_LINE: usize = 65_536;
 
 /// How many bytes the log writes around the words of an entry without a number of its own: `0`, a blank, and the newline.
 const AROUND: usize = 3;

@@ -16,7 +16,8 @@ use Rattle.tb_script.specs.Findings.{IsFound, Program'}
 use Rattle.tb_sim.specs.Simulation.{IsSim, limits_of, sim_start}
 use Rattle.tb_sim.specs.declared.ends.SimEnd.{SimEnd}
 use Rattle.tb_sim.specs.declared.ends.SimEnd.TheVariants as sim
-use Rattle.tb_top.specs.Asking.{AsksAll, AsksBeside, AsksScript, Asks, AsksSome}
+use Rattle.tb_edge.specs.FilesHeld.{AsksSome}
+use Rattle.tb_top.specs.Asking.{AsksAll, AsksBeside, AsksScript, Asks}
 use Rattle.tb_cli.specs.declared.command.Command.{Command}
 use Rattle.tb_cli.specs.declared.command.Command.TheVariants as command
 use Rattle.tb_cli.specs.declared.fault.WordFault.{WordFault}

@@ -27,10 +27,3 @@ AsksBeside told script others old new _ = AsksAll told script others old new
 abbrev pub Asks : {A : Type 0} → (List ℕ → Option (List ℕ)) → List (List ℕ) → List (List ℕ) → List (List ℕ) → Result A Fault → Type 0
 Asks held [] old new answer = new ≡ old
 Asks held (script ∷ others) old new answer = AsksBeside (held script) script others old new answer
-
--- Some of these files were requested, the first ones in order.
-pub record AsksSome (names old new : List (List ℕ)) : Type 0 where
-  pub asked : List (List ℕ)
-  pub others : List (List ℕ)
-  pub first : asked ++ others ≡ names
-  pub is : new ≡ old ++ asked

@@ -3,7 +3,8 @@ ghost use Rattle.std.specs.Prelude.{◌≡◌, Err, Ok, map, string_bytes, vec_l
 ghost use Rattle.tb_cli.specs.Words.{asked};
 ghost use Rattle.tb_cli.specs.Table.{IsWithin};
 ghost use Rattle.tb_edge.specs.Faults.{Rose};
-ghost use Rattle.tb_top.specs.Asking.{Asks, AsksSome};
+ghost use Rattle.tb_edge.specs.FilesHeld.{AsksSome};
+ghost use Rattle.tb_top.specs.Asking.{Asks};
 ghost use Rattle.tb_top.specs.Outcomes.{Comes, CommandOutcome, files_of};
 ghost use Rattle.tb_top.specs.Reporting.{Reported};
 ghost use Rattle.tb_top.specs.Views.{all_seen};

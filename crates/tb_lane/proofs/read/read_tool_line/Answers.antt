@@ -9,4 +9,4 @@ returns-in-Ok-clause-shape c = subst IsToolLineInShape (sym c.line_of.ensures) (
 
 pub returns-in_ok-out_of_memory-in-Err-clause-line : goal.returns-in_ok-out_of_memory-in-Err-clause-line
 returns-in_ok-out_of_memory-in-Err-clause-line c =
-    faulty-line c.args.bytes.now c.in-Err.fault c.if-bytes-gt-MOST_BYTES.false c.in_ok-out_of_memory-in-Err.ensures c.in-Err.ensures.fault
+    faulty-line c.args.bytes.now c.in-Err.fault c.if-bytes-gt-MOST_LINE.false c.in_ok-out_of_memory-in-Err.ensures c.in-Err.ensures.fault
