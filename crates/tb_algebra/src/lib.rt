@@ -9,10 +9,10 @@ mod look;
 mod node;
 mod offer;
 mod plan;
-mod ready;
 mod rewriter;
 mod running;
 mod settings;
+mod times;
 mod values;
 mod walker;
 
@@ -25,8 +25,8 @@ pub use laws::{
 pub use look::store_of;
 pub use offer::Offer;
 pub use plan::Plan;
-pub use ready::is_ready;
 pub use rewriter::Rewriter;
 pub use settings::{set_binds, tested, with_settings};
+pub use times::is_ready;
 pub use values::{accepted_binds, matched_patterns, sent_values};
 pub use walker::Walker;

@@ -7,9 +7,9 @@ ghost use Rattle.tb_algebra.specs.Helpers.OfferViews.{offer_views, shown, or_own
 use crate::found::{Found, copy_own};
 use crate::node::Node;
 use crate::plan::Plan;
-use crate::ready::is_ready;
 use crate::running::Running;
 use crate::settings::{tested, with_settings};
+use crate::times::is_ready;
 use std::alloc::Global;
 use tb_func::Store;
 use tb_terms::{Items, NoMemory};

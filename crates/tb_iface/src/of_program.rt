@@ -42,7 +42,8 @@ fn interface_of_kind(
     tool: &Name,
     kind: &Tool,
 ) -> Result<Interface, NoMemory>
-    ensures { IfOk result (λ found. interface_by program.now tool.now (Some kind.now) ≡ Some found) }
+    ensures { IfOk result
+        (λ found. interface_by program.now tool.now (Some kind.now) ≡ Some found) }
 {
     let command = match &kind.command {
         Some(command) => Some(command.copy(alloc)?),

@@ -60,7 +60,7 @@ pub(crate) fn activate(
     Ok(())
 }
 
-/// Likewise the new marks of one side but for the others; `across` has the pairs of the other side.
+/// Makes the marks of one side active that aren't among the others. `across` has the pairs of the other side.
 #[inline(always)]
 fn activate_side(
     active: &mut Vec<Mark>,
@@ -162,8 +162,7 @@ fn activate_where(active: &mut Vec<Mark>, pairs: &Pairs, mark: Mark) -> Result<(
     Ok(())
 }
 
-/// The marks of one side but for the others are no longer active, where nobody sends under them any more what is
-/// received, or nobody receives.
+/// The marks of one side that aren't among the others become inactive, unless a process still sends under them and another receives.
 #[inline(always)]
 pub(crate) fn quiet_side(
     active: &mut Vec<Mark>,

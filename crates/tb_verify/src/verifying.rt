@@ -36,7 +36,8 @@ pub fn verify<W: Walker>(
     // If the bytes have a verdict, the call returns it, or one of these errors.
     ensures only { (verdict : Verdict)
         → IsVerdict (origin_of program connects.now most_entries) log.now verdict
-        → (result ≡ Ok verdict) ⊎ ((result ≡ Err VerifyFault.Full) ⊎ (result ≡ Err VerifyFault.NoMemory)) }
+        → (result ≡ Ok verdict)
+        ⊎ ((result ≡ Err VerifyFault.Full) ⊎ (result ≡ Err VerifyFault.NoMemory)) }
     ensures full { result ≡ Err VerifyFault.Full → (number : ℕ)
         × IsCrowdedAt (origin_of program connects.now most_entries) log.now number }
 

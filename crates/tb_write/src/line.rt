@@ -13,7 +13,8 @@ use tb_terms::Ident;
 /// Puts the prefix, the line and a newline.
 pub fn put_line<E: Sink>(prefix: &[u8], line: &Message, err: &mut E) -> Result<(), Failed>
     ensures ok { OnOk result
-        (Writes (E.taken err.old) (E.taken err.new) (prefix.now ++ message_text line.now ++ 10 ∷ [])) }
+        (Writes (E.taken err.old) (E.taken err.new)
+        (prefix.now ++ message_text line.now ++ 10 ∷ [])) }
     ensures prefix { OnErr result (WritesPrefix (E.taken err.old) (E.taken err.new)
         (prefix.now ++ message_text line.now ++ 10 ∷ [])) }
     ensures rose { OnErr result (Rose (E.faults err.old) (E.faults err.new)) }

@@ -1,6 +1,6 @@
 use Rattle.std.proofs.Common.{◌≡◌, drop}
 use Rattle.tb_algebra.specs.Atoms.{is_ready}
-use Rattle.tb_algebra.proofs.ready.is_ready.Given as goal
+use Rattle.tb_algebra.proofs.times.is_ready.Given as goal
 
 -- the times that are left decide
 abbrev pub invariant-loop-time : goal.invariant-loop-time
