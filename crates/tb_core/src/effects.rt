@@ -1,16 +1,18 @@
 //! Makes the change of a move beside the process that goes on: notes, tools, creation, and the end of the bus.
 
-ghost use Rattle.std.specs.Prelude.{◌≡◌, ℕ, ◌<◌, ◌≤◌, length, IfOk, IsTrue, OnOk, OnErr, Some, slice_get, true};
+ghost use Rattle.std.specs.Prelude.{◌≡◌, ◌||◌, ℕ, ◌<◌, ◌≤◌, length, IfOk, IsTrue, OnOk, OnErr, Some, slice_get, true, false};
 ghost use Rattle.std.specs.List.{All};
 ghost use Rattle.tb_bus.specs.Effects.{creation, speaking, taking, went_down};
+ghost use Rattle.tb_bus.specs.Exchanges.{bench_after};
 ghost use Rattle.tb_bus.specs.Slots.{fits_formals};
-ghost use Rattle.tb_tools.specs.Lanes.{most_tools};
+ghost use Rattle.tb_log.specs.Shapes.{IsLane};
+ghost use Rattle.tb_tools.specs.Lanes.{most_tools, tool_at};
 ghost use Rattle.tb_search.specs.Candidates.{all_take, row_at, rows_of, wanting};
 ghost use Rattle.tb_search.specs.FoundEffects.{noting};
 ghost use Rattle.tb_index.specs.Indexes.{is_awake};
 ghost use Rattle.tb_living.specs.Indexes.{AreStillAwake, IsAwakeAt};
 ghost use Rattle.tb_core.specs.Helpers.Makings.{effect_in, finding_in, IsPlainIn};
-ghost use Rattle.tb_core.specs.Helpers.LiveBuses.{bus_of, IsSound, IsStaleAt, StandsAs, IsChanged};
+ghost use Rattle.tb_core.specs.Helpers.LiveBuses.{bus_of, AreRoused, IsAwakeUnder, IsSound, IsStaleAt, StandsAs, IsChanged};
 ghost use Rattle.tb_living.specs.Spoken.{CanSpeak, IsDone, around};
 
 use crate::acting::{created, kind_alone, printed, shut_down};
@@ -18,7 +20,10 @@ use crate::bus::LiveBus;
 use std::alloc::Global;
 use tb_algebra::Walker;
 use tb_bus::{Exchange, OwnAction, ToolAction};
-use tb_living::{Done, hand_out, open_at, speak, subscribe_at, take_note_at, unsubscribe_at};
+use tb_index::Mark;
+use tb_living::{
+    Done, hand_out, number_mark, open_at, speak, subscribe_at, take_note_at, unsubscribe_at,
+};
 use tb_log::LabelKind;
 use tb_notes::Found;
 use tb_search::Finding;
@@ -119,6 +124,92 @@ impl<W: Walker> LiveBus<W> {
         Ok(())
     }
 
+    /// So are those that the index has under a mark.
+    fn rouse_marked(&mut self, mark: Mark) -> Result<(), NoMemory>
+        requires sound { IsSound W.view self.old }
+        ensures same { StandsAs W.view self.old self.new }
+        ensures alone { self.new
+            ≡ record self.old { index = self.new.index; roused = self.new.roused } }
+        ensures awake { OnOk result
+            (All (IsAwakeUnder mark self.new.index) self.old.living.items) }
+    {
+        let mut at = 0;
+        while at < self.living.len() {
+            match self.next_marked(mark, at) {
+                Some(place) => {
+                    self.rouse_at(place)?;
+                    at = place + 1;
+                }
+                None => return Ok(()),
+            }
+        }
+        Ok(())
+    }
+
+    /// So are those that speak with the tool of a lane.
+    pub fn rouse_lane(&mut self, lane: u8) -> Result<(), NoMemory>
+        requires sound { IsSound W.view self.old }
+        requires lane { IsLane lane }
+        ensures same { StandsAs W.view self.old self.new }
+        ensures alone { self.new
+            ≡ record self.old { index = self.new.index; roused = self.new.roused } }
+        ensures awake { OnOk result
+            (AreRoused (tool_at lane self.old.bench) self.new.index self.old.living.items) }
+    {
+        match self.bench.number_on(lane) {
+            Some(number) => {
+                self.rouse_marked(number_mark(number))?;
+                Ok(())
+            }
+            None => Ok(()),
+        }
+    }
+
+    /// Wakes whom an exchange with a tool may concern. The result says whether it may concern whoever speaks with any
+    /// tool. What a tool is asked or told lets nobody begin anything.
+    fn disturb_by(&mut self, does: &ToolAction, exchange: &Exchange) -> Result<bool, NoMemory>
+        requires sound { IsSound W.view self.old }
+        requires lane { IsLane exchange.now.lane }
+        requires can { CanSpeak self.old.origin.program.tools self.old.bench
+            does.now exchange.now }
+        ensures same { StandsAs W.view self.old self.new }
+        ensures alone { self.new
+            ≡ record self.old { index = self.new.index; roused = self.new.roused } }
+        ensures quiet { IfOk result (λ stirs. stirs ≡ false
+            → IsSound W.view (record self.new {
+              bench = bench_after
+                  (around self.old.origin.program.tools self.old.bench) does.now exchange.now;
+            })) }
+    {
+        match does {
+            ToolAction::TakeValue(_, _) => {
+                self.rouse_lane(exchange.lane)?;
+                Ok(false)
+            }
+            ToolAction::TakeEvent(_, _) => {
+                self.rouse_lane(exchange.lane)?;
+                Ok(false)
+            }
+            ToolAction::Eval(_) => Ok(false),
+            ToolAction::Do(_) => Ok(false),
+            ToolAction::Acknowledge(_) => Ok(false),
+            ToolAction::Execute(_, _)
+            | ToolAction::Connect(_, _)
+            | ToolAction::DisconnectAny(_, _)
+            | ToolAction::Disconnect(_)
+            | ToolAction::Terminate(_) => Ok(true),
+        }
+    }
+
+    /// Notes, if so, that a lane has changed: who speaks with tools may sleep though a tool would answer.
+    pub fn stir_if(&mut self, stirs: bool)
+        ensures { self.new ≡ record self.old { stirred = self.old.stirred || stirs } }
+    {
+        if stirs {
+            self.stirred = true;
+        }
+    }
+
     /// These get a note, which they want.
     fn send_note(
         &mut self,
@@ -180,6 +271,7 @@ impl<W: Walker> LiveBus<W> {
             (speaking (around self.old.origin.program.tools self.old.bench) does exchange)) }
         ensures err { OnErr result (StandsAs W.view self.old self.new) }
     {
+        let stirs = self.disturb_by(&does, &exchange)?;
         let program = &self.origin.program;
         let done = speak(
             alloc,
@@ -188,8 +280,8 @@ impl<W: Walker> LiveBus<W> {
             does,
             exchange,
         )?;
-        self.stirred = true;
         self.bench.show_lanes();
+        self.stir_if(stirs);
         Ok(done)
     }
 

@@ -5,13 +5,13 @@ ghost use Rattle.std.specs.List.{All};
 ghost use Rattle.tb_search.specs.Candidates.{rows_of};
 ghost use Rattle.tb_index.specs.Indexes.{is_receiver};
 ghost use Rattle.tb_search.specs.Indexed.{IsNextPlace};
-ghost use Rattle.tb_living.specs.Indexes.{tool_mark};
 ghost use Rattle.tb_core.specs.Helpers.LiveBuses.{AreSettled, IsSettledAt, IsSound, IsSetAt, StandsAs};
 ghost use Rattle.tb_living.specs.Lives.{AreFresh, IsFreshOr};
 
 use crate::bus::LiveBus;
 use std::alloc::Global;
 use tb_algebra::Walker;
+use tb_index::Mark;
 use tb_living::{Buffers, TOOL_MARK, look, point_of, turn, update};
 use tb_search::{all_rest, place_of};
 use tb_terms::NoMemory;
@@ -128,7 +128,7 @@ impl<W: Walker> LiveBus<W> {
         Ok(())
     }
 
-    /// So do those that were woken by notes.
+    /// So do those that were woken by notes and tools.
     fn settle_roused(&mut self, alloc: Global) -> Result<(), NoMemory>
         requires { IsSound W.view self.old }
         ensures same { StandsAs W.view self.old self.new }
@@ -141,16 +141,16 @@ impl<W: Walker> LiveBus<W> {
         Ok(())
     }
 
-    /// The next process, from one index on, that may speak with tools.
-    fn next_speaker(&self, from: usize) -> Option<usize>
+    /// The next process, from one index on, that the index has under a mark.
+    pub fn next_marked(&self, mark: Mark, from: usize) -> Option<usize>
         requires sound { IsSound W.view self.now }
         requires within { from < length self.now.living.items }
-        ensures { IsNextPlace (is_receiver self.now.index tool_mark)
+        ensures { IsNextPlace (is_receiver self.now.index mark)
             (rows_of self.now.living.items) from result }
     {
         let found = self
             .index
-            .next_receiver(TOOL_MARK, self.living[from].get().number);
+            .next_receiver(mark, self.living[from].get().number);
         place_of(self.living.as_slice(), from, found)
     }
 
@@ -163,7 +163,7 @@ impl<W: Walker> LiveBus<W> {
     {
         let mut at = 0;
         while at < self.living.len() {
-            match self.next_speaker(at) {
+            match self.next_marked(TOOL_MARK, at) {
                 Some(place) => {
                     self.settle_at(alloc, place)?;
                     at = place + 1;

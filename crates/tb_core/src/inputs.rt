@@ -1,13 +1,14 @@
 //! Receives inputs, and takes what is to be handed out.
 
-ghost use Rattle.std.specs.Prelude.{◌≡◌, ◌<◌, ◌≤◌, ◌+◌, IfOk, IsSome, OnOk, OnErr, Some, false, map};
+ghost use Rattle.std.specs.Prelude.{◌≡◌, ◌<◌, ◌≤◌, ◌+◌, Bool, IfOk, IsSome, OnOk, OnErr, Some, false, map};
 ghost use Rattle.tb_algebra.specs.Walks.{most_ticks};
 ghost use Rattle.tb_log.specs.Shapes.{IsInputInShape, IsLane};
 ghost use Rattle.tb_tools.specs.Lanes.{most_tools};
 ghost use Rattle.tb_tools.specs.Finding.{next_out};
+ghost use Rattle.tb_tools.specs.Inputs.{put_line};
 ghost use Rattle.tb_bus.specs.Traces.{aged_proc, fed, took, taken_out};
 ghost use Rattle.tb_core.specs.Cores.{takes_memory};
-ghost use Rattle.tb_core.specs.Helpers.LiveBuses.{bus_of, procs_in, IsSound};
+ghost use Rattle.tb_core.specs.Helpers.LiveBuses.{bus_of, procs_in, IsSound, StandsAs};
 
 use crate::bus::LiveBus;
 use std::alloc::Global;
@@ -80,10 +81,37 @@ impl<W: Walker> LiveBus<W> {
     {
         let declared = is_declared(self.origin.program.tools.as_slice(), line);
         let line = line.copy(alloc)?;
+        let stirs = self.disturb(lane, &line)?;
         let reply = self.bench.line(lane, line, declared)?;
-        self.stirred = true;
         self.bench.show_lanes();
+        self.stir_if(stirs);
         Ok(reply)
+    }
+
+    /// Wakes whom a line of the tool of a lane may concern. The result says whether it may concern whoever speaks with
+    /// any tool.
+    fn disturb(&mut self, lane: u8, line: &ToolLine) -> Result<bool, NoMemory>
+        requires sound { IsSound W.view self.old }
+        requires lane { IsLane lane }
+        ensures same { StandsAs W.view self.old self.new }
+        ensures alone { self.new
+            ≡ record self.old { index = self.new.index; roused = self.new.roused } }
+        ensures quiet { IfOk result (λ stirs. stirs ≡ false → (declared : Bool)
+            → IsSound W.view (record self.new
+            { bench = (put_line declared line.now lane self.old.bench).bench })) }
+    {
+        match line {
+            ToolLine::Value(_) => {
+                self.rouse_lane(lane)?;
+                Ok(false)
+            }
+            ToolLine::Event(_) => {
+                self.rouse_lane(lane)?;
+                Ok(false)
+            }
+            ToolLine::Connect(_) | ToolLine::Disconnect => Ok(true),
+            ToolLine::Bad => Ok(false),
+        }
     }
 
     /// The tool of a lane has ended. This takes no memory.
@@ -130,8 +158,9 @@ impl<W: Walker> LiveBus<W> {
         ensures bus { bus_of W.view self.new ≡ taken_out lane (bus_of W.view self.old) }
     {
         let handout = self.bench.take_handout(lane);
-        self.stirred = true;
+        let stirs = self.bench.is_free(lane);
         self.bench.show_lanes();
+        self.stir_if(stirs);
         handout
     }
 }

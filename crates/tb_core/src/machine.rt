@@ -295,7 +295,8 @@ impl<W: Walker> Core<W> {
         ensures follows { IfOk result
             (λ legal. Follows self.old (Entry.Fed input.now reply) legal self.new) }
         ensures room { IfOk result
-            (λ legal. legal ≡ true → lacks_room self.old (Some (Entry.Fed input.now reply)) ≡ false) }
+            (λ legal. legal ≡ true
+            → lacks_room self.old (Some (Entry.Fed input.now reply)) ≡ false) }
         ensures running { IsErrOf result CoreFault.Stopped → ⊥ }
         ensures full { IsErrOf result CoreFault.Full
             → IsCrowded self.old (Entry.Fed input.now reply) }
@@ -314,7 +315,8 @@ impl<W: Walker> Core<W> {
         ensures follows { IfOk result
             (λ legal. Follows self.old (Entry.Gave lane out.now) legal self.new) }
         ensures room { IfOk result
-            (λ legal. legal ≡ true → lacks_room self.old (Some (Entry.Gave lane out.now)) ≡ false) }
+            (λ legal. legal ≡ true
+            → lacks_room self.old (Some (Entry.Gave lane out.now)) ≡ false) }
         ensures running { IsErrOf result CoreFault.Stopped → ⊥ }
         ensures full { IsErrOf result CoreFault.Full → IsCrowded self.old (Entry.Gave lane out.now) }
         ensures err { OnErr result (Stays self.old self.new) }

@@ -2,6 +2,7 @@ pub mod ReadLemmas
 pub mod ActionLemmas
 pub mod NumberLemmas
 pub mod IndexLemmas
+pub mod LaneLemmas
 pub mod HoldLemmas
 pub mod RestLemmas
 pub mod OpenLemmas

@@ -25,7 +25,7 @@ use Rattle.tb_search.specs.declared.living.Ready.{Ready}
 use Rattle.tb_search.proofs.IndexLemmas.{all-left, all-right}
 use Rattle.tb_search.proofs.PlaceLemmas.{ascend-less, row-read}
 use Rattle.tb_living.specs.Holdings.{bare, bares_of, helds_of, held_at, IsHeldAt, with_given}
-use Rattle.tb_living.specs.Indexes.{AreStillAwake, IsAwakeAt, IsRested, IsRightFor, IsMarked, IsRightForAll, KeepsOf, found_by, found_marks, is_silent, own_rests_with, rest_among, rest_with, rests_among, rests_with, spoken_in, tool_mark, tool_marks}
+use Rattle.tb_living.specs.Indexes.{AreStillAwake, IsAwakeAt, IsRested, IsRightFor, IsMarked, IsRightForAll, KeepsOf, found_by, found_marks, is_silent, number_in, number_marks, own_rests_with, rest_among, rest_with, rests_among, rests_with, spoken_in, tool_mark, tool_marks}
 use Rattle.tb_living.specs.Lives.{AreFresh}
 use Rattle.tb_living.proofs.IndexLemmas.{neither}
 
@@ -305,7 +305,7 @@ module _ {W : Type 0} (all : List (Living W)) (order : ascend 0 (rows_of all) �
 
 spoken-unheard : (setting : Setting) (index : IndexState) (proc : ℕ) (does : Option ToolAction) → receives index tool_mark proc ≡ false → All (λ (mark : Mark). receives index mark proc ≡ true) (tool_marks does) → is_silent setting does ≡ true
 spoken-unheard setting index proc None deaf h = refl
-spoken-unheard setting index proc (Some does) deaf h = absurd (false≢true (sym deaf ∙ All-head (λ (mark : Mark). receives index mark proc ≡ true) tool_mark [] h))
+spoken-unheard setting index proc (Some does) deaf h = absurd (false≢true (sym deaf ∙ All-head (λ (mark : Mark). receives index mark proc ≡ true) tool_mark (number_marks (number_in does)) h))
 
 among-unheard : (setting : Setting) (index : IndexState) (proc : ℕ) (does : Action) → receives index tool_mark proc ≡ false → All (λ (mark : Mark). receives index mark proc ≡ true) (found_by does) → rests_among setting does ≡ true
 among-unheard setting index proc (action.Own does) deaf h = spoken-unheard setting index proc (spoken_in does) deaf h
@@ -368,7 +368,7 @@ row-asleep settings index living fresh h asleep = all-whole (settings living.bod
 
 spoken-one : (P : Mark → Type 0) (does : Option ToolAction) (more less : List Mark) → (All P more → All P less) → All P (tool_marks does ++ more) → All P less
 spoken-one P None more less to h = to h
-spoken-one P (Some does) more less to h = to (All-tail P tool_mark more h)
+spoken-one P (Some does) more less to h = to (all-right P (number_marks (number_in does)) more (All-tail P tool_mark (number_marks (number_in does) ++ more) h))
 
 found-one : (P : Mark → Type 0) (does : Action) (more less : List Mark) → (All P more → All P less) → All P (found_by does ++ more) → All P (received_by does ++ less)
 found-one P (action.Own does) more less to h = spoken-one P (spoken_in does) more less to h

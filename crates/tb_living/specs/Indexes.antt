@@ -1,6 +1,9 @@
 -- When an index is right for the living.
-use Rattle.std.specs.Prelude.{◌≡◌, ◌==◌, ◌||◌, ◌&&◌, ℕ, List, [], ◌∷◌, ◌++◌, Bool, true, false, not, Option, Some, None, is_some}
+use Rattle.std.specs.Prelude.{◌≡◌, ◌==◌, ◌||◌, ◌&&◌, ℕ, ◌+◌, ℤ, pos, negsuc, List, [], ◌∷◌, ◌++◌, Bool, true, false, not, Option, Some, None, is_some}
 use Rattle.std.specs.List.{All}
+use Rattle.tb_terms.specs.declared.term.Term.{Term, out-Term}
+use Rattle.tb_terms.specs.declared.term.Term.TheOpen.{Term-F}
+use Rattle.tb_terms.specs.declared.term.Term.TheOpen as term
 use Rattle.tb_index.specs.Indexes.{HasRoom, IndexState, is_awake, receives, sends}
 use Rattle.tb_index.specs.Marks.{has_mark, received_mark}
 use Rattle.tb_index.specs.declared.mark.Mark.{Mark}
@@ -13,6 +16,7 @@ use Rattle.tb_bus.specs.declared.action.Action.TheVariants as action
 use Rattle.tb_bus.specs.declared.action.OwnAction.{OwnAction}
 use Rattle.tb_bus.specs.declared.action.OwnAction.TheVariants as own
 use Rattle.tb_bus.specs.declared.action.ToolAction.{ToolAction}
+use Rattle.tb_bus.specs.declared.action.ToolAction.TheVariants as tool
 use Rattle.tb_search.specs.declared.living.Ready.{Ready}
 use Rattle.tb_search.specs.declared.living.Living.{Living}
 
@@ -33,6 +37,59 @@ pub record HasNothing (index : IndexState) (number : ℕ) : Type 0 where
 abbrev pub tool_mark : Mark
 tool_mark = record { count = 18446744073709551615; head = 1 }
 
+-- The mark of whoever speaks with the tool of a number: under it these are found once nothing but what this tool has to
+-- give has changed.
+abbrev pub number_mark : ℕ → Mark
+number_mark number = record { count = 18446744073709551615; head = 2 + number }
+
+abbrev pub natural : ℤ → Option ℕ
+natural (pos n) = Some n
+natural (negsuc n) = None
+
+abbrev pub natural_in : Term-F Term → Option ℕ
+natural_in (term.Int number) = natural number
+natural_in (term.Str bytes) = None
+natural_in (term.Appl name parts) = None
+natural_in (term.List parts) = None
+
+-- the number with which these parts begin
+abbrev pub first_number : List Term → Option ℕ
+first_number [] = None
+first_number (part ∷ parts) = natural_in (out-Term part)
+
+abbrev pub number_by : Term-F Term → Option ℕ
+number_by (term.Int number) = None
+number_by (term.Str bytes) = None
+number_by (term.Appl name parts) = first_number parts
+number_by (term.List parts) = None
+
+-- the number that a term has where it is that of a tool
+abbrev pub number_of : Term → Option ℕ
+number_of term = number_by (out-Term term)
+
+-- the number of the tool that is the first of these terms
+abbrev pub number_among : List Term → Option ℕ
+number_among [] = None
+number_among (term ∷ terms) = number_of term
+
+-- the number of the tool with which an action speaks, where it names one
+abbrev pub number_in : ToolAction → Option ℕ
+number_in (tool.Execute kind slot) = None
+number_in (tool.Connect kind slot) = None
+number_in (tool.DisconnectAny kind slot) = None
+number_in (tool.Disconnect terms) = number_among terms
+number_in (tool.Eval terms) = number_among terms
+number_in (tool.TakeValue terms patterns) = number_among terms
+number_in (tool.Do terms) = number_among terms
+number_in (tool.TakeEvent terms patterns) = number_among terms
+number_in (tool.Acknowledge terms) = number_among terms
+number_in (tool.Terminate terms) = number_among terms
+
+-- the mark of this tool, where one is named
+abbrev pub number_marks : Option ℕ → List Mark
+number_marks None = []
+number_marks (Some number) = number_mark number ∷ []
+
 -- how what a process does by itself speaks with a tool, where it does
 abbrev pub spoken_in : OwnAction → Option ToolAction
 spoken_in own.Tau = None
@@ -49,9 +106,9 @@ spoken_in (own.Shutdown reason) = None
 
 abbrev pub tool_marks : Option ToolAction → List Mark
 tool_marks None = []
-tool_marks (Some does) = tool_mark ∷ []
+tool_marks (Some does) = tool_mark ∷ number_marks (number_in does)
 
--- under which marks an action is found: those of what it receives, and that of tools
+-- under which marks an action is found: those of what it receives, and those of tools
 abbrev pub found_by : Action → List Mark
 found_by (action.Own own) = tool_marks (spoken_in own)
 found_by (action.Send terms) = []

@@ -3,3 +3,4 @@ pub mod Holdings
 pub mod Indexes
 pub mod Ticking
 pub mod Spoken
+pub mod Helpers

@@ -1,18 +1,20 @@
 //! The marks of the living processes, and the index that holds them.
-ghost use Rattle.std.specs.Prelude.{◌≡◌, ◌≢◌, ◌++◌, ℕ, [], Bool, IfOk, OnOk, not, true, false};
+ghost use Rattle.std.specs.Prelude.{◌≡◌, ◌≢◌, ◌<◌, ◌^◌, ◌++◌, ℕ, [], Bool, IfOk, OnOk, Some, not, true, false};
+ghost use Rattle.std.specs.Option.{ForSome};
+ghost use Rattle.tb_terms.specs.declared.term.Term.{out-Term};
 ghost use Rattle.std.specs.List.{All};
 ghost use Rattle.tb_index.specs.Indexes.{HasRoom, IsTurned};
 ghost use Rattle.tb_search.specs.Indexed.{sent_by, sent_marks};
 ghost use Rattle.tb_bus.specs.Exchanges.{setting_by};
-ghost use Rattle.tb_living.specs.Indexes.{HasNothing, IsRested, IsRightFor, KeepsOf, found_by, found_marks, spoken_in, tool_mark, tool_marks};
+ghost use Rattle.tb_living.specs.Indexes.{HasNothing, IsRested, IsRightFor, KeepsOf, found_by, found_marks, natural_in, number_among, number_in, number_mark, spoken_in, tool_marks};
 
 use std::alloc::Global;
 use std::mem;
 use tb_body::Program;
-use tb_bus::{Action, OwnAction};
+use tb_bus::{Action, OwnAction, ToolAction};
 use tb_index::{Index, Mark, Marks, received_mark, sent_mark};
 use tb_search::{Living, Ready, all_rest};
-use tb_terms::NoMemory;
+use tb_terms::{NoMemory, Term};
 use tb_tools::Bench;
 
 /// The mark of whoever speaks with tools. No message has as many terms.
@@ -20,6 +22,70 @@ pub const TOOL_MARK: Mark = Mark {
     count: usize::MAX,
     head: 1,
 };
+
+/// The mark of whoever speaks with the tool that has this number.
+pub fn number_mark(number: u32) -> Mark
+    ensures { result ≡ number_mark number }
+{
+    mark_of(u64::from(number))
+}
+
+fn mark_of(number: u64) -> Mark
+    requires { number < 2 ^ 63 }
+    ensures { result ≡ number_mark number }
+{
+    Mark {
+        count: usize::MAX,
+        head: 2 + number,
+    }
+}
+
+/// A number that isn't negative.
+fn natural(part: &Term) -> Option<u64>
+    ensures number { result ≡ natural_in (out-Term part.now) }
+    ensures within { ForSome result (λ number. number < 2 ^ 63) }
+{
+    match part {
+        Term::Int(number) => match u64::try_from(*number) {
+            Ok(number) => Some(number),
+            Err(_) => None,
+        },
+        Term::Str(_) | Term::Appl(_, _) | Term::List(_) => None,
+    }
+}
+
+/// The number of the tool that is the first of these terms.
+fn number_among(terms: &[Term]) -> Option<u64>
+    ensures number { result ≡ number_among terms.now }
+    ensures within { ForSome result (λ number. number < 2 ^ 63) }
+{
+    match terms.first() {
+        Some(Term::Appl(_, parts)) => match parts.as_slice().first() {
+            Some(part) => natural(part),
+            None => None,
+        },
+        _ => None,
+    }
+}
+
+/// The number of the tool with which an action speaks, where it names one.
+fn number_in(does: &ToolAction) -> Option<u64>
+    ensures number { result ≡ number_in does.now }
+    ensures within { ForSome result (λ number. number < 2 ^ 63) }
+{
+    match does {
+        ToolAction::Execute(_, _) | ToolAction::Connect(_, _) | ToolAction::DisconnectAny(_, _) => {
+            None
+        }
+        ToolAction::Disconnect(terms)
+        | ToolAction::Eval(terms)
+        | ToolAction::TakeValue(terms, _)
+        | ToolAction::Do(terms)
+        | ToolAction::TakeEvent(terms, _)
+        | ToolAction::Acknowledge(terms)
+        | ToolAction::Terminate(terms) => number_among(terms.as_slice()),
+    }
+}
 
 /// No marks.
 pub fn no_marks(alloc: Global) -> Marks
@@ -44,14 +110,26 @@ pub fn index_of(alloc: Global, numbers: &[u32]) -> Result<Index, NoMemory>
     Ok(index)
 }
 
-/// Adds the mark of tools, where a process speaks with one.
-fn push_tool_mark(marks: &mut Marks, own: &OwnAction) -> Result<(), NoMemory>
+/// Adds the marks of an action that speaks with tools.
+fn push_tool_marks(marks: &mut Vec<Mark>, does: &ToolAction) -> Result<(), NoMemory>
+    ensures { OnOk result
+        (marks.new.items ≡ marks.old.items ++ tool_marks (Some does.now)) }
+{
+    marks.push(TOOL_MARK)?;
+    if let Some(number) = number_in(does) {
+        marks.push(mark_of(number))?;
+    }
+    Ok(())
+}
+
+/// Adds the marks of tools, where a process speaks with one.
+fn push_own_marks(marks: &mut Marks, own: &OwnAction) -> Result<(), NoMemory>
     ensures sends { marks.new.sends ≡ marks.old.sends }
     ensures receives { OnOk result
         (marks.new.receives.items ≡ marks.old.receives.items ++ tool_marks (spoken_in own.now)) }
 {
     match own {
-        OwnAction::Speak(_) => marks.receives.push(TOOL_MARK)?,
+        OwnAction::Speak(does) => push_tool_marks(&mut marks.receives, does)?,
         OwnAction::Tau
         | OwnAction::Set(_, _)
         | OwnAction::Print(_)
@@ -66,7 +144,7 @@ fn push_tool_mark(marks: &mut Marks, own: &OwnAction) -> Result<(), NoMemory>
     Ok(())
 }
 
-/// Adds the mark of what an action sends or receives, or that of tools.
+/// Adds the mark of what an action sends or receives, or those of tools.
 fn push_mark(marks: &mut Marks, action: &Action) -> Result<(), NoMemory>
     ensures sends { OnOk result
         (marks.new.sends.items ≡ marks.old.sends.items ++ sent_by action.now) }
@@ -76,7 +154,7 @@ fn push_mark(marks: &mut Marks, action: &Action) -> Result<(), NoMemory>
     match action {
         Action::Send(terms) => marks.sends.push(sent_mark(terms))?,
         Action::Receive(patterns) => marks.receives.push(received_mark(patterns))?,
-        Action::Own(own) => push_tool_mark(marks, own)?,
+        Action::Own(own) => push_own_marks(marks, own)?,
     }
     Ok(())
 }

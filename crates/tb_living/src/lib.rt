@@ -14,7 +14,7 @@ mod ticking;
 pub use buffers::Buffers;
 pub use done::Done;
 pub use inboxes::{hand_out, subscribe_at, take_note_at, unsubscribe_at};
-pub use indexing::{TOOL_MARK, index_of, no_marks, turn, update};
+pub use indexing::{TOOL_MARK, index_of, no_marks, number_mark, turn, update};
 pub use looking::{go_on, look, point_of};
 pub use opening::{numbers_of, open_all, open_at, plan_all};
 pub use speaking::{is_declared, seen_size, speak};

@@ -4,12 +4,13 @@ ghost use Rattle.std.specs.List.{All};
 ghost use Rattle.std.specs.Option.{ForSome};
 ghost use Rattle.tb_func.specs.declared.slot.Slot.{Slot};
 ghost use Rattle.tb_algebra.specs.Atoms.{act_of, times_of};
-ghost use Rattle.tb_algebra.specs.Binds.{has_slot_sort, takes_binds};
+ghost use Rattle.tb_algebra.specs.Binds.{takes_binds};
 ghost use Rattle.tb_algebra.specs.Offers.{Offered};
-ghost use Rattle.tb_algebra.specs.Walks.{fired, is_end, offers_of, patterns_by, seen, seen_offers, sent_by, sorts_of};
+ghost use Rattle.tb_algebra.specs.Walks.{fired, is_end, offers_of, seen, seen_offers, sorts_of};
 ghost use Rattle.tb_func.specs.Printing.{printf_of};
 ghost use Rattle.tb_bus.specs.Actions.{action_in, action_of, create_action, print_action, set_action, shutdown_action, speak_about};
 ghost use Rattle.tb_search.specs.Candidates.{ascend, ready_one, readies, rows_of};
+ghost use Rattle.tb_living.specs.Helpers.Parts.{message_by};
 ghost use Rattle.tb_living.specs.Lives.{IsFreshFor, IsLiveOn, IsTimeless, IsWhere, proc_by};
 
 use crate::buffers::Buffers;
@@ -19,18 +20,8 @@ use tb_body::{Act, Atom, Body};
 use tb_bus::{Action, OwnAction, ToolAction};
 use tb_func::printf_text;
 use tb_match::{Bind, Binds};
-use tb_search::{Apart, Living, Ready};
-use tb_terms::{Items, NoMemory, Patterns, Sorts, Term, Terms, has_sort};
-
-/// Whether there is such a slot, and the value has its sort.
-fn takes(sorts: &Sorts, slot: u32, value: &Term) -> bool
-    ensures { result ≡ has_slot_sort (slice_get sorts.now slot) value.now }
-{
-    match sorts.get(slot as usize) {
-        Some(sort) => has_sort(value, sort),
-        None => false,
-    }
-}
+use tb_search::{Apart, Living, Ready, has_slot_sort};
+use tb_terms::{Items, NoMemory, Patterns, Sorts, Terms};
 
 /// The slot takes the value, where there is one that has the slot's sort.
 fn set_action(
@@ -49,7 +40,7 @@ fn set_action(
         return Ok(None);
     }
     let value = &values.as_slice()[0];
-    if !takes(sorts, slot, value) {
+    if !has_slot_sort(sorts.as_slice(), slot, value) {
         return Ok(None);
     }
     let value = value.copy(alloc)?;
@@ -176,42 +167,23 @@ fn action_in<W: Walker>(
     }
 }
 
-/// Puts what an offered atom sends at the end of what is ready, where its values are there. What is found is
-/// written in place, here and below, since each function that hands it on costs as much as the finding.
-fn push_send<W: Walker>(
-    alloc: Global,
-    plan: &W::Plan,
-    walker: &W,
-    k: usize,
-    atom: u32,
-    buffers: &mut Buffers,
-    ready: &mut Vec<Ready>,
-) -> Result<(), NoMemory>
-    requires on { W.view.is_on plan.now walker.now }
-    requires fresh { IsTrue (is_some (W.view.seen walker.now)) }
-    requires within { ForSome (W.view.seen walker.now) (λ offers. k < length offers) }
-    ensures { (offered : Offered)
-        → slice_get (offers_of (W.view.walking plan.now walker.now)) k ≡ Some offered
-        → offered.atom ≡ atom
-        → OnOk result (ready.new.items ≡ ready.old.items ++ ready_one k offered
-        (option_map Action.Send (sent_by (W.view.body_of plan.now).atoms offered))) }
-{
-    match walker.sent(alloc, plan, k, buffers.terms.pop())? {
-        Some(terms) => {
-            push(k, atom, Action::Send(terms), ready)?;
-            Ok(())
-        }
-        None => Ok(()),
-    }
+/// How an offered atom takes part in a handshake.
+#[derive(Clone, Copy)]
+enum Part {
+    Sends,
+    Receives,
 }
 
-/// Likewise what it receives, where its patterns are there.
-fn push_receive<W: Walker>(
+/// Appends the message of an offered atom to what is ready, if the values or patterns are there. The message is written
+/// in place, here and below, since each function that passes it on costs as much as finding it.
+#[inline(always)]
+fn push_message<W: Walker>(
     alloc: Global,
     plan: &W::Plan,
     walker: &W,
     k: usize,
     atom: u32,
+    part: Part,
     buffers: &mut Buffers,
     ready: &mut Vec<Ready>,
 ) -> Result<(), NoMemory>
@@ -222,14 +194,23 @@ fn push_receive<W: Walker>(
         → slice_get (offers_of (W.view.walking plan.now walker.now)) k ≡ Some offered
         → offered.atom ≡ atom
         → OnOk result (ready.new.items ≡ ready.old.items ++ ready_one k offered
-        (option_map Action.Receive (patterns_by (W.view.body_of plan.now).atoms offered))) }
+        (message_by part (W.view.body_of plan.now).atoms offered)) }
 {
-    match walker.patterns(alloc, plan, k, buffers.patterns.pop())? {
-        Some(patterns) => {
-            push(k, atom, Action::Receive(patterns), ready)?;
-            Ok(())
-        }
-        None => Ok(()),
+    match part {
+        Part::Sends => match walker.sent(alloc, plan, k, buffers.terms.pop())? {
+            Some(terms) => {
+                push(k, atom, Action::Send(terms), ready)?;
+                Ok(())
+            }
+            None => Ok(()),
+        },
+        Part::Receives => match walker.patterns(alloc, plan, k, buffers.patterns.pop())? {
+            Some(patterns) => {
+                push(k, atom, Action::Receive(patterns), ready)?;
+                Ok(())
+            }
+            None => Ok(()),
+        },
     }
 }
 
@@ -291,8 +272,21 @@ fn push_action<W: Walker>(
     match &atom.act {
         Act::Delta => Ok(()),
         Act::Tau => push(k, number, Action::Own(OwnAction::Tau), ready),
-        Act::SndMsg(_) => push_send(alloc, plan, walker, k, number, buffers, ready),
-        Act::RecMsg(_) => push_receive(alloc, plan, walker, k, number, buffers, ready),
+        Act::SndMsg(_) => {
+            push_message(alloc, plan, walker, k, number, Part::Sends, buffers, ready)
+        }
+        Act::RecMsg(_) => {
+            push_message(
+                alloc,
+                plan,
+                walker,
+                k,
+                number,
+                Part::Receives,
+                buffers,
+                ready,
+            )
+        }
         _ => push_any(alloc, plan, body, walker, k, atom, number, ready),
     }
 }

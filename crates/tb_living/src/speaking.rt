@@ -4,15 +4,15 @@ ghost use Rattle.std.specs.List.{list_any};
 ghost use Rattle.std.specs.Str.{bytes_eq};
 ghost use Rattle.std.below.core.specs.declared.int.usize.TheConstants.{MAX};
 ghost use Rattle.tb_body.specs.declared.program.Tool.{Tool as ToolKind};
-ghost use Rattle.tb_log.specs.declared.entry.LabelKind.TheVariants as label_kind;
 ghost use Rattle.tb_log.specs.Limits.{terms_size};
 ghost use Rattle.tb_log.specs.Shapes.{IsLane};
 ghost use Rattle.tb_tools.specs.Lanes.{most_tools};
-ghost use Rattle.tb_tools.specs.Acts.{asked, can_do, can_eval, can_execute, can_take_event, can_take_value, can_terminate, event_at, events_at, executed, terminated, told, value_taken};
+ghost use Rattle.tb_tools.specs.Acts.{can_execute, can_take_event, can_take_value, event_at, events_at, executed, value_taken};
 ghost use Rattle.tb_bus.specs.Effects.{speaking};
 ghost use Rattle.tb_bus.specs.Exchanges.{behind, bench_after, kind_command, kind_name, terms_seen, values_in, values_on, with_told};
 ghost use Rattle.tb_bus.specs.Traces.{declares};
 ghost use Rattle.tb_living.specs.Spoken.{IsDone, CanSpeak, around};
+ghost use Rattle.tb_living.specs.Helpers.Orders.{may_order, order_kind, ordered};
 
 use crate::done::Done;
 use std::alloc::Global;
@@ -58,12 +58,12 @@ pub fn speak(
             bench.leave(lane);
             Ok(seen(LabelKind::RecDisconnect, terms, binds))
         }
-        ToolAction::Eval(terms) => eval(alloc, bench, lane, terms, binds),
+        ToolAction::Eval(terms) => tell(alloc, bench, lane, Order::Eval, terms, binds),
         ToolAction::TakeValue(terms, _) => {
             let shown = with_value(terms, bench, lane)?;
             Ok(seen(LabelKind::RecValue, shown, binds))
         }
-        ToolAction::Do(terms) => do_action(alloc, bench, lane, terms, binds),
+        ToolAction::Do(terms) => tell(alloc, bench, lane, Order::Do, terms, binds),
         ToolAction::TakeEvent(terms, _) => {
             let shown = with_event(alloc, terms, bench, lane, event)?;
             bench.event(lane, event)?;
@@ -73,7 +73,7 @@ pub fn speak(
             bench.ack(lane, event)?;
             Ok(seen(LabelKind::SndAckEvent, terms, binds))
         }
-        ToolAction::Terminate(terms) => terminate(alloc, bench, lane, terms, binds),
+        ToolAction::Terminate(terms) => tell(alloc, bench, lane, Order::Terminate, terms, binds),
     }
 }
 
@@ -115,67 +115,59 @@ fn execute(kinds: &[Tool], bench: &mut Bench, tool: u32, lane: u8) -> Result<(),
     }
 }
 
-/// The tool of a lane is asked to evaluate the second of these terms.
-fn eval(
-    alloc: Global,
-    bench: &mut Bench,
-    lane: u8,
-    terms: Terms,
-    binds: Binds,
-) -> Result<Done, NoMemory>
-    requires lane { IsLane lane }
-    requires can { IsTrue (can_eval lane bench.old) }
-    ensures done { IfOk result
-        (λ done. done ≡ record { kind = label_kind.SndEval; shown = terms; binds = binds }) }
-    ensures ok { OnOk result (bench.new ≡ with_told asked (behind terms) lane bench.old) }
-    ensures err { OnErr result (bench.new ≡ bench.old) }
-{
-    if let Some(term) = second(alloc, &terms)? {
-        bench.eval(lane, term)?;
-    }
-    Ok(seen(LabelKind::SndEval, terms, binds))
+/// An order that a process gives a tool, with a term.
+#[derive(Clone, Copy)]
+enum Order {
+    Eval,
+    Do,
+    Terminate,
 }
 
-/// The tool of a lane is told to do the second of these terms.
-fn do_action(
-    alloc: Global,
-    bench: &mut Bench,
-    lane: u8,
-    terms: Terms,
-    binds: Binds,
-) -> Result<Done, NoMemory>
-    requires lane { IsLane lane }
-    requires can { IsTrue (can_do lane bench.old) }
-    ensures done { IfOk result
-        (λ done. done ≡ record { kind = label_kind.SndDo; shown = terms; binds = binds }) }
-    ensures ok { OnOk result (bench.new ≡ with_told told (behind terms) lane bench.old) }
-    ensures err { OnErr result (bench.new ≡ bench.old) }
+/// Returns the kind of a step with this order.
+fn order_kind(order: Order) -> LabelKind
+    ensures { result ≡ order_kind order }
 {
-    if let Some(term) = second(alloc, &terms)? {
-        bench.do_action(lane, term)?;
+    match order {
+        Order::Eval => LabelKind::SndEval,
+        Order::Do => LabelKind::SndDo,
+        Order::Terminate => LabelKind::SndTerminate,
     }
-    Ok(seen(LabelKind::SndDo, terms, binds))
 }
 
-/// The tool of a lane is told to end, with the second of these terms as the reason.
-fn terminate(
+/// Gives the tool of a lane this order, with this term.
+fn give_order(bench: &mut Bench, lane: u8, order: Order, term: Term) -> Result<(), NoMemory>
+    requires lane { IsLane lane }
+    requires can { IsTrue (may_order order lane bench.old) }
+    ensures ok { OnOk result (bench.new ≡ ordered order term lane bench.old) }
+    ensures err { OnErr result (bench.new ≡ bench.old) }
+{
+    match order {
+        Order::Eval => bench.eval(lane, term),
+        Order::Do => bench.do_action(lane, term),
+        Order::Terminate => bench.terminate(lane, term),
+    }
+}
+
+/// Gives the tool of a lane this order, with the second of these terms. The step shows all of them.
+fn tell(
     alloc: Global,
     bench: &mut Bench,
     lane: u8,
+    order: Order,
     terms: Terms,
     binds: Binds,
 ) -> Result<Done, NoMemory>
     requires lane { IsLane lane }
-    requires can { IsTrue (can_terminate lane bench.old) }
+    requires can { IsTrue (may_order order lane bench.old) }
     ensures done { IfOk result
-        (λ done. done ≡ record { kind = label_kind.SndTerminate; shown = terms; binds = binds }) }
-    ensures ok { OnOk result (bench.new ≡ with_told terminated (behind terms) lane bench.old) }
+        (λ done. done ≡ record { kind = order_kind order; shown = terms; binds = binds }) }
+    ensures ok { OnOk result (bench.new ≡ with_told (ordered order) (behind terms) lane bench.old) }
     ensures err { OnErr result (bench.new ≡ bench.old) }
 {
     if let Some(term) = second(alloc, &terms)? {
-        bench.terminate(lane, term)?;
+        give_order(bench, lane, order, term)?;
     }
-    Ok(seen(LabelKind::SndTerminate, terms, binds))
+    Ok(seen(order_kind(order), terms, binds))
 }
 
 /// The second of these terms.

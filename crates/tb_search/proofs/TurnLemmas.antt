@@ -1,7 +1,7 @@
 -- The order in which the processes are asked, where they stand by their numbers.
 use Rattle.std.proofs.Common.{◌≡◌, ℕ, ◌<◌, ◌≤◌, zero, suc, List, [], ◌∷◌, ◌++◌, take, drop, length, refl, ap, sym, ◌∙◌, arith, rules, Some, None, Bool, true, false, ◌==◌, nat_lt, nat_le, get_or, if◌then◌else◌, Option}
 use Rattle.std.proofs.lemmas.Bool.{leb-true, le-leb, eqb-true}
-use Rattle.std.proofs.lemmas.List.{length-map, get_or-map}
+use Rattle.std.proofs.lemmas.List.{drop_all, length-map, get_or-map}
 use Rattle.std.specs.List.{AllWithin}
 use Rattle.std.specs.List.Sorted.{IsPartitionedBy, IsPartitionPoint}
 use Rattle.tb_search.specs.Candidates.{Row, Scene, candidates_from, candidates_in_turn, candidates_or_halt, candidates_while_up, all_candidates, up_to, ascend, row_of, rows_of}
@@ -86,6 +86,10 @@ turn-again scene last start e miss =
     let at = up_to last scene.rows in
     let nothing : candidates_from scene at (drop at scene.rows) ≡ [] = none-from_first (candidates_from scene at (drop at scene.rows)) (rw e at miss) in
     ap (λ k. first (candidates_from scene 0 (take k scene.rows))) e ∙ sym (ap (λ fs. first (fs ++ candidates_from scene 0 (take at scene.rows))) nothing)
+
+-- where all have a number up to that of the last starter, nothing is found behind it
+pub none-behind : (scene : Scene) (start : ℕ) → length scene.rows ≤ start → None ≡ first (candidates_from scene start (drop start scene.rows))
+none-behind scene start most = rw (drop_all start scene.rows most) refl
 
 or_halt-some : (no_ticks : Bool) (candidates : List Candidate) (found : Candidate) → Some found ≡ first candidates → Some found ≡ first (candidates_or_halt no_ticks candidates)
 or_halt-some no_ticks [] found e = cc

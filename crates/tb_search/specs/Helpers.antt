@@ -1,2 +1,3 @@
 -- Definitions that proofs and private functions need, and that nobody has to believe.
 pub mod Searches
+pub mod Needs

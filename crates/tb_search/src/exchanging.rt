@@ -5,9 +5,10 @@ ghost use Rattle.std.specs.Option.{ForSome};
 ghost use Rattle.tb_terms.specs.Sizes.{is_within_limits};
 ghost use Rattle.tb_log.specs.Shapes.{IsLane};
 ghost use Rattle.tb_tools.specs.Lanes.{tool_at, tool_term};
-ghost use Rattle.tb_tools.specs.Acts.{can_leave, can_eval, is_taken_at, is_live_at};
+ghost use Rattle.tb_tools.specs.Acts.{is_taken_at, is_live_at};
 ghost use Rattle.tb_bus.specs.Slots.{fits_slot};
 ghost use Rattle.tb_search.specs.Helpers.Searches.{setting_spoken};
+ghost use Rattle.tb_search.specs.Helpers.Needs.{meets};
 ghost use Rattle.tb_bus.specs.Exchanges.{plain_on, bound_on, starting, taking_tool, first_of_kind, lane_of, value_on, event_on, received_on, behind, exchange_for};
 
 use crate::slots::fits_slot;
@@ -44,17 +45,17 @@ pub(crate) fn exchange_for(
         ToolAction::DisconnectAny(tool, slot) => {
             first_of_kind(alloc, speaker, Stage::Leaving, *tool, *slot)
         }
-        ToolAction::Disconnect(terms) => Ok(plain_on(alloc, leaving_lane(bench, terms))),
-        ToolAction::Eval(terms) => Ok(plain_on(alloc, idle_lane(bench, terms))),
+        ToolAction::Disconnect(terms) => Ok(plain_on(alloc, lane_of(bench, terms, Need::Leaving))),
+        ToolAction::Eval(terms) => Ok(plain_on(alloc, lane_of(bench, terms, Need::Idle))),
         ToolAction::TakeValue(terms, patterns) => value_of(alloc, bench, terms, patterns),
-        ToolAction::Do(terms) => Ok(plain_on(alloc, idle_lane(bench, terms))),
+        ToolAction::Do(terms) => Ok(plain_on(alloc, lane_of(bench, terms, Need::Idle))),
         ToolAction::TakeEvent(terms, patterns) => event_of(bench, terms, patterns),
         ToolAction::Acknowledge(terms) => received_of(alloc, bench, terms),
-        ToolAction::Terminate(terms) => Ok(plain_on(alloc, live_lane(bench, terms))),
+        ToolAction::Terminate(terms) => Ok(plain_on(alloc, lane_of(bench, terms, Need::Live))),
     }
 }
 
-/// The lane of the tool that is the first of these terms.
+/// Returns the lane of the tool that is the first of these terms, in whatever state the tool is.
 fn tool_lane(bench: &Bench, terms: &Terms) -> Option<u8>
     ensures lane { result ≡ lane_of (λ lane state. true) bench.now terms.now }
     ensures within { ForSome result IsLane }
@@ -65,52 +66,37 @@ fn tool_lane(bench: &Bench, terms: &Terms) -> Option<u8>
     }
 }
 
-/// The lane of such a tool, where it is leaving.
-fn leaving_lane(bench: &Bench, terms: &Terms) -> Option<u8>
-    ensures lane { result ≡ lane_of can_leave bench.now terms.now }
-    ensures within { ForSome result IsLane }
+/// The state of a tool that an action needs.
+#[derive(Clone, Copy)]
+enum Need {
+    Leaving,
+    /// Live, with no evaluation open.
+    Idle,
+    /// Live or leaving.
+    Taken,
+    Live,
+}
+
+/// Returns whether the tool of a lane meets the need.
+fn meets(bench: &Bench, lane: u8, need: Need) -> bool
+    requires { IsLane lane }
+    ensures { result ≡ meets need lane bench.now }
 {
-    let lane = tool_lane(bench, terms)?;
-    if bench.can_leave(lane) {
-        Some(lane)
-    } else {
-        None
+    match need {
+        Need::Leaving => bench.can_leave(lane),
+        Need::Idle => bench.can_eval(lane),
+        Need::Taken => bench.is_taken(lane),
+        Need::Live => bench.is_live(lane),
     }
 }
 
-/// The lane of such a tool, where it is live and no evaluation is open.
-fn idle_lane(bench: &Bench, terms: &Terms) -> Option<u8>
-    ensures lane { result ≡ lane_of can_eval bench.now terms.now }
+/// Returns the lane of the tool that is the first of these terms, if the tool meets the need.
+fn lane_of(bench: &Bench, terms: &Terms, need: Need) -> Option<u8>
+    ensures lane { result ≡ lane_of (meets need) bench.now terms.now }
     ensures within { ForSome result IsLane }
 {
     let lane = tool_lane(bench, terms)?;
-    if bench.can_eval(lane) {
-        Some(lane)
-    } else {
-        None
-    }
-}
-
-/// The lane of such a tool, where it is live or leaving.
-fn taken_lane(bench: &Bench, terms: &Terms) -> Option<u8>
-    ensures lane { result ≡ lane_of is_taken_at bench.now terms.now }
-    ensures within { ForSome result IsLane }
-{
-    let lane = tool_lane(bench, terms)?;
-    if bench.is_taken(lane) {
-        Some(lane)
-    } else {
-        None
-    }
-}
-
-/// The lane of such a tool, where it is live.
-fn live_lane(bench: &Bench, terms: &Terms) -> Option<u8>
-    ensures lane { result ≡ lane_of is_live_at bench.now terms.now }
-    ensures within { ForSome result IsLane }
-{
-    let lane = tool_lane(bench, terms)?;
-    if bench.is_live(lane) {
+    if meets(bench, lane, need) {
         Some(lane)
     } else {
         None
@@ -141,7 +127,7 @@ fn value_of(
     ensures { IfOk result (λ found. found ≡ option_and_then (value_on patterns.now bench.now)
         (lane_of is_taken_at bench.now terms.now)) }
 {
-    match taken_lane(bench, terms) {
+    match lane_of(bench, terms, Need::Taken) {
         Some(lane) => value_on(alloc, bench, lane, patterns),
         None => Ok(None),
     }
@@ -177,7 +163,7 @@ fn event_of(bench: &Bench, terms: &Terms, patterns: &Patterns) -> Result<Option<
     ensures { IfOk result (λ found. found ≡ option_and_then (event_on patterns.now bench.now)
         (lane_of is_taken_at bench.now terms.now)) }
 {
-    match taken_lane(bench, terms) {
+    match lane_of(bench, terms, Need::Taken) {
         Some(lane) => event_on(bench, lane, patterns),
         None => Ok(None),
     }
@@ -202,7 +188,7 @@ fn received_of(alloc: Global, bench: &Bench, terms: &Terms) -> Result<Option<Exc
     ensures { IfOk result (λ found. found ≡ option_and_then
         (received_on (behind terms.now) bench.now) (lane_of is_live_at bench.now terms.now)) }
 {
-    match live_lane(bench, terms) {
+    match lane_of(bench, terms, Need::Live) {
         Some(lane) => {
             let event = behind(alloc, terms)?;
             Ok(received_on(alloc, bench, lane, &event))

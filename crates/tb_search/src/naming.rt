@@ -98,7 +98,8 @@ fn partner_at<W>(
 ) -> Result<Option<Partner>, NoMemory>
     requires ascend { IsTrue (ascend 0 (rows_of all.now)) }
     ensures { IfOk result (λ found. found ≡ first
-        (filter (is_partner_at (rows_of all.now) to) (partners number terms.now 0 (rows_of all.now)))) }
+        (filter (is_partner_at (rows_of all.now) to)
+        (partners number terms.now 0 (rows_of all.now)))) }
 {
     if to.proc == number {
         return Ok(None);
@@ -214,7 +215,8 @@ pub fn candidate_at<W>(
     room: &mut Binds,
 ) -> Result<Option<Candidate>, NoMemory>
     requires ascend { IsTrue (ascend 0 (rows_of all.now)) }
-    ensures { IfOk result (λ found. found ≡ first (filter (is_at (rows_of all.now) from to) (all_candidates
+    ensures { IfOk result (λ found. found ≡ first
+        (filter (is_at (rows_of all.now) from to) (all_candidates
         (scene_of program.now.bodies program.now.tools bench.now (rows_of all.now) marks) marks))) }
 {
     if marks.down {

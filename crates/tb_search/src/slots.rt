@@ -47,7 +47,8 @@ pub(crate) fn fits_slot(bodies: &[Body], process: u32, slot: u32, value: &Term) 
     }
 }
 
-fn has_slot_sort(sorts: &[Sort], slot: u32, value: &Term) -> bool
+/// Whether there is such a slot, and the value has its sort.
+pub fn has_slot_sort(sorts: &[Sort], slot: u32, value: &Term) -> bool
     ensures { result ≡ has_slot_sort (slice_get sorts.now slot) value.now }
 {
     match at(sorts, slot as usize) {

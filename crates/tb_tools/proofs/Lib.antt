@@ -1,5 +1,6 @@
 pub mod Choosing
 pub mod Dismissing
+pub mod Keeping
 pub mod Lowest
 pub mod Numbering
 pub mod Oldest

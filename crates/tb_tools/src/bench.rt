@@ -2,7 +2,7 @@
 ghost use Rattle.std.specs.Prelude.{◌≡◌, ◌≤◌, ◌<◌, ◌+◌, ◌-◌, length, pos, IsTrue, IsSome, IfOk, OnOk, OnErr, Some, option_map, map, count_by};
 ghost use Rattle.std.specs.Option.{option_copied, ForSome};
 ghost use Rattle.tb_log.specs.Shapes.{IsLane, lane_count};
-ghost use Rattle.tb_tools.specs.Lanes.{HasLanes, opening, started, unused, is_open, most_tools, is_stage_at, lane_at, tool_at, lane_state, term_of};
+ghost use Rattle.tb_tools.specs.Lanes.{HasLanes, opening, started, unused, is_free, is_open, most_tools, is_stage_at, lane_at, tool_at, lane_state, term_of};
 ghost use Rattle.tb_tools.specs.Finding.{free_lane, find_tool, first_at, oldest_event, oldest_received, next_out, first_out};
 ghost use Rattle.tb_tools.specs.Inputs.{put_line, with_line, gone, cut, has_asked};
 ghost use Rattle.tb_tools.specs.Acts.{answer_at, events_at, received_at, is_live_at, is_taken_at, can_execute, executed, can_connect, connected, can_leave, left, can_eval, asked, can_take_value, value_taken, can_do, told, can_take_event, event_taken, can_ack, acknowledged, can_terminate, terminated, gone_down, handed_out};
@@ -134,6 +134,25 @@ impl Bench {
         ensures { result ≡ lane_state (lane_at lane self.now) }
     {
         self.row(lane).state()
+    }
+
+    /// The number of the tool of a lane.
+    pub fn number_on(&self, lane: u8) -> Option<u32>
+        requires { IsLane lane }
+        ensures { result ≡ option_map (λ tool. tool.number) (tool_at lane self.now) }
+    {
+        match self.row(lane).tool() {
+            Some(tool) => Some(tool.number()),
+            None => None,
+        }
+    }
+
+    /// Whether a lane is free.
+    pub fn is_free(&self, lane: u8) -> bool
+        requires { IsLane lane }
+        ensures { result ≡ is_free (lane_at lane self.now) }
+    {
+        self.row(lane).is_free()
     }
 
     /// How far the tool of a lane is.

@@ -1,5 +1,5 @@
 -- The bus for which the fields of a core stand, and when they stand for what contracts see of it.
-use Rattle.std.specs.Prelude.{◌≡◌, ◌≢◌, ◌≤◌, ◌+◌, ℕ, List, [], map, length, true, false, IsTrue, Some, slice_get, slice_set, Contains, ◌<◌, ◌++◌, ◌∷◌, min}
+use Rattle.std.specs.Prelude.{◌≡◌, ◌≢◌, ◌≤◌, ◌+◌, ℕ, List, [], map, length, true, false, IsTrue, Option, Some, slice_get, slice_set, Contains, ◌<◌, ◌++◌, ◌∷◌, min}
 use Rattle.std.below.core.specs.declared.int.usize.TheConstants.{MAX}
 use Rattle.std.specs.List.{All}
 use Rattle.tb_match.specs.declared.bind.Bind.{Bind}
@@ -11,7 +11,9 @@ use Rattle.tb_log.specs.declared.entry.Entry.TheVariants.{Did}
 use Rattle.tb_log.specs.declared.entry.Label.{Label}
 use Rattle.tb_log.specs.Limits.{has_room, terms_size}
 use Rattle.tb_log.specs.Logs.{LogState}
-use Rattle.tb_tools.specs.Lanes.{HasLanes}
+use Rattle.tb_index.specs.Indexes.{IndexState, is_awake, is_receiver}
+use Rattle.tb_index.specs.declared.mark.Mark.{Mark}
+use Rattle.tb_tools.specs.Lanes.{HasLanes, Tool}
 use Rattle.tb_bus.specs.Buses.{Bus, Proc, start}
 use Rattle.tb_bus.specs.Effects.{Effect, changed}
 use Rattle.tb_bus.specs.Exchanges.{Setting, setting_by}
@@ -22,7 +24,7 @@ use Rattle.tb_search.specs.Candidates.{Scene, ascend, row_at, rows_of, scene_of}
 use Rattle.tb_search.specs.declared.living.Living.{Living}
 use Rattle.tb_search.specs.declared.candidate.Candidate.{Candidate}
 use Rattle.tb_core.specs.Cores.{most_entries}
-use Rattle.tb_living.specs.Indexes.{IsRested, IsRightForAll, KeepsOf}
+use Rattle.tb_living.specs.Indexes.{IsRested, IsRightForAll, KeepsOf, number_mark}
 use Rattle.tb_living.specs.Lives.{IsBelow, IsFreshOr, IsLive, procs_of}
 use Rattle.tb_core.specs.declared.bus.LiveBus.{LiveBus}
 
@@ -75,6 +77,14 @@ AreSettled bus = All (IsRested (settings_in bus) false bus.index) bus.living.ite
 abbrev pub IsSettledAt : {W P T : Type 0} → LiveBus W P T → LiveBus W P T → ℕ → Type 0
 IsSettledAt {W = W} old new at = (living : Living W) × (slice_get old.living.items at ≡ Some living)
     × IsRested (settings_in old) false new.index living × ((other : ℕ) → other ≢ living.number → KeepsOf old.index new.index other)
+
+-- one of the living is awake, where the index has it under a mark
+abbrev pub IsAwakeUnder : {W : Type 0} → Mark → IndexState → Living W → Type 0
+IsAwakeUnder mark index living = is_receiver index mark living.number ≡ true → is_awake index living.number ≡ true
+
+-- so is each that speaks with a tool
+abbrev pub AreRoused : {W : Type 0} → Option Tool → IndexState → List (Living W) → Type 0
+AreRoused found index all = (tool : Tool) → found ≡ Some tool → All (IsAwakeUnder (number_mark tool.number) index) all
 
 -- the one at an index has to be looked at anew
 abbrev pub IsStaleAt : {W : Type 0} → List (Living W) → ℕ → Type 0

@@ -23,14 +23,14 @@ leave-requires-clause-can c = spoken-can c.args.kinds.now c.args.bench.now c.arg
 pub leave-requires-in-Disconnect-clause-lane : goal.leave-requires-in-Disconnect-clause-lane
 leave-requires-in-Disconnect-clause-lane c = spoken-lane c.args.kinds.now c.args.bench.now c.args.does c.args.exchange c.requires.found
 
-pub eval-requires-clause-lane : goal.eval-requires-clause-lane
-eval-requires-clause-lane c = spoken-lane c.args.kinds.now c.args.bench.now c.args.does c.args.exchange c.requires.found
+pub tell-requires-clause-lane : goal.tell-requires-clause-lane
+tell-requires-clause-lane c = spoken-lane c.args.kinds.now c.args.bench.now c.args.does c.args.exchange c.requires.found
 
 pub with_value-requires-clause-lane : goal.with_value-requires-clause-lane
 with_value-requires-clause-lane c = spoken-lane c.args.kinds.now c.args.bench.now c.args.does c.args.exchange c.requires.found
 
-pub do_action-requires-clause-lane : goal.do_action-requires-clause-lane
-do_action-requires-clause-lane c = spoken-lane c.args.kinds.now c.args.bench.now c.args.does c.args.exchange c.requires.found
+pub tell-requires-in-Do-clause-lane : goal.tell-requires-in-Do-clause-lane
+tell-requires-in-Do-clause-lane c = spoken-lane c.args.kinds.now c.args.bench.now c.args.does c.args.exchange c.requires.found
 
 pub with_event-requires-clause-lane : goal.with_event-requires-clause-lane
 with_event-requires-clause-lane c = spoken-lane c.args.kinds.now c.args.bench.now c.args.does c.args.exchange c.requires.found
@@ -50,5 +50,5 @@ ack-requires-clause-lane c = spoken-lane c.args.kinds.now c.args.bench.now c.arg
 pub ack-requires-clause-can : goal.ack-requires-clause-can
 ack-requires-clause-can c = spoken-can c.args.kinds.now c.args.bench.now c.args.does c.args.exchange c.requires.found (does.Acknowledge c.in-Acknowledge.terms) c.in-Acknowledge.is
 
-pub terminate-requires-clause-lane : goal.terminate-requires-clause-lane
-terminate-requires-clause-lane c = spoken-lane c.args.kinds.now c.args.bench.now c.args.does c.args.exchange c.requires.found
+pub tell-requires-in-Terminate-clause-lane : goal.tell-requires-in-Terminate-clause-lane
+tell-requires-in-Terminate-clause-lane c = spoken-lane c.args.kinds.now c.args.bench.now c.args.does c.args.exchange c.requires.found

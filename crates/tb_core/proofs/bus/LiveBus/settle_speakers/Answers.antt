@@ -14,7 +14,7 @@ loop-at-preserved g c =
     let bus = c.loop-at.self in
     let new = c.settle_at.new.self in
     let place = c.in-Some.place in
-    let next = subst (IsNextPlace (is_receiver bus.index tool_mark) (rows_of bus.living.items) c.loop-at.at) c.in-Some.is c.next_speaker.ensures in
+    let next = subst (IsNextPlace (is_receiver bus.index tool_mark) (rows_of bus.living.items) c.loop-at.at) c.in-Some.is c.next_marked.ensures in
     let it = c.in_ok-settle_at-in-Some.ensures.settled in
     let sound = c.loop-at.invariant.same.sound in
     record {
@@ -26,6 +26,6 @@ loop-at-preserved g c =
 pub returns-in-None-clause-settled : goal.returns-in-None-clause-settled
 returns-in-None-clause-settled g c =
     let bus = c.loop-at.self in
-    let next = subst (IsNextPlace (is_receiver bus.index tool_mark) (rows_of bus.living.items) c.loop-at.at) c.in-None.is c.next_speaker.ensures in
+    let next = subst (IsNextPlace (is_receiver bus.index tool_mark) (rows_of bus.living.items) c.loop-at.at) c.in-None.is c.next_marked.ensures in
     let sound = c.loop-at.invariant.same.sound in
     settled-all (settings_in bus) bus.stirred bus.living.items bus.index c.loop-at.at sound.indexed.each sound.rested next c.loop-at.invariant.settled
