@@ -37,6 +37,11 @@ why_so end.Full leaves more w = inr (inr tt)
 why_so end.Failed leaves more w = absurd w
 why_so end.NoMemory leaves more w = inr (inr tt)
 
+-- if the tool of the other bus has left, the events are all terms
+exact_by : (one other : List Entry) (Others_early : Type 0) (leaves : Bool) → (leaves ≡ true → events other ≡ does one) → (leaves ≡ true) ⊎ (HasDropped (is_of 1) other ⊎ Others_early)
+    → (events other ≡ does one) ⊎ (HasDropped (is_of 1) other ⊎ Others_early)
+exact_by one other Others_early leaves whole because = ⊎_elim (λ l. inl (whole l)) (λ d. inr d) because
+
 -- an entry among one's own is one of the log
 dropped_own : (test : Input → Bool) (p : Entry → Bool) (log : List Entry) → HasDropped test (filter p log) → HasDropped test log
 dropped_own test p [] d = absurd (nowhere d.0 d.4)
@@ -86,6 +91,15 @@ passes bus others_bus begun done last others_begun others_done others_last sent 
     let s = stand_first (r.told ++ r.lost) w.front r.last w.last known (ap (λ (x : List Piece). x ++ known) (sym r.got) ∙ (met ∙ w.sent)) in
     let all : does last.seen ≡ r.told ++ (r.lost ++ (s.more ++ w.rest)) =
     did ∙ (ap (λ (x : List Term). x ++ w.rest) s.is ∙ (append_assoc (r.told ++ r.lost) s.more w.rest ∙ append_assoc r.told r.lost (s.more ++ w.rest))) in
+    let whole : r.leaves ≡ true → events others_last.seen ≡ does last.seen =
+    (λ left.
+    let said = r.said left in
+    let rest : w.rest ≡ [] = w.whole (s.said said.0) in
+    came ∙ sym (all ∙ (ap (λ (x : List Term). r.told ++ (x ++ (s.more ++ w.rest))) said.1 ∙ (ap (λ (x : List Term). r.told ++ (x ++ w.rest)) (s.whole said.0) ∙ (ap (λ (x : List Term). r.told ++ x) rest ∙ append-nil r.told))))) in
+    let because : (r.leaves ≡ true) ⊎ (HasDropped (is_of 1) others_last.seen ⊎ IsEarly reader) =
+    ⊎_elim (λ l. inl l)
+    (λ w. inr (⊎_elim (λ d. inl (dropped_own (is_of 1) (λ (entry : Entry). has others_begun.rights (right_of entry)) others_last.seen (subst (HasDropped (is_of 1)) (sym other) d))) (λ e. inr e) w))
+    (why_so reader r.leaves r.more r.why) in
     record {
       rest = r.lost ++ (s.more ++ w.rest);
       prefix = all ∙ ap (λ (x : List Term). x ++ (r.lost ++ (s.more ++ w.rest))) (sym came);
@@ -99,11 +113,7 @@ passes bus others_bus begun done last others_begun others_done others_last sent 
       others_names = ⊎_elim
           (λ e. inl (others_ins ∙ (r.goes.given_are ∙ (e ∙ ap (λ (ts : List Term). connect ∷ lines_of ts r.leaves) (sym came)))))
           (λ e. inr (others_ins ∙ (r.goes.given_are ∙ e.0), e.3, e.4)) r.names;
-      whole = λ left.
-          let said = r.said left in
-          let rest : w.rest ≡ [] = w.whole (s.said said.0) in
-          came ∙ sym (all ∙ (ap (λ (x : List Term). r.told ++ (x ++ (s.more ++ w.rest))) said.1 ∙ (ap (λ (x : List Term). r.told ++ (x ++ w.rest)) (s.whole said.0) ∙ (ap (λ (x : List Term). r.told ++ x) rest ∙ append-nil r.told))));
-      why = ⊎_elim (λ l. inl l)
-          (λ w. inr (⊎_elim (λ d. inl (dropped_own (is_of 1) (λ (entry : Entry). has others_begun.rights (right_of entry)) others_last.seen (subst (HasDropped (is_of 1)) (sym other) d))) (λ e. inr e) w))
-          (why_so reader r.leaves r.more r.why);
+      whole = whole;
+      why = because;
+      exact = exact_by last.seen others_last.seen (IsEarly reader) r.leaves whole because;
     }

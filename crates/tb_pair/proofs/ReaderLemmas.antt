@@ -1,5 +1,5 @@
 -- The result of the reader of a pipe, piece by piece.
-use Rattle.std.proofs.Common.{◌≡◌, List, [], ◌∷◌, ◌++◌, Bool, true, false, not, ◌&&◌, true≢false, Option, Some, None, Ok, Err, refl, sym, ap, ◌∙◌, subst, append_assoc, append-nil, inl, inr, ◌⊎◌, ⊎_elim, arith}
+use Rattle.std.proofs.Common.{◌≡◌, List, [], ◌∷◌, ◌++◌, Bool, true, false, not, ◌&&◌, true≢false, Option, Some, None, Ok, Err, refl, sym, ap, ◌∙◌, subst, append_assoc, append-nil, inl, inr, ◌⊎◌, ⊎_elim}
 use Rattle.std.specs.List.{filter_map}
 use Rattle.tb_terms.specs.declared.term.Term.{Term}
 use Rattle.tb_log.specs.declared.entry.ToolLine.TheVariants as tool
@@ -147,30 +147,51 @@ fed_on old new got Last false h =
 pub fed_refused : (old new : SeatView) (got : List Piece) (piece : Piece) (it : WorkEnd) → Settles (line_of piece) old new (Err it) → EndsReading old new got (got ++ piece ∷ []) true it
 fed_refused old new got piece it e = record { lost = piece ∷ []; got = refl; may = lose_one it piece e.1; ends = e.0 }
 
--- what was lost, as terms
+-- no term was lost at an early end
+lack_none : (it : WorkEnd) (last leaves : Bool) → IsEarly it → MayLack it [] last leaves
+lack_none end.Over last leaves e = absurd e
+lack_none end.Down last leaves e = absurd e
+lack_none end.Stopped last leaves e = inl refl
+lack_none end.Full last leaves e = inl refl
+lack_none end.Failed last leaves e = absurd e
+lack_none end.NoMemory last leaves e = inl refl
+
+-- one was, and no piece came after it
+lack_one : (it : WorkEnd) (t : Term) (leaves : Bool) → IsEarly it → MayLack it (t ∷ []) false leaves
+lack_one end.Over t leaves e = absurd e
+lack_one end.Down t leaves e = absurd e
+lack_one end.Stopped t leaves e = inr (t, refl, refl)
+lack_one end.Full t leaves e = inr (t, refl, refl)
+lack_one end.Failed t leaves e = absurd e
+lack_one end.NoMemory t leaves e = inr (t, refl, refl)
+
+-- what was lost: nothing, or one piece at an early end
 record Loses (it : WorkEnd) (reads : Bool) (lost : List Piece) : Type 0 where
-  pub why : ((lost ≡ []) × MayLack it []) ⊎ ((piece : Piece) × (lost ≡ piece ∷ []) × (reads ≡ true) × ((t : Term) → MayLack it (t ∷ [])) × MayLack it [])
+  pub why : ((lost ≡ []) × ((said : Bool) → MayLack it [] said said)) ⊎ ((piece : Piece) × (lost ≡ piece ∷ []) × (reads ≡ true) × IsEarly it)
 
 loses : (it : WorkEnd) (reads : Bool) (lost : List Piece) → MayLose it reads lost → Loses it reads lost
 loses end.Over reads lost m = absurd m
-loses end.Down reads lost m = record { why = inl (m.0, refl) }
-loses end.Stopped reads lost m = record { why = ⊎_elim (λ e. inl (e, omega arith)) (λ p. inr (p.0, p.1, p.2, λ t. omega arith, omega arith)) m }
-loses end.Full reads lost m = record { why = ⊎_elim (λ e. inl (e, omega arith)) (λ p. inr (p.0, p.1, p.2, λ t. omega arith, omega arith)) m }
+loses end.Down reads lost m = record { why = inl (m.0, λ leaves. (refl, refl)) }
+loses end.Stopped reads lost m = record { why = ⊎_elim (λ e. inl (e, λ leaves. inl refl)) (λ p. inr (p.0, p.1, p.2, tt)) m }
+loses end.Full reads lost m = record { why = ⊎_elim (λ e. inl (e, λ leaves. inl refl)) (λ p. inr (p.0, p.1, p.2, tt)) m }
 loses end.Failed reads lost m = absurd m
-loses end.NoMemory reads lost m = record { why = ⊎_elim (λ e. inl (e, omega arith)) (λ p. inr (p.0, p.1, p.2, λ t. omega arith, omega arith)) m }
+loses end.NoMemory reads lost m = record { why = ⊎_elim (λ e. inl (e, λ leaves. inl refl)) (λ p. inr (p.0, p.1, p.2, tt)) m }
 
 -- which piece was lost
-abbrev WhichLost : List Piece → List Term → Bool → Bool → Type 0
-WhichLost pieces lost last reads = (pieces ≡ []) ⊎ (((t : Term) × (pieces ≡ Told t ∷ []) × (lost ≡ t ∷ []) × (reads ≡ true)) ⊎ ((pieces ≡ Last ∷ []) × (last ≡ true) × (lost ≡ []) × (reads ≡ true)))
+abbrev WhichLost : List Piece → List Term → Bool → Bool → Bool → Type 0
+WhichLost pieces lost last leaves reads =
+    ((pieces ≡ []) × (lost ≡ []) × (leaves ≡ last))
+    ⊎ (((t : Term) × (pieces ≡ Told t ∷ []) × (lost ≡ t ∷ []) × (last ≡ false) × (reads ≡ true))
+    ⊎ ((pieces ≡ Last ∷ []) × (last ≡ true) × (lost ≡ []) × (reads ≡ true)))
 
 -- what was received in all
 record Received (told : List Term) (leaves reads : Bool) (it : WorkEnd) (got_old got_new gone : List Piece) : Type 0 where
   pub lost : List Term
   pub last : Bool
-  pub which : WhichLost gone lost last reads
+  pub which : WhichLost gone lost last leaves reads
   pub got : got_new ≡ got_old ++ pieces (told ++ lost) last
   pub said : leaves ≡ true → (last ≡ true) × (lost ≡ [])
-  pub lacks : MayLack it lost
+  pub lacks : MayLack it lost last leaves
 
 received_so : (told : List Term) (leaves reads : Bool) (it : WorkEnd) (g0 g1 g2 lost : List Piece) → (reads ≡ true → leaves ≡ false) → g1 ≡ g0 ++ pieces told leaves → g2 ≡ g1 ++ lost → Loses it reads lost → Received told leaves reads it g0 g2 lost
 received_so told leaves reads it g0 g1 g2 lost still one two l = go l.why
@@ -178,13 +199,13 @@ received_so told leaves reads it g0 g1 g2 lost still one two l = go l.why
     one_more : (piece : Piece) → leaves ≡ false → lost ≡ piece ∷ [] → g2 ≡ g0 ++ (pieces told false ++ piece ∷ [])
     one_more piece stays e = two ∙ (ap (λ (s : List Piece). g1 ++ s) e ∙ (ap (λ (s : List Piece). s ++ piece ∷ []) (one ∙ ap (λ (b : Bool). g0 ++ pieces told b) stays) ∙ append_assoc g0 (pieces told false) (piece ∷ [])))
 
-    by : (piece : Piece) → reads ≡ true → leaves ≡ false → lost ≡ piece ∷ [] → ((t : Term) → MayLack it (t ∷ [])) → MayLack it [] → Received told leaves reads it g0 g2 lost
-    by (Told t) on stays e may none = record { lost = t ∷ []; last = false; which = inr (inl (t, e, refl, on)); got = one_more (Told t) stays e ∙ ap (λ (s : List Piece). g0 ++ s) (pieces-append told (t ∷ []) false); said = λ h. absurd (true≢false (sym h ∙ stays)); lacks = may t }
-    by Last on stays e may none = record { lost = []; last = true; which = inr (inr (e, refl, refl, on)); got = one_more Last stays e ∙ ap (λ (s : List Piece). g0 ++ s) (pieces-append told [] true); said = λ h. (refl, refl); lacks = none }
+    by : (piece : Piece) → reads ≡ true → leaves ≡ false → lost ≡ piece ∷ [] → IsEarly it → Received told leaves reads it g0 g2 lost
+    by (Told t) on stays e early = record { lost = t ∷ []; last = false; which = inr (inl (t, e, refl, refl, on)); got = one_more (Told t) stays e ∙ ap (λ (s : List Piece). g0 ++ s) (pieces-append told (t ∷ []) false); said = λ h. absurd (true≢false (sym h ∙ stays)); lacks = lack_one it t leaves early }
+    by Last on stays e early = record { lost = []; last = true; which = inr (inr (e, refl, refl, on)); got = one_more Last stays e ∙ ap (λ (s : List Piece). g0 ++ s) (pieces-append told [] true); said = λ h. (refl, refl); lacks = lack_none it true leaves early }
 
-    go : ((lost ≡ []) × MayLack it []) ⊎ ((piece : Piece) × (lost ≡ piece ∷ []) × (reads ≡ true) × ((t : Term) → MayLack it (t ∷ [])) × MayLack it []) → Received told leaves reads it g0 g2 lost
-    go (inl e) = record { lost = []; last = leaves; which = inl e.0; got = two ∙ (ap (λ (s : List Piece). g1 ++ s) e.0 ∙ (append-nil g1 ∙ (one ∙ ap (λ (s : List Term). g0 ++ pieces s leaves) (sym (append-nil told))))); said = λ h. (h, refl); lacks = e.1 }
-    go (inr p) = by p.0 p.2 (still p.2) p.1 p.3 p.4
+    go : ((lost ≡ []) × ((said : Bool) → MayLack it [] said said)) ⊎ ((piece : Piece) × (lost ≡ piece ∷ []) × (reads ≡ true) × IsEarly it) → Received told leaves reads it g0 g2 lost
+    go (inl e) = record { lost = []; last = leaves; which = inl (e.0, refl, refl); got = two ∙ (ap (λ (s : List Piece). g1 ++ s) e.0 ∙ (append-nil g1 ∙ (one ∙ ap (λ (s : List Term). g0 ++ pieces s leaves) (sym (append-nil told))))); said = λ h. (h, refl); lacks = e.1 leaves }
+    go (inr p) = by p.0 p.2 (still p.2) p.1 p.3
 
 why_down : (it : WorkEnd) (reads : Bool) (lost : List Piece) (leaves : Bool) (more : List Entry) → MayLose it reads lost → (reads ≡ false → (leaves ≡ true) ⊎ HasDropped (is_of 1) more) → WhyDown it leaves more
 why_down end.Over reads lost leaves more m w = absurd m
@@ -195,14 +216,14 @@ why_down end.Failed reads lost leaves more m w = absurd m
 why_down end.NoMemory reads lost leaves more m w = tt
 
 -- and which call was refused
-lines_so : (told : List Term) (leaves : Bool) → leaves ≡ false → ◌≡◌ {A = List Input} (connect ∷ lines_of told leaves) (connect ∷ lines_of told false)
-lines_so told leaves e = ap (λ (l : Bool). connect ∷ lines_of told l) e
+lines_so : (told : List Term) (leaves last : Bool) → leaves ≡ last → ◌≡◌ {A = List Input} (connect ∷ lines_of told leaves) (connect ∷ lines_of told last)
+lines_so told leaves last e = ap (λ (l : Bool). connect ∷ lines_of told l) e
 
 refused_so : (old mid new : SeatView) (xs : List Entry) (told : List Term) (gone : List Piece) (lost : List Term) (last leaves reads : Bool) → Adds old mid xs → (reads ≡ true → leaves ≡ false) → (reads ≡ true → HasDropped (is_of 1) xs → ⊥)
-    → WhichLost gone lost last reads → PieceFull mid new gone → ReaderFull old new xs (connect ∷ lines_of told leaves) told lost last
-refused_so old mid new xs told gone lost last leaves reads adds still let_in (inl e) f = inl (found_on (HandOut 1) old mid new xs adds (subst (PieceFull mid new) e f))
-refused_so old mid new xs told gone lost last leaves reads adds still let_in (inr (inl (t, e, l, s))) f = inr (inr (inl (t, l, lines_so told leaves (still s), let_in s, found_on (HandIn (event_of t)) old mid new xs adds (subst (PieceFull mid new) e f))))
-refused_so old mid new xs told gone lost last leaves reads adds still let_in (inr (inr (e, l, n, s))) f = inr (inr (inr (l, n, lines_so told leaves (still s), let_in s, found_on (HandIn disconnect) old mid new xs adds (subst (PieceFull mid new) e f))))
+    → WhichLost gone lost last leaves reads → PieceFull mid new gone → ReaderFull old new xs (connect ∷ lines_of told leaves) told lost last
+refused_so old mid new xs told gone lost last leaves reads adds still let_in (inl (e, n, l)) f = inl (n, lines_so told leaves last l, found_on (HandOut 1) old mid new xs adds (subst (PieceFull mid new) e f))
+refused_so old mid new xs told gone lost last leaves reads adds still let_in (inr (inl (t, e, l, n, s))) f = inr (inr (inl (t, l, n, lines_so told leaves false (still s), let_in s, found_on (HandIn (event_of t)) old mid new xs adds (subst (PieceFull mid new) e f))))
+refused_so old mid new xs told gone lost last leaves reads adds still let_in (inr (inr (e, l, n, s))) f = inr (inr (inr (l, n, lines_so told leaves false (still s), let_in s, found_on (HandIn disconnect) old mid new xs adds (subst (PieceFull mid new) e f))))
 
 pub dropped_here : (reply : Reply) → reply ≡ Dropped why.Down → HasDropped (is_of 1) (Fed connect reply ∷ [])
 dropped_here reply e = ([], connect, [], refl, ap (λ (r : Reply). Fed connect r ∷ []) e)
@@ -239,14 +260,6 @@ read_behind old b new reply g0 g1 reads it adds same dropped let_in r =
           (refused_so old r.mid new (Fed connect reply ∷ r.on.more) r.on.told r.ends.lost so.lost so.last r.on.leaves r.reads' on.adds r.on.still none so.which) r.ends.ends.ends;
     }
 
-lack_none : (it : WorkEnd) → IsEarly it → MayLack it []
-lack_none end.Over e = absurd e
-lack_none end.Down e = absurd e
-lack_none end.Stopped e = omega arith
-lack_none end.Full e = omega arith
-lack_none end.Failed e = absurd e
-lack_none end.NoMemory e = omega arith
-
 why_early : (it : WorkEnd) (leaves : Bool) (more : List Entry) → IsEarly it → WhyDown it leaves more
 why_early end.Over leaves more e = absurd e
 why_early end.Down leaves more e = absurd e
@@ -272,7 +285,7 @@ read_refused old new got it e =
       events_are = refl;
       got = sym (append-nil got);
       said = λ h. absurd (true≢false (sym h));
-      lacks = lack_none it e.1;
+      lacks = lack_none it false false e.1;
       why = why_early it false [] e.1;
       marks = e.0.marks;
       ends = ends_by (FoundFull (HandIn connect) old new) (ReaderFull old new [] [] [] [] false) new it (λ f. inr (inl (refl, f))) e.0.ends;

@@ -45,3 +45,5 @@ pub record Passes (one other : List Entry) (Early Others_early : Type 0) : Type 
   pub whole : leaves ≡ true → events other ≡ does one
   -- it has left, or an input of lane 1 was dropped because the bus had shut down
   pub why : (leaves ≡ true) ⊎ (HasDropped (is_of 1) other ⊎ Others_early)
+  -- so the events are the terms of all `rec-do` lines of the one's tool, or an input of lane 1 was dropped because the bus had shut down
+  pub exact : (events other ≡ does one) ⊎ (HasDropped (is_of 1) other ⊎ Others_early)

@@ -1,5 +1,5 @@
 -- What each of the two workers of a pipe has done once it ends, by what its seat has seen, and by the pieces that its end of the pipe sent or received in the call.
-use Rattle.std.specs.Prelude.{◌≡◌, ◌≤◌, ◌⊎◌, Bool, true, false, List, [], ◌∷◌, ◌++◌, length, None}
+use Rattle.std.specs.Prelude.{◌≡◌, ◌⊎◌, Bool, true, false, List, [], ◌∷◌, ◌++◌, None}
 use Rattle.tb_terms.specs.declared.term.Term.{Term}
 use Rattle.tb_log.specs.declared.entry.Input.{Input}
 use Rattle.tb_log.specs.declared.entry.Reply.{Reply}
@@ -44,12 +44,12 @@ PipeEnds Refused new end.NoMemory = Unit {0}
 abbrev pub WriterFull : SeatView → SeatView → List Input → Type 0
 WriterFull old new given = FoundFull (HandOut 1) old new ⊎ ((given ≡ []) × FoundFull (HandIn connect) old new)
 
--- The same for the reader; or for the event of the term that was received last, or, once no more pieces come, for the disconnect request. These are then missing, and none of its inputs was dropped because the bus had shut down.
+-- The same for the reader: if it was the next queued item, an input was delivered for each received piece. Or it was the event of the term that was received last, or, once no more pieces come, the disconnect request. These are then missing, and none of its inputs was dropped because the bus had shut down.
 abbrev pub ReaderFull : SeatView → SeatView → List Entry → List Input → List Term → List Term → Bool → Type 0
 ReaderFull old new more given told lost last =
-    FoundFull (HandOut 1) old new
+    ((lost ≡ []) × (given ≡ connect ∷ lines_of told last) × FoundFull (HandOut 1) old new)
     ⊎ (((given ≡ []) × FoundFull (HandIn connect) old new)
-    ⊎ (((t : Term) × (lost ≡ t ∷ []) × (given ≡ connect ∷ lines_of told false) × (HasDropped (is_of 1) more → ⊥) × FoundFull (HandIn (event_of t)) old new)
+    ⊎ (((t : Term) × (lost ≡ t ∷ []) × (last ≡ false) × (given ≡ connect ∷ lines_of told false) × (HasDropped (is_of 1) more → ⊥) × FoundFull (HandIn (event_of t)) old new)
     ⊎ ((last ≡ true) × (lost ≡ []) × (given ≡ connect ∷ lines_of told false) × (HasDropped (is_of 1) more → ⊥) × FoundFull (HandIn disconnect) old new)))
 
 -- A worker of a pipe that adds these entries: their inputs of lane 1 are these, and none reports that an item couldn't be written.
@@ -83,14 +83,18 @@ pub record WritesPipe (old new : SeatView) (sent_old sent_new : List Piece) (it 
   pub marks : Marks old new it
   pub ends : PipeEnds (WriterFull old new given) new it
 
--- the terms that were received and not delivered: none if the bus has shut down, one at most at an early end
-abbrev pub MayLack : WorkEnd → List Term → Type 0
-MayLack end.Over lost = ⊥
-MayLack end.Down lost = lost ≡ []
-MayLack end.Stopped lost = length lost ≤ 1
-MayLack end.Full lost = length lost ≤ 1
-MayLack end.Failed lost = ⊥
-MayLack end.NoMemory lost = length lost ≤ 1
+-- no term was received and not delivered, or one: then no piece was received after it
+abbrev pub LacksOne : List Term → Bool → Type 0
+LacksOne lost last = (lost ≡ []) ⊎ ((t : Term) × (lost ≡ t ∷ []) × (last ≡ false))
+
+-- What was received and not delivered. If the bus has shut down: no term, and the tool has left if the last piece was received. At an early end: one term at most.
+abbrev pub MayLack : WorkEnd → List Term → Bool → Bool → Type 0
+MayLack end.Over lost last leaves = ⊥
+MayLack end.Down lost last leaves = (lost ≡ []) × (last ≡ leaves)
+MayLack end.Stopped lost last leaves = LacksOne lost last
+MayLack end.Full lost last leaves = LacksOne lost last
+MayLack end.Failed lost last leaves = ⊥
+MayLack end.NoMemory lost last leaves = LacksOne lost last
 
 -- a worker that ends because its bus has shut down has read to the end: the tool has left, or an input of its lane was dropped because the bus had shut down
 abbrev pub WhyDown : WorkEnd → Bool → List Entry → Type 0
@@ -117,7 +121,7 @@ pub record ReadsPipe (old new : SeatView) (got_old got_new : List Piece) (it : W
   pub events_are : events more ≡ told
   pub got : got_new ≡ got_old ++ pieces (told ++ lost) last
   pub said : leaves ≡ true → (last ≡ true) × (lost ≡ [])
-  pub lacks : MayLack it lost
+  pub lacks : MayLack it lost last leaves
   pub why : WhyDown it leaves more
   pub marks : Marks old new it
   pub ends : PipeEnds (ReaderFull old new more given told lost last) new it

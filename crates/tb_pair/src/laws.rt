@@ -5,11 +5,10 @@ ghost use Rattle.atomic_table.specs.Seated.{TableId};
 ghost use Rattle.rtrb.specs.Ring.{IsPair, received, sent};
 ghost use Rattle.tb_edge.specs.Ends.{ClockView};
 ghost use Rattle.tb_edge.specs.Faults.{Rose};
-ghost use Rattle.tb_lock.specs.Rights.{In, Out as Outs, AreAmong, all_rights, has, united, without};
+ghost use Rattle.tb_lock.specs.Rights.{In, Out as Outs, AreAmong, all_rights, has, united, without, ticker_rights};
 ghost use Rattle.tb_lock.specs.Seats.{SeatView};
 ghost use Rattle.tb_run.specs.declared.ends.WorkEnd.{WorkEnd};
 ghost use Rattle.tb_run.specs.Parting.{CanPart};
-ghost use Rattle.tb_run.specs.Parts.{to_tick};
 ghost use Rattle.tb_pair.specs.declared.piece.Piece.{Piece};
 ghost use Rattle.tb_pair.specs.Clocks.{ClockPasses};
 ghost use Rattle.tb_pair.specs.Jobs.{CanServe};
@@ -66,8 +65,9 @@ pub fn ticks_meet()
 /// rights and all room. The worker of the pipe has both rights of lane 1.
 pub fn a_pair_parts()
     ensures can { CanPart all_rights pair_rights }
-    ensures ticks { AreAmong to_tick pair_left }
-    ensures unite { fold united (without pair_left to_tick) (to_tick ∷ pair_rights) ≡ all_rights }
+    ensures ticks { AreAmong ticker_rights pair_left }
+    ensures unite { fold united (without pair_left ticker_rights) (ticker_rights ∷ pair_rights)
+        ≡ all_rights }
     ensures rooms { fold (λ (a b : ℕ). a + b) 31 (1 ∷ map (λ _. 1) pair_rights) ≡ 64 }
     ensures count { length pair_rights ≡ 32 }
     ensures pipe { (has to_pipe (In 1) ≡ true) × (has to_pipe (Outs 1) ≡ true) }

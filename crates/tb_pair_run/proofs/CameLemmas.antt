@@ -80,6 +80,7 @@ passes_by one other A B A' B' f g p = record {
   others_names = ⊎_elim (λ e. inl e) (λ e. inr (e.0, e.1, g e.2)) p.others_names;
   whole = p.whole;
   why = ⊎_elim (λ e. inl e) (λ e. inr (⊎_elim (λ d. inl d) (λ b. inr (g b)) e)) p.why;
+  exact = ⊎_elim (λ e. inl e) (λ e. inr (⊎_elim (λ d. inl d) (λ b. inr (g b)) e)) p.exact;
 }
 
 time_by : (log : List Entry) (most given : ℕ) (ended : Bool) (F A A' : Type 0) → (A → A') → TimePasses log most given ended F A → TimePasses log most given ended F A'
@@ -224,9 +225,9 @@ module _ (bus others_bus : TableId) (begun done last others_begun others_done ot
   let_in n d = n (subst (HasDropped (is_of 1)) (own_is others_begun others_done others_last r.more others_part r.goes.adds) (own_dropped 1 others_begun.rights others_can.reads others_last.seen d))
 
   by_reader : ReaderFull others_begun others_done r.more r.given r.told r.lost r.last → ReaderRefused last.seen others_last.origin others_last.seen
-  by_reader (inl f) = inl (found (HandOut 1) f)
+  by_reader (inl f) = inl (found (HandOut 1) f.2)
   by_reader (inr (inl f)) = inr (inl (read_inputs ∙ f.0, found (HandIn connect) f.1))
-  by_reader (inr (inr (inl f))) = inr (inr (inl (record { next = f.0; rest = first.more ++ w.rest; is = next f.0 f.1; lines = lines f.2; let_in = let_in f.3; no_room = found (HandIn (event_of f.0)) f.4 })))
+  by_reader (inr (inr (inl f))) = inr (inr (inl (record { next = f.0; rest = first.more ++ w.rest; is = next f.0 f.1; lines = lines f.3; let_in = let_in f.4; no_room = found (HandIn (event_of f.0)) f.5 })))
   by_reader (inr (inr (inr f))) = inr (inr (inr (record { all = whole f.0 f.1; lines = lines f.2; let_in = let_in f.3; no_room = found (HandIn disconnect) f.4 })))
 
   reader_refused : ReaderRefused last.seen others_last.origin others_last.seen

@@ -68,6 +68,7 @@ nothing_passed = record {
   others_names = inr (refl, refl, tt);
   whole = λ e. refl;
   why = inr (inr tt);
+  exact = inl refl;
 }
 
 no_time : (most : ℕ) (Failed : Type 0) → TimePasses [] most 0 false Failed ⊤

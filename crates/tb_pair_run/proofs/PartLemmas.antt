@@ -2,12 +2,11 @@
 use Rattle.std.proofs.Common.{◌≡◌, List, [], ◌∷◌, ◌++◌, length, refl}
 use Rattle.std.specs.List.{fold}
 use Rattle.atomic_table.specs.Seated.{TableId}
-use Rattle.tb_lock.specs.Rights.{AreAmong, all_rights, united, without}
+use Rattle.tb_lock.specs.Rights.{AreAmong, all_rights, united, without, ticker_rights}
 use Rattle.tb_lock.specs.Seats.{SeatView}
 use Rattle.tb_lock.proofs.RightLemmas.{covers}
 use Rattle.tb_run.specs.Moving.{works_of}
 use Rattle.tb_run.specs.Parting.{CanPart, parted}
-use Rattle.tb_run.specs.Parts.{to_tick}
 use Rattle.tb_run.specs.Running.{Fits}
 use Rattle.tb_run.proofs.PartLemmas.{can_by, lanes_fit}
 use Rattle.tb_pair.specs.Parts.{others, to_pipe}
@@ -22,15 +21,15 @@ pub pipe_can : AreAmong to_pipe (fold without all_rights lane_rights)
 unfolding parts.lane_rights
 pipe_can = (covers to_pipe (fold without all_rights lane_rights)).0 refl
 
-pub tick_can : AreAmong to_tick (without (fold without all_rights lane_rights) to_pipe)
+pub tick_can : AreAmong ticker_rights (without (fold without all_rights lane_rights) to_pipe)
 unfolding parts.lane_rights
-tick_can = (covers to_tick (without (fold without all_rights lane_rights) to_pipe)).0 refl
+tick_can = (covers ticker_rights (without (fold without all_rights lane_rights) to_pipe)).0 refl
 
 pub lane_count : length lane_rights ≡ 31
 unfolding parts.lane_rights
 lane_count = refl
 
-pub rights_unite : fold united (fold without (fold without all_rights lane_rights) (to_pipe ∷ to_tick ∷ [])) ((to_pipe ∷ to_tick ∷ []) ++ lane_rights) ≡ all_rights
+pub rights_unite : fold united (fold without (fold without all_rights lane_rights) (to_pipe ∷ ticker_rights ∷ [])) ((to_pipe ∷ ticker_rights ∷ []) ++ lane_rights) ≡ all_rights
 unfolding parts.lane_rights
 rights_unite = refl
 

@@ -9,7 +9,7 @@ use Rattle.tb_log.specs.declared.entry.Entry.{Entry}
 use Rattle.tb_tools.specs.Finding.{next_out}
 use Rattle.tb_core.specs.Cores.{CoreState, MakeStep}
 use Rattle.tb_lock.specs.declared.rights.Rights.{Rights}
-use Rattle.tb_lock.specs.Rights.{all_rights}
+use Rattle.tb_lock.specs.Rights.{all_rights, ticker_rights}
 use Rattle.tb_lock.specs.Seats.{SeatView, first_seat, most_seats}
 use Rattle.tb_lock.specs.Calls.{Closes}
 use Rattle.tb_run.specs.declared.ends.WorkEnd.{WorkEnd}
@@ -20,7 +20,6 @@ use Rattle.tb_run.specs.Joining.{JoinsAll}
 use Rattle.tb_run.specs.Moving.{readers, writers, inlets_of, outlets_of}
 use Rattle.tb_run.specs.Outcomes.{IsDone, LaneRan, LaneStopped}
 use Rattle.tb_run.specs.Parting.{parted}
-use Rattle.tb_run.specs.Parts.{to_tick}
 use Rattle.tb_run.specs.Reasons.{is_full_end}
 use Rattle.tb_run.specs.Refusals.{HadNoRoom, LaneRefused}
 use Rattle.tb_run.specs.Seats.{Adds, Marks}
@@ -81,7 +80,7 @@ pub record SideCame (olds news : List LaneView) (begun last pipe_begun pipe_done
   pub ended : NoneRefused (pipe_end ∷ tick_end ∷ ends) → (core : CoreState) → Closes last core → SideEnded olds news last pipe_done pipe_end tick_end
 
 abbrev further : List Rights
-further = to_pipe ∷ to_tick ∷ []
+further = to_pipe ∷ ticker_rights ∷ []
 
 module _ (first_law : FirstLaw) (second_law : SecondLaw) (down_law : DownLaw) (empty_law : EmptyLaw)
     {X I O : Type 0} (seat : X → SeatView) (ended : X → WorkEnd) (work : X → Work I O) (gave : I → Option InletView) (fails : I → ℕ) (took : O → Option (List Taken)) (faults : O → ℕ)
@@ -112,8 +111,8 @@ module _ (first_law : FirstLaw) (second_law : SecondLaw) (down_law : DownLaw) (e
   rights : last.rights ≡ all_rights
   rights =
       let pipe_has : pipe_begun.rights ≡ to_pipe = ap (λ (s : SeatView). s.rights) c.pipe_is in
-      let tick_has : tick_begun.rights ≡ to_tick = ap (λ (s : SeatView). s.rights) c.tick_is in
-      the_bus.rights_are (to_pipe ∷ to_tick ∷ [])
+      let tick_has : tick_begun.rights ≡ ticker_rights = ap (λ (s : SeatView). s.rights) c.tick_is in
+      the_bus.rights_are (to_pipe ∷ ticker_rights ∷ [])
       (ap (λ (r : Rights). r ∷ tick_begun.rights ∷ []) pipe_has ∙ ap (λ (r : Rights). to_pipe ∷ r ∷ []) tick_has) rights_unite
 
   room : last.room ≡ most_seats
@@ -167,8 +166,8 @@ module _ (begun last pipe tick : SeatView) (seats : List SeatView) (first : begu
   idle_rights : last.rights ≡ all_rights
   idle_rights =
       let pipe_has : pipe.rights ≡ to_pipe = ap (λ (s : SeatView). s.rights) pipe_is in
-      let tick_has : tick.rights ≡ to_tick = ap (λ (s : SeatView). s.rights) tick_is in
-      idle_bus.rights_are (to_pipe ∷ to_tick ∷ []) (ap (λ (r : Rights). r ∷ tick.rights ∷ []) pipe_has ∙ ap (λ (r : Rights). to_pipe ∷ r ∷ []) tick_has) rights_unite
+      let tick_has : tick.rights ≡ ticker_rights = ap (λ (s : SeatView). s.rights) tick_is in
+      idle_bus.rights_are (to_pipe ∷ ticker_rights ∷ []) (ap (λ (r : Rights). r ∷ tick.rights ∷ []) pipe_has ∙ ap (λ (r : Rights). to_pipe ∷ r ∷ []) tick_has) rights_unite
 
   pub side_idle : IsBack begun last × (last.seen ≡ [])
   side_idle = (record { bus = idle_bus.bus; origin = idle_bus.origin; rights = idle_rights; room = idle_bus.room_is refl (let k = lane_count in omega (arith, k)); sees = idle_bus.sees }, idle_bus.nothing)

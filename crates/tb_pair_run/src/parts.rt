@@ -7,7 +7,7 @@ ghost use Rattle.tb_pair_run.specs.Helpers.Parts.{lane_rights, pipe_seat_of, tic
 
 use tb_algebra::Walker;
 use tb_lock::{Rights, Seat, Shared};
-use tb_run::{in_of, out_of, split_all, to_step, to_tick};
+use tb_run::{in_of, out_of, split_all};
 
 /// Passes a seat to each worker of lanes 2 to 16, in the order of the jobs. Then passes one to the worker that serves the pipe, and one
 /// to the ticker.
@@ -27,7 +27,7 @@ pub(crate) fn hand_out<W: Walker>(
     let parts = lane_rights();
     split_all(shared, seat, parts.as_slice(), seats);
     let pipe = shared.split(seat, to_pipe());
-    let tick = shared.split(seat, to_tick());
+    let tick = shared.split(seat, Rights::ticker());
     (pipe, tick)
 }
 
@@ -67,7 +67,7 @@ fn lane_rights() -> [Rights; 31]
         out_of(8192),
         out_of(16384),
         out_of(32768),
-        to_step(),
+        Rights::stepper(),
     ]
 }
 

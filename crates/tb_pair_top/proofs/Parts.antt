@@ -17,7 +17,8 @@ use Rattle.tb_pair_run.specs.Outcomes.{PairRuns}
 use Rattle.tb_pair_run.specs.Outcomes.{TellsFirst as RunTells}
 use Rattle.tb_pair_run.specs.declared.ends.PairWhy.{PairWhy}
 use Rattle.tb_pair_run.specs.declared.ends.PairWhy.TheVariants as why
-use Rattle.tb_pair_top.specs.Loading.{AsksBoth, AsksSome, IsOfOne}
+use Rattle.tb_edge.specs.FilesHeld.{AsksSome}
+use Rattle.tb_pair_top.specs.Loading.{AsksBoth, IsOfOne}
 use Rattle.tb_pair_top.specs.Outcomes.{ArePut, CommandOutcome, Comes, FileCaused, HaveRun, IsPair, RunOutcome, TellsFirst, files_of, pair_origin, pair_text}
 use Rattle.tb_pair_top.specs.Views.{Outside, Seen}
 use Rattle.tb_pair_top.specs.Helpers.Parts.{AreStarted, AreUnloaded, EndsAs, HavePrograms, IsRunFault, PutsLogs, of_load}

@@ -15,10 +15,3 @@ abbrev pub IsOfOne : (Option (List ℕ) → Type 0) → (List ℕ → Option (Li
 IsOfOne Is held first second old new =
     (Is (held first) × AsksFirst first old new)
     ⊎ (IsAccepted (held first) × Is (held second) × AsksBoth first second old new)
-
--- Some of the names of both scripts were asked for, the first of them in order.
-pub record AsksSome (names old new : List (List ℕ)) : Type 0 where
-  pub asked : List (List ℕ)
-  pub others : List (List ℕ)
-  pub first : asked ++ others ≡ names
-  pub is : new ≡ old ++ asked

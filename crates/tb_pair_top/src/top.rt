@@ -3,7 +3,7 @@ ghost use Rattle.std.specs.Prelude.{◌≡◌, Err, Ok, IfErr, map, string_bytes
 ghost use Rattle.tb_cli.specs.Words.{asked_pair};
 ghost use Rattle.tb_cli.specs.Table.{IsPairWithin};
 ghost use Rattle.tb_edge.specs.Faults.{Rose};
-ghost use Rattle.tb_pair_top.specs.Loading.{AsksSome};
+ghost use Rattle.tb_edge.specs.FilesHeld.{AsksSome};
 ghost use Rattle.tb_pair_top.specs.Outcomes.{Comes, files_of};
 ghost use Rattle.tb_pair_top.specs.Reporting.{Reported};
 ghost use Rattle.tb_pair_top.specs.Views.{all_seen};

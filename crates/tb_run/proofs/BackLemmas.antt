@@ -7,7 +7,7 @@ use Rattle.tb_edge.specs.Jobs.{AllDone, jobs_of, FailsOnly}
 use Rattle.tb_edge.specs.declared.crew.CrewFault.{CrewFault}
 use Rattle.tb_edge.specs.declared.crew.CrewFault.TheVariants as fault
 use Rattle.tb_edge.specs.declared.given.Taken.{Taken}
-use Rattle.tb_lock.specs.Rights.{no_rights}
+use Rattle.tb_lock.specs.Rights.{no_rights, ticker_rights}
 use Rattle.tb_lock.specs.Seats.{SeatView, first_seat, kept_of, handed_on}
 use Rattle.tb_write.specs.Writers.{WriterView}
 use Rattle.tb_run.specs.declared.ends.WorkEnd.{WorkEnd}
@@ -21,7 +21,7 @@ use Rattle.tb_run.specs.Logging.{LogDone}
 use Rattle.tb_run.specs.Moving.{readers, writers, inlets_of, outlets_of}
 use Rattle.tb_run.specs.Views.{OutsideView, views}
 use Rattle.tb_run.specs.Parting.{parted, left_after}
-use Rattle.tb_run.specs.Parts.{job_rights, to_tick}
+use Rattle.tb_run.specs.Parts.{job_rights}
 use Rattle.tb_run.specs.Reasons.{reason_of}
 use Rattle.tb_run.specs.Running.{FailsFor, HasCome, why_by}
 use Rattle.tb_run.specs.Workers.{TicksBus}
@@ -74,7 +74,7 @@ module _ {X I O : Type 0} (seat : X → SeatView) (ended : X → WorkEnd) (work 
     (clock_old clock_new : Option ClockView) (clock_faults_old clock_faults_new : ℕ) (put_old put_new : Option (List ℕ)) (out_faults_old out_faults_new : ℕ) (writer : WriterView)
     (crew_faults_old crew_faults_new : ℕ)
     (first : begun ≡ first_seat begun.bus begun.origin) (seats : map seat xs ≡ parted begun job_rights) (works : map work xs ≡ readers 1 is ++ (writers 1 os ++ Steps ∷ []))
-    (tick_is : tick_begun ≡ handed_on to_tick (left_after begun job_rights)) (log_is : log_begun ≡ handed_on no_rights (kept_of to_tick (left_after begun job_rights)))
+    (tick_is : tick_begun ≡ handed_on ticker_rights (left_after begun job_rights)) (log_is : log_begun ≡ handed_on no_rights (kept_of ticker_rights (left_after begun job_rights)))
     (sixteen_in : length is ≡ 16) (sixteen_out : length os ≡ 16) (failed : Option RunWhy) where
   -- what was done
   abbrev pub Worked : Type 0
@@ -105,7 +105,7 @@ module _ {X I O : Type 0} (seat : X → SeatView) (ended : X → WorkEnd) (work 
 
   module _ (first_law : FirstLaw) (second_law : SecondLaw) (down_law : DownLaw) (empty_law : EmptyLaw) (last : SeatView) (is_new : List I) (os_new : List O) (it : RunWhy)
       (rights : All (λ (x : X). HasRight (seat x) (work x)) xs)
-      (joins : JoinsAll (kept_of no_rights (kept_of to_tick (left_after begun job_rights))) (log_done ∷ tick_done ∷ map seat ys) last)
+      (joins : JoinsAll (kept_of no_rights (kept_of ticker_rights (left_after begun job_rights))) (log_done ∷ tick_done ∷ map seat ys) last)
       (inlets : is_new ≡ inlets_of (map work ys)) (outlets : os_new ≡ outlets_of (map work ys)) where
     abbrev pub Before : OutsideView
     Before = record { lanes = views gave fails took faults is os; clock = clock_old; clock_faults = clock_faults_old; crew_faults = crew_faults_old; put = put_old; out_faults = out_faults_old }

@@ -10,7 +10,7 @@ use Rattle.tb_log.specs.LogText.{log_text, log_text_from}
 use Rattle.tb_log.specs.declared.entry.Entry.{Entry}
 use Rattle.tb_core.specs.Cores.{CoreState}
 use Rattle.tb_lock.specs.declared.rights.Rights.{Rights}
-use Rattle.tb_lock.specs.Rights.{Ticks as ToTick, all_rights, no_rights, has}
+use Rattle.tb_lock.specs.Rights.{Ticks as ToTick, all_rights, no_rights, has, ticker_rights}
 use Rattle.tb_lock.specs.Seats.{SeatView, first_seat, kept_of, handed_on, most_seats}
 use Rattle.tb_lock.specs.Calls.{Closes}
 use Rattle.tb_write.specs.Writers.{WriterView}
@@ -28,7 +28,7 @@ use Rattle.tb_run.specs.Outcomes.{IsDone, TellsFirst}
 use Rattle.tb_run.specs.Refusals.{WasRefused}
 use Rattle.tb_run.specs.Views.{OutsideView, views}
 use Rattle.tb_run.specs.Parting.{parted, left_after}
-use Rattle.tb_run.specs.Parts.{job_rights, to_tick}
+use Rattle.tb_run.specs.Parts.{job_rights}
 use Rattle.tb_run.specs.Reasons.{reason_of, of_log, of_clock, is_no_memory, is_full_end}
 use Rattle.tb_run.specs.Running.{ComesTo, HasCome, HasRun, IsPut, IsStopped, PutsPrefix}
 use Rattle.tb_run.specs.Seats.{Adds}
@@ -70,11 +70,11 @@ pub record Course {X I O : Type 0} (seat : X → SeatView) (ended : X → WorkEn
   pub works : map work xs ≡ readers 1 is ++ (writers 1 os ++ Steps ∷ [])
   pub rights : All (λ (x : X). HasRight (seat x) (work x)) xs
   pub done : AllDone (Done seat ended work gave fails took faults) xs ys
-  pub tick_is : tick_begun ≡ handed_on to_tick (left_after begun job_rights)
-  pub log_is : log_begun ≡ handed_on no_rights (kept_of to_tick (left_after begun job_rights))
+  pub tick_is : tick_begun ≡ handed_on ticker_rights (left_after begun job_rights)
+  pub log_is : log_begun ≡ handed_on no_rights (kept_of ticker_rights (left_after begun job_rights))
   pub ticks : TicksBus (λ count. count ≡ most) most tick_begun tick_done clock_old clock_new clock_faults_old clock_faults_new tick_end
   pub logs : LogDone log_begun log_done writer put_old put_new out_faults_old out_faults_new log_end
-  pub joins : JoinsAll (kept_of no_rights (kept_of to_tick (left_after begun job_rights))) (log_done ∷ tick_done ∷ map seat ys) last
+  pub joins : JoinsAll (kept_of no_rights (kept_of ticker_rights (left_after begun job_rights))) (log_done ∷ tick_done ∷ map seat ys) last
   pub inlets : is_new ≡ inlets_of (map work ys)
   pub outlets : os_new ≡ outlets_of (map work ys)
   pub lanes : length os ≡ 16
@@ -99,9 +99,9 @@ module _ (first_law : FirstLaw) (second_law : SecondLaw) (down_law : DownLaw) (e
 
   -- the seats that were passed on in addition to those of the workers of the lanes
   abbrev further : List Rights
-  further = to_tick ∷ no_rights ∷ []
+  further = ticker_rights ∷ no_rights ∷ []
 
-  further_are_new : EachNew begun (handed_on to_tick (left_after begun job_rights) ∷ handed_on no_rights (kept_of to_tick (left_after begun job_rights)) ∷ [])
+  further_are_new : EachNew begun (handed_on ticker_rights (left_after begun job_rights) ∷ handed_on no_rights (kept_of ticker_rights (left_after begun job_rights)) ∷ [])
   further_are_new = further_new begun job_rights further c.first
 
   tick_new : IsNew begun tick_begun
@@ -127,8 +127,8 @@ module _ (first_law : FirstLaw) (second_law : SecondLaw) (down_law : DownLaw) (e
   rights : last.rights ≡ all_rights
   rights =
       let log_has : log_begun.rights ≡ no_rights = ap (λ (s : SeatView). s.rights) c.log_is in
-      let tick_has : tick_begun.rights ≡ to_tick = ap (λ (s : SeatView). s.rights) c.tick_is in
-      the_bus.rights_are (no_rights ∷ to_tick ∷ [])
+      let tick_has : tick_begun.rights ≡ ticker_rights = ap (λ (s : SeatView). s.rights) c.tick_is in
+      the_bus.rights_are (no_rights ∷ ticker_rights ∷ [])
       (ap (λ (r : Rights). r ∷ tick_begun.rights ∷ []) log_has ∙ ap (λ (r : Rights). no_rights ∷ r ∷ []) tick_has) rights_unite
 
   room : last.room ≡ most_seats

@@ -10,7 +10,7 @@ use Rattle.tb_log.specs.Proper.{is_proper_entry}
 use Rattle.tb_log.specs.declared.entry.Entry.{Entry}
 use Rattle.tb_core.specs.Cores.{CoreState}
 use Rattle.tb_lock.specs.declared.rights.Rights.{Rights}
-use Rattle.tb_lock.specs.Rights.{all_rights, no_rights}
+use Rattle.tb_lock.specs.Rights.{all_rights, no_rights, ticker_rights}
 use Rattle.tb_lock.specs.Seats.{SeatView, first_seat, kept_of, handed_on, most_seats}
 use Rattle.tb_lock.proofs.HistoryLemmas.{sparse_nil}
 use Rattle.tb_write.specs.Writers.{WriterView}
@@ -23,7 +23,7 @@ use Rattle.tb_run.specs.Moving.{readers, writers, inlets_of, outlets_of}
 use Rattle.tb_run.specs.Outcomes.{LaneStopped, IsRunOf, Runs, TellsFirst}
 use Rattle.tb_run.specs.Views.{EachLane, LaneView, OutsideView}
 use Rattle.tb_run.specs.Parting.{parted, left_after}
-use Rattle.tb_run.specs.Parts.{job_rights, to_tick}
+use Rattle.tb_run.specs.Parts.{job_rights}
 use Rattle.tb_run.specs.Running.{ComesTo, HasCome, IsStopped, FailsFor}
 use Rattle.tb_run.proofs.BusLemmas.{BusIdle, bus_idle, further_new}
 use Rattle.tb_run.proofs.LogLemmas.{prefix_none}
@@ -108,14 +108,14 @@ unparted most outside begun writer first =
 -- where there was no crew: the first seat was parted, and its parts were joined as they were
 module _ (most : ℕ) (old new : OutsideView) (begun last tick log : SeatView) (seats : List SeatView) (writer : WriterView) (w : RunWhy)
     (first : begun ≡ first_seat begun.bus begun.origin) (parts : seats ≡ parted begun job_rights)
-    (tick_is : tick ≡ handed_on to_tick (left_after begun job_rights)) (log_is : log ≡ handed_on no_rights (kept_of to_tick (left_after begun job_rights)))
-    (joins : JoinsAll (kept_of no_rights (kept_of to_tick (left_after begun job_rights))) (log ∷ tick ∷ seats) last)
+    (tick_is : tick ≡ handed_on ticker_rights (left_after begun job_rights)) (log_is : log ≡ handed_on no_rights (kept_of ticker_rights (left_after begun job_rights)))
+    (joins : JoinsAll (kept_of no_rights (kept_of ticker_rights (left_after begun job_rights))) (log ∷ tick ∷ seats) last)
     (lanes : new.lanes ≡ old.lanes) (clock : new.clock ≡ old.clock) (put : new.put ≡ old.put) (fails : FailsFor w old.crew_faults new.crew_faults)
     (clock_calm : new.clock_faults ≡ old.clock_faults) (out_calm : new.out_faults ≡ old.out_faults) where
   abbrev further : List Rights
-  further = to_tick ∷ no_rights ∷ []
+  further = ticker_rights ∷ no_rights ∷ []
 
-  further_are_new : EachNew begun (handed_on to_tick (left_after begun job_rights) ∷ handed_on no_rights (kept_of to_tick (left_after begun job_rights)) ∷ [])
+  further_are_new : EachNew begun (handed_on ticker_rights (left_after begun job_rights) ∷ handed_on no_rights (kept_of ticker_rights (left_after begun job_rights)) ∷ [])
   further_are_new = further_new begun job_rights further first
 
   the_bus : BusIdle begun last job_rights further (log ∷ tick ∷ [])
@@ -124,8 +124,8 @@ module _ (most : ℕ) (old new : OutsideView) (begun last tick log : SeatView) (
   rights : last.rights ≡ all_rights
   rights =
       let log_has : log.rights ≡ no_rights = ap (λ (s : SeatView). s.rights) log_is in
-      let tick_has : tick.rights ≡ to_tick = ap (λ (s : SeatView). s.rights) tick_is in
-      the_bus.rights_are (no_rights ∷ to_tick ∷ []) (ap (λ (r : Rights). r ∷ tick.rights ∷ []) log_has ∙ ap (λ (r : Rights). no_rights ∷ r ∷ []) tick_has) rights_unite
+      let tick_has : tick.rights ≡ ticker_rights = ap (λ (s : SeatView). s.rights) tick_is in
+      the_bus.rights_are (no_rights ∷ ticker_rights ∷ []) (ap (λ (r : Rights). r ∷ tick.rights ∷ []) log_has ∙ ap (λ (r : Rights). no_rights ∷ r ∷ []) tick_has) rights_unite
 
   outcome : (v : RunWhy) → FailsFor v old.crew_faults new.crew_faults → ComesTo most old new last writer v
   outcome why.Crew f = (put, lanes, clock, the_bus.nothing, f)

@@ -4,7 +4,7 @@ use Rattle.std.specs.Prelude.{bit_and}
 use Rattle.std.specs.List.{AllZip, fold}
 use Rattle.std.proofs.lemmas.Bool.{leb-true}
 use Rattle.tb_lock.specs.declared.rights.Rights.{Rights}
-use Rattle.tb_lock.specs.Rights.{In, Out as Outs, AreAmong, has, all_rights, no_rights, without, united}
+use Rattle.tb_lock.specs.Rights.{In, Out as Outs, AreAmong, has, all_rights, no_rights, without, united, stepper_rights, ticker_rights}
 use Rattle.tb_lock.specs.Seats.{SeatView, kept_of}
 use Rattle.tb_lock.proofs.RightLemmas.{covers}
 use Rattle.atomic_table.specs.Seated.{TableId}
@@ -14,7 +14,7 @@ use Rattle.tb_run.specs.Jobs.{HasRight}
 use Rattle.tb_run.specs.Moving.{readers, writers}
 use Rattle.tb_run.specs.Parting.{CanPart, parted, left_after}
 use Rattle.tb_run.specs.Parts as parts
-use Rattle.tb_run.specs.Parts.{bits, in_of, out_of, to_step, to_tick, job_rights, rights_left}
+use Rattle.tb_run.specs.Parts.{bits, in_of, out_of, job_rights, rights_left}
 use Rattle.tb_run.specs.Running.{Fits}
 use Rattle.tb_run.proofs.WorkedLemmas.{EachNew}
 
@@ -45,9 +45,9 @@ pub jobs_can : CanPart all_rights job_rights
 unfolding parts.job_rights
 jobs_can = can_by all_rights job_rights refl
 
-pub ticks_can : AreAmong to_tick rights_left
+pub ticks_can : AreAmong ticker_rights rights_left
 unfolding parts.job_rights
-ticks_can = (covers to_tick rights_left).0 refl
+ticks_can = (covers ticker_rights rights_left).0 refl
 
 -- what is left of the seat
 pub left_rights : (seat : SeatView) (parts : List Rights) → (left_after seat parts).rights ≡ fold without seat.rights parts
@@ -88,7 +88,7 @@ parted_count_of seat [] = refl
 parted_count_of seat (part ∷ parts) = ap suc (parted_count_of (kept_of part seat) parts)
 
 -- all rights come together
-pub rights_unite : fold united (without (without rights_left to_tick) no_rights) (no_rights ∷ to_tick ∷ job_rights) ≡ all_rights
+pub rights_unite : fold united (without (without rights_left ticker_rights) no_rights) (no_rights ∷ ticker_rights ∷ job_rights) ≡ all_rights
 unfolding parts.job_rights
 rights_unite = refl
 
@@ -109,11 +109,11 @@ module _ (I O : Type 0) (bus : TableId) where
   abbrev pub Fit : SeatView → Work I O → Type 0
   Fit seat work = (seat.bus ≡ bus) × HasRight seat work
 
-  fits_steps : (seat : SeatView) → seat.bus ≡ bus → let ws : List (Work I O) = Steps ∷ [] in AllZip Fit (parted seat (to_step ∷ [])) ws
+  fits_steps : (seat : SeatView) → seat.bus ≡ bus → let ws : List (Work I O) = Steps ∷ [] in AllZip Fit (parted seat (stepper_rights ∷ [])) ws
   fits_steps seat e = ((e, refl), tt)
 
   fits_writers : (seat : SeatView) (lane : ℕ) (more : List ℕ) (outlets : List O) → seat.bus ≡ bus → length outlets ≡ length more → outs_fit lane more ≡ true
-      → let ws : List (Work I O) = writers lane outlets ++ Steps ∷ [] in AllZip Fit (parted seat (map out_of more ++ to_step ∷ [])) ws
+      → let ws : List (Work I O) = writers lane outlets ++ Steps ∷ [] in AllZip Fit (parted seat (map out_of more ++ stepper_rights ∷ [])) ws
   fits_writers seat lane [] [] e n f = fits_steps seat e
   fits_writers seat lane [] (outlet ∷ outlets) e n f = absurd (omega arith)
   fits_writers seat lane (bit ∷ more) [] e n f = absurd (omega arith)
@@ -127,7 +127,7 @@ module _ (I O : Type 0) (bus : TableId) where
       )
 
   fits_readers : (seat : SeatView) (lane from : ℕ) (ins outs : List ℕ) (inlets : List I) (outlets : List O) → seat.bus ≡ bus → length inlets ≡ length ins → ins_fit lane ins ≡ true → length outlets ≡ length outs → outs_fit from outs ≡ true
-      → let ws : List (Work I O) = readers lane inlets ++ (writers from outlets ++ Steps ∷ []) in AllZip Fit (parted seat (map in_of ins ++ (map out_of outs ++ to_step ∷ []))) ws
+      → let ws : List (Work I O) = readers lane inlets ++ (writers from outlets ++ Steps ∷ []) in AllZip Fit (parted seat (map in_of ins ++ (map out_of outs ++ stepper_rights ∷ []))) ws
   fits_readers seat lane from [] outs [] outlets e n f m g = fits_writers seat from outs outlets e m g
   fits_readers seat lane from [] outs (inlet ∷ inlets) outlets e n f m g = absurd (omega arith)
   fits_readers seat lane from (bit ∷ ins) outs [] outlets e n f m g = absurd (omega arith)
@@ -142,7 +142,7 @@ module _ (I O : Type 0) (bus : TableId) where
 
   -- the workers of lanes from a number on, whose bits these are, and the stepper
   pub lanes_fit : (seat : SeatView) (from : ℕ) (some : List ℕ) (inlets : List I) (outlets : List O) → seat.bus ≡ bus → length inlets ≡ length some → length outlets ≡ length some → ins_fit from some ≡ true → outs_fit from some ≡ true
-      → let ws : List (Work I O) = readers from inlets ++ (writers from outlets ++ Steps ∷ []) in Fits bus (parted seat (map in_of some ++ (map out_of some ++ to_step ∷ []))) ws
+      → let ws : List (Work I O) = readers from inlets ++ (writers from outlets ++ Steps ∷ []) in Fits bus (parted seat (map in_of some ++ (map out_of some ++ stepper_rights ∷ []))) ws
   lanes_fit seat from some inlets outlets e n m f g = fits_readers seat from from some some inlets outlets e n f m g
 
   pub works_fit : (seat : SeatView) (inlets : List I) (outlets : List O) → seat.bus ≡ bus → length inlets ≡ 16 → length outlets ≡ 16

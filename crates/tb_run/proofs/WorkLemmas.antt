@@ -7,14 +7,14 @@ use Rattle.tb_edge.specs.Jobs.{AllDone}
 use Rattle.tb_edge.specs.declared.given.Taken.{Taken}
 use Rattle.atomic_table.specs.Seated.{TableId}
 use Rattle.tb_lock.specs.declared.rights.Rights.{Rights}
-use Rattle.tb_lock.specs.Rights.{no_rights}
+use Rattle.tb_lock.specs.Rights.{no_rights, ticker_rights}
 use Rattle.tb_lock.specs.Seats.{SeatView, first_seat, kept_of, handed_on}
 use Rattle.tb_run.specs.declared.ends.WorkEnd.{WorkEnd}
 use Rattle.tb_run.specs.declared.worker.Work.{Work}
 use Rattle.tb_run.specs.declared.worker.Work.TheVariants.{Reads, Writes, Steps}
 use Rattle.tb_run.specs.Moving.{readers, writers, inlets_of, outlets_of, inlet_of, outlet_of}
 use Rattle.tb_run.specs.Parting.{parted, left_after}
-use Rattle.tb_run.specs.Parts.{job_rights, to_tick}
+use Rattle.tb_run.specs.Parts.{job_rights}
 use Rattle.tb_run.proofs.BusLemmas.{first_new}
 use Rattle.tb_run.proofs.NothingLemmas.{works_inlets, works_outlets, readers_outlets, writers_inlets}
 use Rattle.tb_run.proofs.PartLemmas.{lanes_count, left_bus}
@@ -143,7 +143,7 @@ module _ {X I O : Type 0} (seat : X → SeatView) (ended : X → WorkEnd) (work 
 
   module _ (begun : SeatView) (is : List I) (os : List O) (xs ys : List X) (tick_begun tick_done log_begun log_done : SeatView)
       (first : begun ≡ first_seat begun.bus begun.origin) (seats : map seat xs ≡ parted begun job_rights) (works : map work xs ≡ readers 1 is ++ (writers 1 os ++ Steps ∷ []))
-      (tick_is : tick_begun ≡ handed_on to_tick (left_after begun job_rights)) (log_is : log_begun ≡ handed_on no_rights (kept_of to_tick (left_after begun job_rights)))
+      (tick_is : tick_begun ≡ handed_on ticker_rights (left_after begun job_rights)) (log_is : log_begun ≡ handed_on no_rights (kept_of ticker_rights (left_after begun job_rights)))
       (sixteen_in : length is ≡ 16) (sixteen_out : length os ≡ 16) where
     tick_bus : tick_begun.bus ≡ begun.bus
     tick_bus = ap (λ (s : SeatView). s.bus) tick_is ∙ left_bus begun job_rights

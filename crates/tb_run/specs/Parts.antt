@@ -2,7 +2,7 @@
 use Rattle.std.specs.Prelude.{ℕ, true, false, List, [], ◌∷◌, ◌++◌, map}
 use Rattle.std.specs.List.{fold}
 use Rattle.tb_lock.specs.declared.rights.Rights.{Rights}
-use Rattle.tb_lock.specs.Rights.{all_rights, without}
+use Rattle.tb_lock.specs.Rights.{all_rights, stepper_rights, without}
 
 -- the bits of the lanes
 abbrev pub bits : List ℕ
@@ -14,14 +14,8 @@ in_of bit = record { steps = false; ticks = false; ins = bit; outs = 0 }
 abbrev pub out_of : ℕ → Rights
 out_of bit = record { steps = false; ticks = false; ins = 0; outs = bit }
 
-abbrev pub to_step : Rights
-to_step = record { steps = true; ticks = false; ins = 0; outs = 0 }
-
-abbrev pub to_tick : Rights
-to_tick = record { steps = false; ticks = true; ins = 0; outs = 0 }
-
 unfoldable pub job_rights : List Rights
-job_rights = map in_of bits ++ (map out_of bits ++ to_step ∷ [])
+job_rights = map in_of bits ++ (map out_of bits ++ stepper_rights ∷ [])
 
 -- the rest, once the workers have theirs
 abbrev pub rights_left : Rights

@@ -30,7 +30,7 @@ pub use handing::{hand, refused, stop};
 pub use lanes::{AnyInlet, AnyOutlet, Lanes};
 pub use laws::a_run_that_ended_was_not_refused;
 pub use moving::{end_all, pair_lanes, part_lanes, works_of};
-pub use parts::{in_of, out_of, to_step, to_tick};
+pub use parts::{in_of, out_of};
 pub use post::Post;
 pub use reader::read_lane;
 pub use room::{Boxes, Ended, Room, make_boxes, make_room};

@@ -1,9 +1,9 @@
 //! The rights that the first seat of a bus passes on.
 ghost use Rattle.std.specs.Prelude.{◌≡◌, [], ◌≤◌, vec_capacity};
-ghost use Rattle.tb_lock.specs.Rights.{no_rights};
+ghost use Rattle.tb_lock.specs.Rights.{no_rights, stepper_rights, ticker_rights};
 ghost use Rattle.tb_lock.specs.Seats.{first_seat, handed_on, kept_of};
 ghost use Rattle.tb_run.specs.Parting.{left_after, parted};
-ghost use Rattle.tb_run.specs.Parts.{job_rights, in_of, out_of, to_step, to_tick};
+ghost use Rattle.tb_run.specs.Parts.{job_rights, in_of, out_of};
 
 use crate::seats::split_all;
 use tb_algebra::Walker;
@@ -20,14 +20,15 @@ pub(crate) fn hand_out<W: Walker>(
     requires none { seats.old.items ≡ [] }
     requires room { 33 ≤ vec_capacity seats.old }
     ensures seats { seats.new.items ≡ parted seat.old job_rights }
-    ensures tick { result.0 ≡ handed_on to_tick (left_after seat.old job_rights) }
+    ensures tick { result.0 ≡ handed_on ticker_rights (left_after seat.old job_rights) }
     ensures log { result.1
-        ≡ handed_on no_rights (kept_of to_tick (left_after seat.old job_rights)) }
-    ensures seat { seat.new ≡ kept_of no_rights (kept_of to_tick (left_after seat.old job_rights)) }
+        ≡ handed_on no_rights (kept_of ticker_rights (left_after seat.old job_rights)) }
+    ensures seat { seat.new
+        ≡ kept_of no_rights (kept_of ticker_rights (left_after seat.old job_rights)) }
 {
     let parts = job_rights();
     split_all(shared, seat, parts.as_slice(), seats);
-    let tick = shared.split(seat, to_tick());
+    let tick = shared.split(seat, Rights::ticker());
     let log = shared.split(seat, Rights::none());
     (tick, log)
 }
@@ -70,7 +71,7 @@ fn job_rights() -> [Rights; 33]
         out_of(8192),
         out_of(16384),
         out_of(32768),
-        to_step(),
+        Rights::stepper(),
     ]
 }
 
@@ -95,29 +96,5 @@ pub fn out_of(bit: u16) -> Rights
         ticks: false,
         ins: 0,
         outs: bit,
-    }
-}
-
-/// The right to make steps.
-pub fn to_step() -> Rights
-    ensures { result ≡ to_step }
-{
-    Rights {
-        steps: true,
-        ticks: false,
-        ins: 0,
-        outs: 0,
-    }
-}
-
-/// The right to deliver ticks.
-pub fn to_tick() -> Rights
-    ensures { result ≡ to_tick }
-{
-    Rights {
-        steps: false,
-        ticks: true,
-        ins: 0,
-        outs: 0,
     }
 }

@@ -3,7 +3,7 @@ ghost use Rattle.std.specs.Prelude.{◌≡◌, ◌≤◌, ◌++◌, [], ◌∷�
 ghost use Rattle.std.specs.List.{All};
 ghost use Rattle.tb_edge.specs.Faults.{Rose};
 ghost use Rattle.tb_edge.specs.Jobs.{AllDone, FailsOnly, jobs_of};
-ghost use Rattle.tb_lock.specs.Rights.{Ticks as ToTick, has, no_rights};
+ghost use Rattle.tb_lock.specs.Rights.{Ticks as ToTick, has, no_rights, ticker_rights};
 ghost use Rattle.tb_lock.specs.Seats.{first_seat, handed_on, kept_of};
 ghost use Rattle.tb_run.specs.Jobs.{IsReady, WorkDone};
 ghost use Rattle.tb_run.specs.Joining.{JoinsAll};
@@ -11,7 +11,7 @@ ghost use Rattle.tb_run.specs.Logging.{LogDone};
 ghost use Rattle.tb_run.specs.Moving.{works_of, inlets_of, outlets_of};
 ghost use Rattle.tb_run.specs.Views.{ends_seen};
 ghost use Rattle.tb_run.specs.Parting.{left_after, parted};
-ghost use Rattle.tb_run.specs.Parts.{job_rights, to_tick};
+ghost use Rattle.tb_run.specs.Parts.{job_rights};
 ghost use Rattle.tb_run.specs.Reasons.{reason_of};
 ghost use Rattle.tb_run.specs.Running.{HasCome, FailsFor, why_by};
 ghost use Rattle.tb_run.specs.Workers.{TicksBus};
@@ -141,10 +141,11 @@ fn begin<'a, W: Walker, I: Inlet, O: Outlet>(
     ensures works { map (λ it. it.work) result.0.workers.items
         ≡ works_of 1 lanes.old.inlets.items lanes.old.outlets.items }
     ensures ready { All (λ it. IsReady it.post.now.shared it.seat it.work) result.0.workers.items }
-    ensures tick { result.0.tick_seat ≡ handed_on to_tick (left_after seat.old job_rights) }
+    ensures tick { result.0.tick_seat ≡ handed_on ticker_rights (left_after seat.old job_rights) }
     ensures log { result.0.log_seat
-        ≡ handed_on no_rights (kept_of to_tick (left_after seat.old job_rights)) }
-    ensures seat { seat.new ≡ kept_of no_rights (kept_of to_tick (left_after seat.old job_rights)) }
+        ≡ handed_on no_rights (kept_of ticker_rights (left_after seat.old job_rights)) }
+    ensures seat { seat.new
+        ≡ kept_of no_rights (kept_of ticker_rights (left_after seat.old job_rights)) }
     ensures lanes { lanes.new ≡ room.lanes }
     ensures ended { result.1 ≡ room.ended }
 {

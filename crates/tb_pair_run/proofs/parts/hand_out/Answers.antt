@@ -1,10 +1,9 @@
 use Rattle.std.proofs.Common.{rules, arith, ◌≡◌, ◌<◌, ◌-◌, ℕ, List, length, subst, sym, ap, ◌∙◌}
 use Rattle.std.specs.List.{fold}
 use Rattle.tb_lock.specs.declared.rights.Rights.{Rights}
-use Rattle.tb_lock.specs.Rights.{AreAmong, all_rights, without}
+use Rattle.tb_lock.specs.Rights.{AreAmong, all_rights, without, ticker_rights}
 use Rattle.tb_lock.specs.Seats.{SeatView}
 use Rattle.tb_run.specs.Parting.{CanPart, left_after}
-use Rattle.tb_run.specs.Parts.{to_tick}
 use Rattle.tb_run.proofs.PartLemmas.{left_bus, left_rights, left_room}
 use Rattle.tb_pair.specs.Parts.{to_pipe}
 use Rattle.tb_pair_run.specs.Helpers.Parts.{lane_rights}
@@ -53,7 +52,7 @@ split-tick-requires-clause-rights g c =
     ap (λ (s : SeatView). s.rights) left ∙ (left_rights c.args.seat.now lane_rights ∙ ap (λ (s : SeatView). fold without s.rights lane_rights) c.requires.first) in
     let kept : c.split-pipe.new.seat.rights ≡ without (fold without all_rights lane_rights) to_pipe =
     ap (λ (s : SeatView). s.rights) c.split-pipe.ensures.seat ∙ (ap (λ (r : Rights). without r c.to_pipe.result) rights ∙ ap (λ (r : Rights). without (fold without all_rights lane_rights) r) c.to_pipe.ensures) in
-    subst (λ (r : Rights). AreAmong r c.split-pipe.new.seat.rights) (sym c.to_tick.ensures) (subst (λ (r : Rights). AreAmong to_tick r) (sym kept) tick_can)
+    subst (λ (r : Rights). AreAmong r c.split-pipe.new.seat.rights) (sym c.ticker.ensures) (subst (λ (r : Rights). AreAmong ticker_rights r) (sym kept) tick_can)
 
 pub split-tick-requires-clause-room : goal.split-tick-requires-clause-room
 split-tick-requires-clause-room g c =

@@ -1,10 +1,10 @@
 use Rattle.std.proofs.Common.{rules, arith, ◌≡◌, ◌-◌, List, length, subst, sym, ap, ◌∙◌}
 use Rattle.std.specs.List.{fold}
 use Rattle.tb_lock.specs.declared.rights.Rights.{Rights}
-use Rattle.tb_lock.specs.Rights.{AreAmong, all_rights, without}
+use Rattle.tb_lock.specs.Rights.{AreAmong, all_rights, without, ticker_rights}
 use Rattle.tb_lock.specs.Seats.{SeatView}
 use Rattle.tb_run.specs.Parting.{CanPart, left_after}
-use Rattle.tb_run.specs.Parts.{job_rights, rights_left, to_tick}
+use Rattle.tb_run.specs.Parts.{job_rights, rights_left}
 use Rattle.tb_run.proofs.PartLemmas.{jobs_can, ticks_can, job_count, left_bus, left_rights, left_room}
 use Rattle.tb_run.proofs.parts.hand_out.Goals as goal
 
@@ -25,7 +25,7 @@ split-tick-requires-clause-rights g c =
     let left : c.split_all.new.seat ≡ left_after c.args.seat.now job_rights = c.split_all.ensures.seat ∙ ap (λ (ps : List Rights). left_after c.args.seat.now ps) same in
     let rights : c.split_all.new.seat.rights ≡ rights_left =
     ap (λ (s : SeatView). s.rights) left ∙ (left_rights c.args.seat.now job_rights ∙ ap (λ (s : SeatView). fold without s.rights job_rights) c.requires.first) in
-    subst (λ (r : Rights). AreAmong r c.split_all.new.seat.rights) (sym c.to_tick.ensures) (subst (λ (r : Rights). AreAmong to_tick r) (sym rights) ticks_can)
+    subst (λ (r : Rights). AreAmong r c.split_all.new.seat.rights) (sym c.ticker.ensures) (subst (λ (r : Rights). AreAmong ticker_rights r) (sym rights) ticks_can)
 
 pub split-tick-requires-clause-room : goal.split-tick-requires-clause-room
 split-tick-requires-clause-room g c =

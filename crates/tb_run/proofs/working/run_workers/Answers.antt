@@ -1,6 +1,6 @@
 use Rattle.std.proofs.Common.{arith, ◌≡◌, ◌++◌, List, ◌∷◌, map, length, vec_capacity, MatchOption, subst, sym, ap, ◌∙◌}
 use Rattle.std.specs.List.{All}
-use Rattle.tb_lock.specs.Rights.{Ticks as ToTick, has, no_rights}
+use Rattle.tb_lock.specs.Rights.{Ticks as ToTick, has, no_rights, ticker_rights}
 use Rattle.tb_lock.specs.Seats.{SeatView, first_seat, kept_of}
 use Rattle.tb_run.specs.declared.ends.RunWhy.{RunWhy}
 use Rattle.tb_run.specs.declared.ends.WorkEnd.{WorkEnd}
@@ -9,7 +9,7 @@ use Rattle.tb_run.specs.declared.room.Ended.{Ended}
 use Rattle.tb_run.specs.declared.worker.Worker.{Worker}
 use Rattle.tb_run.specs.Joining.{JoinsAll}
 use Rattle.tb_run.specs.Parting.{left_after}
-use Rattle.tb_run.specs.Parts.{job_rights, to_tick}
+use Rattle.tb_run.specs.Parts.{job_rights}
 use Rattle.tb_run.specs.Reasons.{reason_of}
 use Rattle.tb_run.proofs.BackLemmas.{can_gather, has_come}
 use Rattle.tb_run.proofs.NothingLemmas.{unparted}
@@ -160,7 +160,7 @@ returns-clause-come g c =
     let first = c.requires.first ∙ ap (λ b. first_seat b c.args.seat.now.origin) (sym bus) in
     let ins : length c.args.lanes.now.inlets.items ≡ 16 = (let k = c.args.lanes.now.inlets.ok.0 in let n = c.requires.inlets in omega arith) in
     let outs : length c.args.lanes.now.outlets.items ≡ 16 = (let k = c.args.lanes.now.outlets.ok.0 in let n = c.requires.outlets in omega arith) in
-    let joins : JoinsAll (kept_of no_rights (kept_of to_tick (left_after c.args.seat.now job_rights))) (c.work-back.result.log_seat ∷ c.work-back.result.tick_seat ∷ map (λ (it : Worker g.row.W.Denot g.row.I.Denot g.row.O.Denot g.row.W-Plan.Denot g.row.W-Taken.Denot). it.seat) c.work-back.result.workers.items) c.gather-ends.new.seat =
+    let joins : JoinsAll (kept_of no_rights (kept_of ticker_rights (left_after c.args.seat.now job_rights))) (c.work-back.result.log_seat ∷ c.work-back.result.tick_seat ∷ map (λ (it : Worker g.row.W.Denot g.row.I.Denot g.row.O.Denot g.row.W-Plan.Denot g.row.W-Taken.Denot). it.seat) c.work-back.result.workers.items) c.gather-ends.new.seat =
     subst (λ (s : SeatView). JoinsAll s (c.work-back.result.log_seat ∷ c.work-back.result.tick_seat ∷ map (λ (it : Worker g.row.W.Denot g.row.I.Denot g.row.O.Denot g.row.W-Plan.Denot g.row.W-Taken.Denot). it.seat) c.work-back.result.workers.items) c.gather-ends.new.seat) c.begin-team.ensures.seat
     (subst (λ (ss : List SeatView). JoinsAll c.begin-team.new.seat (ss ++ map (λ (it : Worker g.row.W.Denot g.row.I.Denot g.row.O.Denot g.row.W-Plan.Denot g.row.W-Taken.Denot). it.seat) c.work-back.result.workers.items) c.gather-ends.new.seat) c.with_others-ended.ensures.seats c.gather-ends.ensures.joins) in
     let ends : c.as_slice.result.now ≡ map (λ (it : Worker g.row.W.Denot g.row.I.Denot g.row.O.Denot g.row.W-Plan.Denot g.row.W-Taken.Denot). it.end) c.work-back.result.workers.items = c.as_slice.ensures.value ∙ c.gather-ends.ensures.ends in
