@@ -1,19 +1,23 @@
 -- Lemmas on the lifelines of a chart.
-use Rattle.std.proofs.Common.{◌≡◌, ◌≢◌, ◌∙◌, ◌+◌, ◌-◌, ◌<◌, ◌≤◌, ◌++◌, ◌∷◌, [], ℕ, zero, suc, List, length, get_or, Bool, true, false, Option, Some, None, All, IsTrue, refl, sym, ap, subst, arith}
+use Rattle.std.proofs.Common.{◌≡◌, ◌≢◌, ◌∙◌, ◌+◌, ◌-◌, ◌<◌, ◌≤◌, ◌++◌, ◌∷◌, [], ℕ, zero, suc, List, length, take, get_or, Bool, true, false, inl, inr, Option, Some, None, All, IsTrue, refl, sym, ap, subst, arith}
 use Rattle.std.specs.Prelude.{slice_get, nat_lt, is_some, unwrap_or, option_and_then, if◌then◌else◌, Result, Ok, Err, OnOk}
 use Rattle.std.specs.List.{list_any}
-use Rattle.std.proofs.lemmas.Bool.{and_parts, and_from, false≢true, lt-ltb, le-ltb}
+use Rattle.std.proofs.lemmas.Bool.{and_parts, and_from, cases_eq, false≢true, lt-ltb, le-ltb}
+use Rattle.std.proofs.Math.Seq.{take-length}
 use Rattle.std.proofs.lemmas.List.Elements.{All-push}
-use Rattle.std.proofs.lemmas.Option.{none-some, slice_get_within}
+use Rattle.std.proofs.lemmas.Option.{none-some, slice_get-get_or, slice_get_within}
+use Rattle.tb_log.specs.declared.entry.Entry.{Entry}
+use Rattle.tb_chart.specs.declared.cast.Cast.{Cast}
 use Rattle.tb_chart.specs.declared.lines.Lines.{Lines}
 use Rattle.tb_chart.specs.declared.lines.ProcessLine.{ProcessLine}
 use Rattle.tb_chart.specs.declared.row.Row.{Row}
 use Rattle.tb_chart.specs.declared.row.Seat.{Seat}
 use Rattle.tb_chart.specs.declared.row.Who.{Who}
 use Rattle.tb_chart.specs.declared.row.Who.TheVariants as who
-use Rattle.tb_chart.specs.Helpers.Additions.{Adds, AddsTool, Puts, Stay, are_players, is_player}
-use Rattle.tb_chart.specs.Lifelines.{HasLines, has_line, has_process, have_lines, is_line_of, is_process, is_tool, is_tool_in, notes_count, place_of, spot_at, spot_behind}
+use Rattle.tb_chart.specs.Helpers.Additions.{Adds, AddsTool, KeepBodies, Puts, Sound, Stay, are_players, is_player}
+use Rattle.tb_chart.specs.Lifelines.{HasBody, HasFirst, HasLines, has_line, has_process, have_lines, is_line_of, is_process, is_tool, is_tool_in, notes_count, place_of, spot_at, spot_behind}
 use Rattle.tb_chart.specs.Numbers.{numbered}
+use Rattle.tb_chart.specs.Players.{players_of}
 use Rattle.tb_chart.specs.declared.lines.Spot.TheVariants as spot
 use Rattle.tb_chart.proofs.PlaceLemmas.{process_stays, process_there}
 
@@ -42,6 +46,43 @@ adds_both players from to old mid new one two are =
 pub stay_through : (players : List ℕ) (from to : Who) (old mid new : Lines) → Adds players from old mid → Adds players to mid new → Stay old new
 stay_through players from to old mid new one two = λ it has. two.stay it (one.stay it has)
 
+pub sound_through : (players : List ℕ) (from to : Who) (old mid new : Lines) → Adds players from old mid → Adds players to mid new
+    → Sound players old → Sound players new
+sound_through players from to old mid new one two sound = two.sound (one.sound sound)
+
+-- lifelines of processes that stay as they are
+sound_same : (players : List ℕ) (old new : Lines) → new.processes.items ≡ old.processes.items → Sound players old → Sound players new
+sound_same players old new same sound = record { bodies = subst (λ those. All (HasBody players) those) (sym same) sound.bodies }
+
+-- one lifeline more
+sound_push : (players : List ℕ) (number body : ℕ) (line : ProcessLine) (old new : Lines) → numbered players number ≡ Some body
+    → line.number ≡ number → line.body ≡ body → new.processes.items ≡ old.processes.items ++ line ∷ [] → Sound players old → Sound players new
+sound_push players number body line old new player is is_body pushed sound =
+    let one : HasBody players line = ap (numbered players) is ∙ player ∙ ap Some (sym is_body) in
+    record {
+      bodies = subst (λ those. All (HasBody players) those) (sym pushed) (All-push (HasBody players) old.processes.items line sound.bodies one);
+    }
+
+-- processes more
+pub sound_goes : (old new : List ℕ) (lines : Lines) → KeepBodies old new → Sound old lines → Sound new lines
+sound_goes old new lines keep sound = record {
+  bodies = λ k d within. keep (get_or lines.processes.items k d).number (get_or lines.processes.items k d).body (sound.bodies k d within);
+}
+
+player_there : (players : List ℕ) (number index : ℕ) → number ≡ index + 1 → index < length players → is_some (numbered players number) ≡ true
+player_there players zero index is within = absurd (omega (arith, is))
+player_there players (suc number) index is within =
+    let at : number < length players = omega (arith, is, within) in
+    ap (λ it. is_some it) (slice_get-get_or players number 0 at)
+
+-- the first processes, and the next one
+pub first_more : (players : List ℕ) (number index : ℕ) (old new : Lines) → number ≡ index + 1 → index < length players
+    → Adds players (who.Process number) old new → HasFirst index old → HasFirst (index + 1) new
+first_more players number index old new is within adds first = λ other from to. elim (cases_eq other number) [
+  | inl same ↦ subst (λ it. IsTrue (has_line new (who.Process it))) (sym same) (adds.there (player_there players number index is within))
+  | inr apart ↦ adds.stay (who.Process other) (first other from (omega (arith, to, is, apart)))
+]
+
 not_zero : (players : List ℕ) (number body : ℕ) → numbered players number ≡ Some body → number ≢ 0
 not_zero players zero body player = absurd (none-some body player)
 not_zero players (suc number) body player = λ same. absurd (omega (arith, same))
@@ -57,14 +98,15 @@ process_stay number line old new who.Notes puts is pushed tools notes some has =
 
 -- a process: its number is not 0, since it is one of the processes
 pub adds_process : (players : List ℕ) (number body : ℕ) (line : ProcessLine) (old new : Lines) → numbered players number ≡ Some body
-    → Puts number (length old.processes.items) old.places.items new.places.items → line.number ≡ number
+    → Puts number (length old.processes.items) old.places.items new.places.items → line.number ≡ number → line.body ≡ body
     → new.processes.items ≡ old.processes.items ++ line ∷ [] → new.tools.items ≡ old.tools.items → new.has_notes ≡ old.has_notes
     → Adds players (who.Process number) old new
-adds_process players number body line old new player puts is pushed tools notes =
+adds_process players number body line old new player puts is is_body pushed tools notes =
     let some : number ≢ 0 = not_zero players number body player in
     record {
       there = λ one. process_there number old.processes.items new.processes.items line old.places.items new.places.items puts is pushed some;
       stay = λ it has. process_stay number line old new it puts is pushed tools notes some has;
+      sound = λ sound. sound_push players number body line old new player is is_body pushed sound;
     }
 
 -- there is no such process
@@ -72,11 +114,12 @@ pub adds_nobody : (players : List ℕ) (number : ℕ) (lines : Lines) → None �
 adds_nobody players number lines none = record {
   there = λ one. absurd (false≢true (ap (λ it. is_some it) none ∙ one));
   stay = λ it has. has;
+  sound = λ sound. sound;
 }
 
 -- it is there already
 pub adds_same : (players : List ℕ) (it : Who) (lines : Lines) → IsTrue (has_line lines it) → Adds players it lines lines
-adds_same players it lines has = record { there = λ one. has; stay = λ it has. has }
+adds_same players it lines has = record { there = λ one. has; stay = λ it has. has; sound = λ sound. sound }
 
 tool_stay : (seat : Seat) (old new : Lines) (it : Who) → AddsTool seat old.tools.items new.tools.items → new.processes.items ≡ old.processes.items
     → new.places.items ≡ old.places.items → new.has_notes ≡ old.has_notes → IsTrue (has_line old it) → IsTrue (has_line new it)
@@ -91,6 +134,7 @@ pub adds_tool : (players : List ℕ) (seat : Seat) (old new : Lines) → AddsToo
 adds_tool players seat old new adds processes places notes = record {
   there = λ one. adds.there;
   stay = λ it has. tool_stay seat old new it adds processes places notes has;
+  sound = λ sound. sound_same players old new processes sound;
 }
 
 notes_stay : (old new : Lines) (it : Who) → new ≡ record old { has_notes = true } → IsTrue (has_line old it) → IsTrue (has_line new it)
@@ -102,6 +146,7 @@ pub adds_notes : (players : List ℕ) (old new : Lines) → new ≡ record old {
 adds_notes players old new is = record {
   there = λ one. ap (λ lines. has_line lines who.Notes) is;
   stay = λ it has. notes_stay old new it is has;
+  sound = λ sound. sound_same players old new (ap (λ lines. lines.processes.items) is) sound;
 }
 
 -- The columns of lifelines: that of a process is the place of its line.
@@ -181,3 +226,11 @@ pub added_tool : {A E : Type 0} (result : Result A E) (players : List ℕ) (seat
     → new.has_notes ≡ old.has_notes → OnOk result (Adds players (who.Tool seat) old new)
 added_tool (Ok done) players seat old new adds processes places notes = adds_tool players seat old new adds processes places notes
 added_tool (Err fault) players seat old new adds processes places notes = tt
+
+-- after all entries
+pub bodies_after : (cast : Cast) (entries : List Entry) (index : ℕ) (players : List ℕ) (lines : Lines) → index ≡ length entries
+    → players ≡ players_of cast (take index entries) → Sound players lines → All (HasBody (players_of cast entries)) lines.processes.items
+bodies_after cast entries index players lines last before sound =
+    let whole : players ≡ players_of cast entries =
+    before ∙ ap (λ n. players_of cast (take n entries)) last ∙ ap (players_of cast) (take-length entries) in
+    subst (λ those. All (HasBody those) lines.processes.items) whole sound.bodies

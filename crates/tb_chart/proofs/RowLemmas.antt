@@ -1,10 +1,11 @@
 -- Lemmas on the rows of a chart.
-use Rattle.std.proofs.Common.{◌≡◌, ◌∙◌, ◌+◌, ◌<◌, ◌++◌, ◌∷◌, ℕ, List, length, drop, get_or, ap, sym}
+use Rattle.std.proofs.Common.{◌≡◌, ◌∙◌, ◌+◌, ◌<◌, ◌++◌, ◌∷◌, ℕ, List, length, drop, take, get_or, ap, sym}
 use Rattle.std.proofs.lemmas.List.{append_assoc, drop_more}
+use Rattle.std.proofs.lemmas.List.Sums.{fold_more}
 use Rattle.tb_log.specs.declared.entry.Entry.{Entry}
 use Rattle.tb_chart.specs.declared.cast.Cast.{Cast}
 use Rattle.tb_chart.specs.declared.chart.Span.{Span}
-use Rattle.tb_chart.specs.Players.{players_after}
+use Rattle.tb_chart.specs.Players.{players_after, players_of}
 use Rattle.tb_chart.specs.Rows.{SeenRow, rows_from, rows_of}
 
 -- one entry more, before which the processes are `old`, and after it `players`
@@ -23,3 +24,14 @@ rows-more cast cast' span old players index entries entry before now whole withi
     ∙ ap (λ those. before ++ both those) after
     ∙ ap (λ (es : List Entry). before ++ rows_from cast span old (index + 1) es) (sym split)
     ∙ all
+
+-- the processes after one entry more
+pub players-more : (cast cast' : Cast) (old players : List ℕ) (index : ℕ) (entries : List Entry) (entry : Entry) → index < length entries
+    → entry ≡ get_or entries index entry → cast' ≡ cast → old ≡ players_of cast (take index entries) → players ≡ players_after cast' old entry
+    → players ≡ players_of cast (take (index + 1) entries)
+players-more cast cast' old players index entries entry within here same before goes =
+    goes
+    ∙ ap (λ (c : Cast). players_after c old entry) same
+    ∙ ap (λ those. players_after cast those entry) before
+    ∙ ap (players_after cast (players_of cast (take index entries))) here
+    ∙ sym (fold_more (players_after cast) cast.roots.items entries index entry within)

@@ -5,5 +5,6 @@ pub mod Lifelines
 pub mod Named
 pub mod Numbers
 pub mod Players
+pub mod Refused
 pub mod Rows
 pub mod Terms

@@ -1,5 +1,5 @@
 -- Which lifelines a chart has, and in which column each is: first the processes, then the notes, then the tools.
-use Rattle.std.specs.Prelude.{ℕ, zero, suc, ◌+◌, ◌-◌, ◌==◌, nat_eq, nat_lt, Bool, true, false, not, ◌&&◌, ◌||◌, List, length, slice_get, Option, Some, None, is_some, option_and_then, IsTrue, if◌then◌else◌}
+use Rattle.std.specs.Prelude.{◌≡◌, ℕ, ◌≤◌, zero, suc, ◌+◌, ◌-◌, ◌==◌, nat_eq, nat_lt, Bool, true, false, not, ◌&&◌, ◌||◌, List, length, slice_get, Option, Some, None, is_some, option_and_then, IsTrue, if◌then◌else◌}
 use Rattle.std.specs.List.{list_any}
 use Rattle.std.specs.Option.{option_eq, option_flatten}
 use Rattle.tb_chart.specs.declared.lines.Lines.{Lines}
@@ -45,6 +45,14 @@ have_lines lines (Some ends) = has_line lines ends.0 && has_line lines ends.1
 -- there are lifelines of both ends of a row
 abbrev pub HasLines : Lines → Row → Type 0
 HasLines lines row = IsTrue (have_lines lines row.ends)
+
+-- each process with a number from 1 to `many` has a lifeline
+abbrev pub HasFirst : ℕ → Lines → Type 0
+HasFirst many lines = (number : ℕ) → 1 ≤ number → number ≤ many → IsTrue (has_line lines (who.Process number))
+
+-- The lifeline of a process has the definition of the process with its number. `players` are the definitions of the processes.
+abbrev pub HasBody : List ℕ → ProcessLine → Type 0
+HasBody players line = numbered players line.number ≡ Some line.body
 
 -- how many lifelines of notes there are
 abbrev pub notes_count : Lines → ℕ

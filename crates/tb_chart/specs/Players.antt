@@ -1,5 +1,6 @@
 -- Of which definition each process is as a log goes on, and which of them make a step.
 use Rattle.std.specs.Prelude.{ℕ, List, [], ◌∷◌, ◌++◌, slice_get, Option, Some, None, option_and_then}
+use Rattle.std.specs.List.{fold}
 use Rattle.tb_log.specs.declared.entry.LabelKind.{LabelKind}
 use Rattle.tb_log.specs.declared.entry.LabelKind.TheVariants as kind
 use Rattle.tb_log.specs.declared.entry.Label.{Label}
@@ -37,6 +38,10 @@ players_after cast players (Did label) = players_by label.kind cast players labe
 players_after cast players Quiet = players
 players_after cast players (Fed input reply) = players
 players_after cast players (Gave lane out) = players
+
+-- those after all these entries, where a script begins with its roots
+abbrev pub players_of : Cast → List Entry → List ℕ
+players_of cast entries = fold (players_after cast) cast.roots.items entries
 
 -- the definitions of the processes that make a step: of the only one or the sender, and of the receiver
 abbrev pub bodies_of : List ℕ → Entry → Option ℕ × Option ℕ

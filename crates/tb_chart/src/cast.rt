@@ -48,6 +48,9 @@ impl Role {
 
 impl Cast {
     ghost use Rattle.std.specs.Prelude.{◌≡◌};
+    ghost use Rattle.std.specs.Prelude.{IfNone, false};
+    ghost use Rattle.std.specs.List.{list_any};
+    ghost use Rattle.std.specs.Str.{bytes_eq};
     ghost use Rattle.tb_chart.specs.Players.{created};
 
     /// Returns which definition an atom creates a process of, if it creates one. Atoms are numbered from 1.
@@ -61,7 +64,10 @@ impl Cast {
     }
 
     /// Returns the position of the tool that is declared with this name.
-    pub fn tool(&self, name: &[u8]) -> Option<u32> {
+    pub fn tool(&self, name: &[u8]) -> Option<u32>
+        ensures none { IfNone result
+            (list_any (λ tool. bytes_eq tool name.now) self.now.tools.items ≡ false) }
+    {
         let mut position: u32 = 0;
         for tool in self.tools.as_slice() {
             if tool.as_bytes() == name {

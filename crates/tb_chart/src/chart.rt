@@ -1,16 +1,18 @@
 //! The chart of a log: lifelines, and a row for each entry that it shows.
-ghost use Rattle.std.specs.Prelude.{◌≡◌, ◌++◌, ◌∷◌, [], All, IfOk, IsTrue, OnOk, map};
-ghost use Rattle.tb_chart.specs.Helpers.Additions.{GoesOn, Stay, are_players};
+ghost use Rattle.std.specs.Prelude.{◌≡◌, ◌++◌, ◌∷◌, [], length, All, IfErr, IfOk, IsTrue, OnOk, map};
+ghost use Rattle.tb_chart.specs.Helpers.Additions.{GoesOn, IsEndFault, IsEntryFault, Sound, Stay, are_players};
 ghost use Rattle.tb_chart.specs.Ends.{ends_of, fits};
 ghost use Rattle.tb_chart.specs.Figures.{figure};
-ghost use Rattle.tb_chart.specs.Lifelines.{HasLines, have_lines};
+ghost use Rattle.tb_chart.specs.Lifelines.{HasBody, HasFirst, HasLines, have_lines};
 ghost use Rattle.tb_chart.specs.Named.{NamesTools};
+ghost use Rattle.tb_chart.specs.Players.{players_of};
+ghost use Rattle.tb_chart.specs.Refused.{IsRefused};
 ghost use Rattle.tb_chart.specs.Rows.{is_seen, is_shown, row, seen_row, rows_from, rows_of};
 
 use crate::cast::Cast;
 use crate::fault::ChartFault;
 use crate::figure::{Figure, ends_of, figure_of};
-use crate::lines::Lines;
+use crate::lines::{Lines, add_players};
 use crate::named::are_named;
 use crate::row::{Row, Who};
 use crate::scene::Scene;
@@ -34,8 +36,8 @@ pub struct Chart<'a> {
     pub rows: Vec<Row<'a>>,
 }
 
-/// Returns the chart of the entries in the span. The entries before it only say who is there. A fault names the first entry that
-/// names a process or a tool that doesn't exist.
+/// Returns the chart of the entries in the span. The entries before it only say who is there. A fault names an entry with a
+/// process, a tool, or a lane that isn't there.
 pub fn chart_of<'a>(
     alloc: Global,
     cast: &Cast,
@@ -47,6 +49,11 @@ pub fn chart_of<'a>(
         ≡ rows_from cast.now span cast.now.roots.items 1 entries.now) }
     ensures named { IfOk result (λ chart. All (NamesTools cast.now.tools.items) chart.rows.items) }
     ensures lines { IfOk result (λ chart. All (HasLines chart.lines) chart.rows.items) }
+    ensures roots { IfOk result (λ chart.
+        IsTrue span.all → HasFirst (length cast.now.roots.items) chart.lines) }
+    ensures bodies { IfOk result (λ chart.
+        All (HasBody (players_of cast.now entries.now)) chart.lines.processes.items) }
+    ensures err { IfErr result (IsRefused cast.now entries.now) }
 {
     let mut scene = Scene::new(alloc, cast, commands)?;
     let mut lines = root_lines(alloc, &scene, span.all)?;
@@ -59,18 +66,21 @@ pub fn chart_of<'a>(
 }
 
 /// No lifeline, or one for each process with which the script begins.
-fn root_lines(alloc: Global, scene: &Scene, all: bool) -> Result<Lines, NoMemory> {
+fn root_lines(alloc: Global, scene: &Scene, all: bool) -> Result<Lines, NoMemory>
+    ensures roots { IfOk result (λ lines.
+        IsTrue all → HasFirst (length scene.now.players.items) lines) }
+    ensures sound { IfOk result (λ lines. Sound scene.now.players.items lines) }
+{
     let mut lines = Lines::new(alloc);
-    let count = if all { scene.count() } else { 0 };
-    for index in 0..count {
-        if let Ok(number) = u32::try_from(index.saturating_add(1)) {
-            lines.add_process(number, scene)?;
-        }
+    if all {
+        add_players(&mut lines, scene)?;
+        return Ok(lines);
     }
     Ok(lines)
 }
 
 /// Goes on by an entry, and adds its row if it is shown.
+#[tactic(auto, using(crate::proofs::LineLemmas::sound_goes, crate::proofs::RefusalLemmas::end_fault))]
 fn add_entry<'a>(
     cast: &Cast,
     scene: &mut Scene,
@@ -87,6 +97,11 @@ fn add_entry<'a>(
         → All (NamesTools cast.now.tools.items) rows.new.items) }
     ensures lines { OnOk result (All (HasLines lines.old) rows.old.items
         → All (HasLines lines.new) rows.new.items) }
+    ensures stay { OnOk result (Stay lines.old lines.new) }
+    ensures sound { OnOk result (Sound scene.old.players.items lines.old
+        → Sound scene.new.players.items lines.new) }
+    ensures err { IfErr result (IsEntryFault (length scene.old.lanes.items)
+        scene.old.cast.now scene.old.players.items number entry.now) }
 {
     if !scene.follow(entry)? {
         return Err(ChartFault::Line(number));
@@ -115,6 +130,7 @@ fn is_seen(figure: Figure) -> bool
 }
 
 /// Adds the row of an entry.
+#[tactic(auto, using(crate::proofs::RefusalLemmas::unnamed))]
 fn add_row<'a>(
     cast: &Cast,
     scene: &Scene,
@@ -129,6 +145,11 @@ fn add_row<'a>(
         → All (NamesTools cast.now.tools.items) rows.new.items) }
     ensures lines { OnOk result (All (HasLines lines.old) rows.old.items
         → All (HasLines lines.new) rows.new.items) }
+    ensures stay { OnOk result (Stay lines.old lines.new) }
+    ensures sound { OnOk result (Sound scene.now.players.items lines.old
+        → Sound scene.now.players.items lines.new) }
+    ensures err { IfErr result (IsEndFault (length scene.now.lanes.items)
+        scene.now.players.items number entry.now) }
 {
     let wanted = ends_of(figure_of(entry));
     let Some(ends) = scene.ends(wanted, entry) else {
@@ -157,11 +178,13 @@ fn row_of<'a>(scene: &Scene, number: u64, entry: &'a Entry, ends: Option<(Who, W
     }
 }
 
-#[tactic(auto, using(crate::proofs::LineLemmas::adds_both, crate::proofs::LineLemmas::stay_through))]
+#[tactic(auto, using(crate::proofs::LineLemmas::adds_both, crate::proofs::LineLemmas::stay_through, crate::proofs::LineLemmas::sound_through))]
 fn add_lines(lines: &mut Lines, scene: &Scene, ends: Option<(Who, Who)>) -> Result<(), NoMemory>
     ensures there { OnOk result (IsTrue (are_players scene.now.players.items ends)
         → IsTrue (have_lines lines.new ends)) }
     ensures stay { OnOk result (Stay lines.old lines.new) }
+    ensures sound { OnOk result (Sound scene.now.players.items lines.old
+        → Sound scene.now.players.items lines.new) }
 {
     match ends {
         Some((from, to)) => {

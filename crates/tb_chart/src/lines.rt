@@ -1,8 +1,8 @@
 //! The lifelines of a chart.
-ghost use Rattle.std.specs.Prelude.{◌≡◌, ◌+◌, ◌≤◌, length, slice_get, option_copied, IfSome, IsTrue, OnOk};
+ghost use Rattle.std.specs.Prelude.{◌≡◌, ◌+◌, ◌≤◌, ℕ, List, length, slice_get, option_copied, IfOk, IfSome, IsTrue, OnOk};
 ghost use Rattle.std.specs.List.{list_any};
-ghost use Rattle.tb_chart.specs.Helpers.Additions.{Adds, AddsTool, Puts, SamePlaces, is_seat, is_seat_in};
-ghost use Rattle.tb_chart.specs.Lifelines.{columns, has_line, has_process, is_line_of, is_process, is_tool, is_tool_in, notes_count, place_of, spot_at, spot_behind};
+ghost use Rattle.tb_chart.specs.Helpers.Additions.{Adds, AddsTool, Puts, SamePlaces, Sound, is_seat, is_seat_in};
+ghost use Rattle.tb_chart.specs.Lifelines.{HasFirst, columns, has_line, has_process, is_line_of, is_process, is_tool, is_tool_in, notes_count, place_of, spot_at, spot_behind};
 ghost use Rattle.tb_chart.specs.Numbers.{numbered};
 
 use crate::cast::{index_of, numbered};
@@ -39,7 +39,9 @@ pub struct Lines {
 }
 
 impl Lines {
-    pub(crate) fn new(alloc: Global) -> Lines {
+    pub(crate) fn new(alloc: Global) -> Lines
+        ensures { (players : List ℕ) → Sound players result }
+    {
         Lines {
             processes: Vec::new(alloc),
             has_notes: false,
@@ -138,6 +140,28 @@ impl Lines {
             }
             None => Ok(()),
         }
+    }
+}
+
+/// Adds the lifeline of each process that is there.
+pub(crate) fn add_players(lines: &mut Lines, scene: &Scene) -> Result<(), NoMemory>
+    ensures there { OnOk result (HasFirst (length scene.now.players.items) lines.new) }
+    ensures sound { OnOk result (Sound scene.now.players.items lines.old
+        → Sound scene.now.players.items lines.new) }
+{
+    for index in 0..scene.count() {
+        lines.add_process(number_at(index)?, scene)?;
+    }
+    Ok(())
+}
+
+/// The number of the process at a position. No process has a number from 2^32 on, and there is memory for no such lifeline.
+fn number_at(index: usize) -> Result<u32, NoMemory>
+    ensures { IfOk result (λ number. number ≡ index + 1) }
+{
+    match u32::try_from(index.saturating_add(1)) {
+        Ok(number) => Ok(number),
+        Err(_) => Err(NoMemory),
     }
 }
 

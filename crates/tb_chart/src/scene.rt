@@ -1,10 +1,14 @@
 //! Who is there as a log goes on: the processes, the tools and their lanes.
-ghost use Rattle.std.specs.Prelude.{◌≡◌, Bool, true, IsTrue, IfOk, IfSome};
-ghost use Rattle.tb_chart.specs.Helpers.Additions.{Follows, Keeps, are_players, is_player};
+ghost use Rattle.std.specs.Prelude.{◌≡◌, ◌⊎◌, ◌<◌, ◌≤◌, ◌^◌, ℕ, None, Bool, true, false, length, IsTrue, IfOk, IfNone, IfSome};
+ghost use Rattle.tb_chart.specs.Helpers.Additions.{Follows, IfNo, Keeps, are_players, is_player};
 ghost use Rattle.tb_chart.specs.Ends.{fits, is_at};
 ghost use Rattle.tb_chart.specs.Numbers.{numbered};
 ghost use Rattle.tb_chart.specs.Players.{bodies_of, created_by};
+ghost use Rattle.tb_chart.specs.Refused.{IsAbsent, IsLostInput, LacksEnd, is_lane};
 ghost use Rattle.tb_chart.specs.Terms.{creates, is_number};
+ghost use Rattle.tb_log.specs.Shapes.{lane_count};
+ghost use Rattle.std.specs.List.{list_any};
+ghost use Rattle.std.specs.Str.{bytes_eq};
 
 use crate::cast::{Cast, index_of, numbered};
 use crate::figure::End;
@@ -29,6 +33,7 @@ impl<'a> Scene<'a> {
     pub(crate) fn new(alloc: Global, cast: &'a Cast, commands: usize) -> Result<Scene<'a>, NoMemory>
         ensures players { IfOk result (λ scene. scene.players.items ≡ cast.now.roots.items) }
         ensures cast { IfOk result (λ scene. scene.cast.now ≡ cast.now) }
+        ensures lanes { IfOk result (λ scene. length scene.lanes.items ≡ lane_count) }
     {
         Ok(Scene {
             cast,
@@ -39,7 +44,7 @@ impl<'a> Scene<'a> {
     }
 
     /// Goes on by an entry. Returns whether the processes and tools that the entry names are there.
-    #[tactic(auto, using(crate::proofs::SceneLemmas::follows_kept, crate::proofs::SceneLemmas::follows_result))]
+    #[tactic(auto, using(crate::proofs::SceneLemmas::follows_kept, crate::proofs::SceneLemmas::follows_gave, crate::proofs::SceneLemmas::follows_input))]
     pub(crate) fn follow(&mut self, entry: &Entry) -> Result<bool, NoMemory>
         ensures { IfOk result (Follows entry.now self.old self.new) }
     {
@@ -56,6 +61,8 @@ impl<'a> Scene<'a> {
         ensures fit { IfSome result (λ found. IsTrue (fits entry.now ends found)) }
         ensures are { IfSome result
             (λ found. IsTrue (are_players self.now.players.items found)) }
+        ensures none { IfNone result
+            (LacksEnd (length self.now.lanes.items) self.now.players.items entry.now ends) }
     {
         match ends {
             None => Some(None),
@@ -71,30 +78,52 @@ impl<'a> Scene<'a> {
     fn who(&self, end: End, entry: &Entry) -> Option<Who>
         ensures at { IfSome result (λ found. IsTrue (is_at entry.now end found)) }
         ensures is { IfSome result (λ found. IsTrue (is_player self.now.players.items found)) }
+        ensures none { IfNone result
+            (IsAbsent (length self.now.lanes.items) self.now.players.items entry.now end) }
     {
         match end {
-            End::Process(number) => {
-                self.body_of(number)?;
-                Some(Who::Process(number))
-            }
-            End::Child => {
-                let number = child_number(entry)?;
-                self.body_of(number)?;
-                Some(Who::Process(number))
-            }
+            End::Process(number) => self.process(number),
+            End::Child => match child_number(entry) {
+                Some(number) => self.process(number),
+                None => None,
+            },
             End::Tool => {
                 let seat = self.seats.get(index_of(tool_number(entry)?)?)?;
                 Some(Who::Tool(*seat))
             }
-            End::Lane(lane) => {
-                let kind = self.lanes.get(index_of(u64::from(lane))?)?.kind;
-                Some(Who::Tool(Seat { lane, kind }))
-            }
+            End::Lane(lane) => self.program(lane),
             End::Notes => Some(Who::Notes),
         }
     }
 
-    #[tactic(auto, using(crate::proofs::SceneLemmas::follows_kept, crate::proofs::SceneLemmas::follows_result))]
+    /// Returns the process with this number, if it is there.
+    fn process(&self, number: u32) -> Option<Who>
+        ensures some { IfSome result (λ found. found ≡ Who.Process number) }
+        ensures is { IfSome result (λ found. IsTrue (is_player self.now.players.items found)) }
+        ensures none { IfNone result (numbered self.now.players.items number ≡ None) }
+    {
+        match self.body_of(number) {
+            Some(_) => Some(Who::Process(number)),
+            None => None,
+        }
+    }
+
+    /// Returns the program on a lane, if there is such a lane.
+    fn program(&self, lane: u8) -> Option<Who>
+        ensures at { IfSome result (λ found. IsTrue (is_at (Entry.Quiet) (End.Lane lane) found)) }
+        ensures is { IfSome result (λ found. IsTrue (is_player self.now.players.items found)) }
+        ensures none { IfNone result (is_lane (length self.now.lanes.items) lane ≡ false) }
+    {
+        match numbered(self.lanes.as_slice(), u64::from(lane)) {
+            Some(place) => Some(Who::Tool(Seat {
+                lane,
+                kind: place.kind,
+            })),
+            None => None,
+        }
+    }
+
+    #[tactic(auto, using(crate::proofs::SceneLemmas::follows_kept, crate::proofs::SceneLemmas::follows_tool, crate::proofs::SceneLemmas::follows_tool_result))]
     fn follow_step(&mut self, label: &Label) -> Result<bool, NoMemory>
         ensures { IfOk result (Follows (Entry.Did label.now) self.old self.new) }
     {
@@ -160,7 +189,9 @@ impl<'a> Scene<'a> {
     }
 
     /// Returns how many processes there have been.
-    pub(crate) fn count(&self) -> usize {
+    pub(crate) fn count(&self) -> usize
+        ensures { result ≡ length self.now.players.items }
+    {
         self.players.len()
     }
 
@@ -193,21 +224,39 @@ impl<'a> Scene<'a> {
     }
 
     fn follow_input(&mut self, input: &Input) -> Result<bool, NoMemory>
-        ensures { Keeps self.old self.new }
+        ensures keeps { Keeps self.old self.new }
+        ensures lost { IfOk result (λ ok. IfNo ok
+            (IsLostInput (length self.old.lanes.items) self.old.cast.now input.now)) }
     {
         match input {
-            Input::Line(lane, ToolLine::Connect(name)) => self.connect(*lane, name.as_bytes()),
-            Input::Line(lane, ToolLine::Disconnect) | Input::Cut(lane) => {
-                Ok(self.turn(*lane, Turn::Clear))
-            }
+            Input::Line(lane, line) => self.follow_line(*lane, line),
             Input::Gone(lane) => Ok(self.turn(*lane, Turn::Gone)),
-            Input::Line(lane, _) => Ok(self.turn(*lane, Turn::Nothing)),
+            Input::Cut(lane) => Ok(self.turn(*lane, Turn::Clear)),
             Input::Tick | Input::NoTicks => Ok(true),
         }
     }
 
+    fn follow_line(&mut self, lane: u8, line: &ToolLine) -> Result<bool, NoMemory>
+        ensures keeps { Keeps self.old self.new }
+        ensures lost { IfOk result (λ ok. IfNo ok
+            (IsLostInput (length self.old.lanes.items) self.old.cast.now
+            (Input.Line lane line.now))) }
+    {
+        match line {
+            ToolLine::Connect(name) => self.connect(lane, name.as_bytes()),
+            ToolLine::Disconnect => Ok(self.turn(lane, Turn::Clear)),
+            ToolLine::Value(_) | ToolLine::Event(_) | ToolLine::Bad => {
+                Ok(self.turn(lane, Turn::Nothing))
+            }
+        }
+    }
+
     fn connect(&mut self, lane: u8, name: &[u8]) -> Result<bool, NoMemory>
-        ensures { Keeps self.old self.new }
+        ensures keeps { Keeps self.old self.new }
+        ensures lost { IfOk result (λ ok. IfNo ok
+            ((is_lane (length self.old.lanes.items) lane ≡ false)
+            ⊎ (list_any (λ tool. bytes_eq tool name.now) self.old.cast.now.tools.items
+            ≡ false))) }
     {
         match self.cast.tool(name) {
             Some(kind) => {
@@ -238,7 +287,8 @@ impl<'a> Scene<'a> {
 
     /// What happens on a lane. Returns whether there is such a lane.
     fn turn(&mut self, lane: u8, turn: Turn) -> bool
-        ensures { Keeps self.old self.new }
+        ensures keeps { Keeps self.old self.new }
+        ensures none { IfNo result (is_lane (length self.old.lanes.items) lane ≡ false) }
     {
         let Some(index) = index_of(u64::from(lane)) else {
             return false;
@@ -280,7 +330,9 @@ fn roots(alloc: Global, cast: &Cast) -> Result<Vec<u32>, NoMemory>
 }
 
 /// The lanes, of which so many begin with a command.
-fn first_lanes(alloc: Global, commands: usize) -> Result<Vec<Lane>, NoMemory> {
+fn first_lanes(alloc: Global, commands: usize) -> Result<Vec<Lane>, NoMemory>
+    ensures { IfOk result (λ lanes. length lanes.items ≡ lane_count) }
+{
     let mut lanes = Vec::new(alloc);
     for index in 0..LANES {
         lanes.push(Lane {
@@ -306,19 +358,34 @@ fn lowest_free(lanes: &[Lane]) -> Option<u8> {
 
 /// The number of the process that a step creates.
 fn child_number(entry: &Entry) -> Option<u32>
-    ensures { IfSome result (λ number. IsTrue (creates entry.now number)) }
+    ensures some { IfSome result (λ number. IsTrue (creates entry.now number)) }
+    ensures none { IfNone result ((number : ℕ) → number < 2 ^ 32
+        → creates entry.now number ≡ false) }
 {
     let Entry::Did(label) = entry else {
         return None;
     };
     match label.terms.as_slice() {
         [] => None,
-        [first, ..] => small(positive(first)?),
+        [first, ..] => small_number(first),
+    }
+}
+
+/// The number that a term is, if it is one below 2^32.
+fn small_number(term: &Term) -> Option<u32>
+    ensures some { IfSome result (λ number. IsTrue (is_number number term.now)) }
+    ensures none { IfNone result ((number : ℕ) → number < 2 ^ 32
+        → is_number number term.now ≡ false) }
+{
+    match positive(term) {
+        Some(number) => small(number),
+        None => None,
     }
 }
 
 fn small(number: u64) -> Option<u32>
-    ensures { IfSome result (λ small. small ≡ number) }
+    ensures some { IfSome result (λ small. small ≡ number) }
+    ensures none { IfNone result (2 ^ 32 ≤ number) }
 {
     match u32::try_from(number) {
         Ok(number) => Some(number),
@@ -350,7 +417,8 @@ fn tool_name(label: &Label) -> Option<&[u8]> {
 }
 
 fn positive(term: &Term) -> Option<u64>
-    ensures { IfSome result (λ number. IsTrue (is_number number term.now)) }
+    ensures some { IfSome result (λ number. IsTrue (is_number number term.now)) }
+    ensures none { IfNone result ((number : ℕ) → is_number number term.now ≡ false) }
 {
     match term {
         Term::Int(number) => match u64::try_from(*number) {

@@ -1,13 +1,35 @@
-use Rattle.std.proofs.Common.{◌∙◌}
-use Rattle.tb_chart.proofs.RowLemmas.{rows-more}
+use Rattle.std.proofs.Common.{◌≡◌, ◌∙◌, ◌+◌, Err, length, refl, rules, arith}
+use Rattle.tb_chart.specs.declared.row.Who.TheVariants as who
+use Rattle.tb_chart.proofs.LineLemmas.{bodies_after}
+use Rattle.tb_chart.proofs.RefusalLemmas.{refused_by}
+use Rattle.tb_chart.proofs.RowLemmas.{players-more, rows-more}
 use Rattle.tb_chart.proofs.chart.chart_of.Goals as goal
 
 pub loop-index-preserved : goal.loop-index-preserved
 loop-index-preserved c = record {
   cast = c.in_ok-add_entry.ensures.goes_on.cast ∙ c.loop-index.invariant.cast;
+  lanes = c.in_ok-add_entry.ensures.goes_on.lanes ∙ c.loop-index.invariant.lanes;
+  players = players-more c.args.cast.now c.loop-index.scene.cast.now c.loop-index.scene.players.items c.add_entry.new.scene.players.items
+      c.loop-index.index c.args.entries.now _ c.loop-index-test.true c.index-entries-index.is c.loop-index.invariant.cast
+      c.loop-index.invariant.players c.in_ok-add_entry.ensures.goes_on.players;
   rows = rows-more c.args.cast.now c.loop-index.scene.cast.now c.args.span c.loop-index.scene.players.items c.add_entry.new.scene.players.items
       c.loop-index.index c.args.entries.now _ _ _ _ c.loop-index-test.true c.index-entries-index.is c.loop-index.invariant.cast
       c.in_ok-add_entry.ensures.goes_on.players c.in_ok-add_entry.ensures.rows c.loop-index.invariant.rows;
   named = c.in_ok-add_entry.ensures.named c.loop-index.invariant.named;
   lines = c.in_ok-add_entry.ensures.lines c.loop-index.invariant.lines;
+  roots = λ all number from to. c.in_ok-add_entry.ensures.stay (who.Process number) (c.loop-index.invariant.roots all number from to);
+  sound = c.in_ok-add_entry.ensures.sound c.loop-index.invariant.sound;
 }
+
+pub returns-in_err-add_entry-clause-err : goal.returns-in_err-add_entry-clause-err
+returns-in_err-add_entry-clause-err c =
+    let told : c.from_residual-in_err-add_entry.result ≡ Err c.in_err-add_entry.field-0.0 = search rules in
+    refused_by c.from_residual-in_err-add_entry.result _ c.args.cast.now c.loop-index.scene.cast.now c.loop-index.scene.players.items
+    c.loop-index.index (c.loop-index.index + 1) c.args.entries.now _ c.in_err-add_entry.field-0.0 told c.loop-index-test.true c.index-entries-index.is refl
+    c.loop-index.invariant.lanes c.loop-index.invariant.cast c.loop-index.invariant.players c.in_err-add_entry.ensures.err
+
+pub returns-clause-bodies : goal.returns-clause-bodies
+returns-clause-bodies c =
+    let last : c.loop-index.index ≡ length c.args.entries.now = omega (arith, c.loop-index-test.false, c.loop-index.auto.index-end) in
+    bodies_after c.args.cast.now c.args.entries.now c.loop-index.index c.loop-index.scene.players.items c.loop-index.lines last
+    c.loop-index.invariant.players c.loop-index.invariant.sound

@@ -8,4 +8,4 @@ returns-in_ok-push-in-Some c =
     let puts = puts_at c.args.number c.len.result (length c.args.self.now.processes.items) c.args.self.now.places.items c.put_place.new.places.items
     (c.len.ensures ∙ c.args.self.now.processes.ok.0) c.in_ok-put_place-in-Some.ensures in
     adds_process c.args.scene.now.players.items c.args.number c.in-Some.body (record { number = c.args.number; body = c.in-Some.body })
-    c.args.self.now _ (sym c.in-Some.ensures) puts refl c.in_ok-push-in-Some.ensures.items refl refl
+    c.args.self.now _ (sym c.in-Some.ensures) puts refl refl c.in_ok-push-in-Some.ensures.items refl refl
