@@ -49,6 +49,7 @@ fn say_process_count(said: &mut Said, name: &[u8], given: usize) {
     said.say(", but is given ", &[]);
     said.say_count(given, "argument");
     say_definition(said, "process", name);
+    said.help_call(definition);
 }
 
 fn say_atom_count(said: &mut Said, atom: AtomWord, given: usize) {
@@ -171,8 +172,8 @@ pub(crate) fn say_misplaced(said: &mut Said, token: usize) {
         "`%?` takes a value, and no value can be taken here",
         &[text],
     );
+    said.help("to use the value of `%`, write `%`", &[text, text]);
     say_takers(said, token, text);
-    said.help("to use the value that `%` has, write `%`", &[text, text]);
 }
 
 /// Says where the variable of this name can take a value.

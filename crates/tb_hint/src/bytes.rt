@@ -2,46 +2,39 @@
 
 use crate::reals::say_real;
 use crate::said::Said;
-use crate::source::between;
+use crate::source::{between, text_of};
+use std::alloc::Global;
 use tb_lex::{LexFault, lex};
 
-/// Why a byte begins no token: the byte, a sentence, and help. A `%` is the byte.
-static OUTSIDE: [(u8, &str, &str); 7] = [
+/// Why a byte begins no token. A `%` is the byte.
+static OUTSIDE: [(&str, &str); 7] = [
+    (";", "`%` isn't part of the language"),
+    ("|", "`%` alone is no symbol"),
+    ("-", "no digit follows the `%`"),
+    ("%", "`%` alone is no symbol"),
+    ("'", "`%` begins no token"),
+    ("#", "`%` begins no token"),
+    ("/", "`%` begins no token"),
+];
+
+/// What helps against such a byte.
+static INSTEAD: [(&str, &str); 7] = [
     (
-        b';',
-        "`%` isn't part of the language",
+        ";",
         "write `.` between two steps; nothing stands at the end of a definition",
     ),
     (
-        b'|',
-        "`%` alone is no symbol",
+        "|",
         "either x or y is written `x + y`; x and y side by side are written `x || y`",
     ),
     (
-        b'-',
-        "no digit follows the `%`",
+        "-",
         "a name begins with a letter, and a number with a digit or with `-` and a digit",
     ),
-    (
-        b'%',
-        "`%` alone is no symbol",
-        "a comment begins with two of them",
-    ),
-    (
-        b'\'',
-        "`%` begins no token",
-        "a string stands between two `\"`",
-    ),
-    (
-        b'#',
-        "`%` begins no token",
-        "a comment begins with two percent signs",
-    ),
-    (
-        b'/',
-        "`%` begins no token",
-        "a comment begins with two percent signs",
-    ),
+    ("%", "a comment begins with two of them"),
+    ("'", "a string stands between two `\"`"),
+    ("#", "a comment begins with two percent signs"),
+    ("/", "a comment begins with two percent signs"),
 ];
 
 /// Says why the bytes of the script have no tokens.
@@ -93,23 +86,35 @@ fn numeral(text: &[u8]) -> &[u8] {
 fn say_byte(said: &mut Said, at: usize) {
     let text = said.source.text;
     let byte = between(text, at, at.saturating_add(1));
-    match lex(said.alloc, between(text, 0, at)) {
-        Err(LexFault::OpenString(_)) => say_in_string(said, byte),
-        Err(LexFault::NoMemory) => said.lacks = true,
+    match lex_fault(said.alloc, between(text, 0, at)) {
+        Some(LexFault::OpenString(_)) => say_in_string(
+            said,
+            between(text, at, at.saturating_add(2)),
+        ),
+        Some(LexFault::NoMemory) => said.lacks = true,
         _ => say_outside(said, byte),
     }
 }
 
-fn say_in_string(said: &mut Said, byte: &[u8]) {
-    match byte {
-        [b'\\'] => {
-            said.say("the backslash begins no escape", &[]);
-            said.help(
-                "in a string write `\\\\`, `\\\"`, `\\n`, `\\r` or `\\t`",
-                &[],
-            );
+fn lex_fault(alloc: Global, text: &[u8]) -> Option<LexFault> {
+    match lex(alloc, text) {
+        Ok(_) => None,
+        Err(fault) => Some(fault),
+    }
+}
+
+/// Says why no string goes on with the first of these two bytes.
+fn say_in_string(said: &mut Said, bytes: &[u8]) {
+    match bytes {
+        [b'\\', 33..=126] => {
+            said.say("`%` is no escape", &[bytes]);
+            say_escapes(said);
         }
-        [0..=31] => {
+        [b'\\', ..] => {
+            said.say("the backslash begins no escape", &[]);
+            say_escapes(said);
+        }
+        [0..=31, ..] => {
             said.say("this control character can't stand in a string", &[]);
             said.help("in a string write `\\n`, `\\r` or `\\t`", &[]);
         }
@@ -117,13 +122,24 @@ fn say_in_string(said: &mut Said, byte: &[u8]) {
     }
 }
 
+fn say_escapes(said: &mut Said) {
+    said.help(
+        "in a string write `\\\\`, `\\\"`, `\\n`, `\\r` or `\\t`",
+        &[],
+    );
+}
+
 fn say_outside(said: &mut Said, byte: &[u8]) {
-    for (key, sentence, help) in OUTSIDE.as_slice() {
-        if byte == [*key].as_slice() {
-            said.say(*sentence, &[byte]);
-            return said.help(*help, &[]);
-        }
+    let Some(sentence) = text_of(OUTSIDE.as_slice(), byte) else {
+        return say_other(said, byte);
+    };
+    said.say(sentence, &[byte]);
+    if let Some(help) = text_of(INSTEAD.as_slice(), byte) {
+        said.help(help, &[]);
     }
+}
+
+fn say_other(said: &mut Said, byte: &[u8]) {
     match byte {
         [33..=126] => said.say("`%` begins no token", &[byte]),
         [128..=255] => {

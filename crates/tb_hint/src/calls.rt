@@ -1,6 +1,6 @@
 //! The sentences about calls that have no end, and about too much of something.
 
-use crate::said::Said;
+use crate::said::{Said, joint};
 use crate::scan::{count_parameters, definition_of};
 use sqlite_items::at;
 use tb_expand::ExpandFault;
@@ -20,16 +20,37 @@ pub(crate) fn say_expand(said: &mut Said, tokens: &Tokens, fault: &ExpandFault) 
 }
 
 fn say_recursion(said: &mut Said, tokens: &Tokens, names: &[Ident]) {
-    said.say(
-        "a call is replaced by the body of its process, and these calls have no end",
-        &[],
-    );
+    say_cycle(said, names);
     match parse(said.alloc, tokens) {
         Ok(script) => say_calls(said, &script, names),
         Err(_) => said.lacks = true,
     }
-    say_repetition(said);
+    let first = first_name(names);
+    said.help(
+        "to repeat, write `( .. ) * delta` in the body of `%`",
+        &[first],
+    );
     say_start(said, name_behind(names, 0));
+    if let [_, second] = names {
+        said.help(
+            "to run both side by side, write `toolbus(%, %)`",
+            &[first, second.as_bytes()],
+        );
+    }
+}
+
+/// Says which process calls which.
+fn say_cycle(said: &mut Said, names: &[Ident]) {
+    let first = first_name(names);
+    if names.len() < 2 {
+        return said.say("`%` calls itself: a process can't contain itself", &[first]);
+    }
+    said.say("`%`", &[first]);
+    for position in 0..names.len() {
+        said.say(joint(position, 2, ", which"), &[]);
+        said.say(" calls `%`", &[name_behind(names, position)]);
+    }
+    said.say(" again: a process can't contain itself", &[]);
 }
 
 /// Says how a process repeats, and how it does so for ever.
@@ -56,7 +77,7 @@ fn say_start(said: &mut Said, name: &[u8]) {
         b""
     };
     said.help(
-        "or start a process: `let N : int in create(%%, N?) endlet`",
+        "to start another process, write `let N : int in create(%%, N?) endlet`",
         &[name, arguments],
     );
 }

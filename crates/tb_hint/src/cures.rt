@@ -22,6 +22,22 @@ static TIMES: [&str; 4] = ["delay", "timeout", "abs-delay", "abs-timeout"];
 /// The word in the braces of a tool.
 static COMMAND: [&str; 1] = ["command"];
 
+/// What is said of a definition behind `toolbus(..)`. A `%` is its first word.
+static AFTER_END: [(&str, &str); 3] = [
+    (
+        "process",
+        "`toolbus(..)` is the last part of a script: move this `%` before it",
+    ),
+    (
+        "tool",
+        "`toolbus(..)` is the last part of a script: move this `%` before it",
+    ),
+    (
+        "toolbus",
+        "a script has one `toolbus(..)`: name all processes that start in it",
+    ),
+];
+
 /// The functions that stand for the operators of other languages.
 static OPERATORS: [(&str, &str); 5] = [
     ("<", "`less(x, y)` or `less-equal(x, y)`"),
@@ -117,10 +133,11 @@ fn is_behind_expression(source: &Source, expected: &[&'static str], token: usize
 /// Whether this token is behind the name of a process, and its `is` doesn't come before the token.
 fn is_among_parameters(source: &Source, token: usize) -> bool {
     for position in (0..token).rev() {
-        match source.word(position) {
-            b"process" => return true,
-            b"is" | b"toolbus" => return false,
-            _ => {}
+        if source.is(position, "process") {
+            return true;
+        }
+        if source.is(position, "is") || source.is(position, "toolbus") {
+            return false;
         }
     }
     false
@@ -133,17 +150,11 @@ fn is_placeholder(source: &Source, token: usize) -> bool {
 
 /// Says that nothing follows `toolbus(..)`.
 fn cure_after_end(said: &mut Said, found: &[u8]) {
-    match found {
-        b"process" | b"tool" => said.help(
-            "`toolbus(..)` is the last part of a script: move this `%` before it",
-            &[found],
-        ),
-        b"toolbus" => said.help(
-            "a script has one `toolbus(..)`: name all processes that start in it",
-            &[],
-        ),
-        _ => said.help("`toolbus(..)` is the last part of a script", &[]),
-    }
+    let help = text_of(AFTER_END.as_slice(), found);
+    said.help(
+        help.unwrap_or("`toolbus(..)` is the last part of a script"),
+        &[found],
+    );
 }
 
 /// Says what helps if a word is misspelt, or a letter is of the other case.
@@ -176,9 +187,7 @@ fn offer_expected(near: &mut Near, expected: &[&'static str]) {
         return;
     }
     if begins_process(expected) {
-        for (word, _, _) in ATOMS.as_slice() {
-            near.offer_word(*word);
-        }
+        near.offer_keys(ATOMS.as_slice());
     }
     if has(expected, "delay") {
         near.offer_words(TIMES.as_slice());
@@ -224,12 +233,9 @@ fn say_instead(said: &mut Said, name: &[u8]) {
 /// The name with its first letter in the other case.
 fn with_other_case(alloc: Global, name: &[u8]) -> Result<Vec<u8>, NoMemory> {
     let mut other = Vec::new(alloc);
-    for (position, byte) in name.iter().enumerate() {
-        if position == 0 {
-            other.push(*byte ^ 0x20)?;
-        } else {
-            other.push(*byte)?;
-        }
+    if let [first, rest @ ..] = name {
+        other.push(*first ^ 0x20)?;
+        other.extend_from_slice(rest)?;
     }
     Ok(other)
 }

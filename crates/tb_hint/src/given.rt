@@ -4,6 +4,7 @@ use crate::arguments::signature_of;
 use crate::names::note_declared;
 use crate::said::Said;
 use crate::scan::declaration_of;
+use crate::source::is_lower;
 use crate::wanted::{say_type, shape_text};
 
 /// Says what begins at this token, and of which type it is.
@@ -37,6 +38,13 @@ fn say_variable(said: &mut Said, token: usize, name: &[u8]) {
     }
 }
 
+/// Whether a term begins at this token that is written as a call of a function.
+pub(crate) fn is_no_call(said: &mut Said, token: usize) -> bool {
+    let source = said.source;
+    let word = source.word(token);
+    is_lower(word) && source.is(token.saturating_add(1), "(") && signature_of(said, word).is_none()
+}
+
 fn say_name(said: &mut Said, token: usize, name: &[u8]) {
     let source = said.source;
     if source.is(token.saturating_add(1), "(") {
@@ -50,7 +58,10 @@ fn say_name(said: &mut Said, token: usize, name: &[u8]) {
 
 fn say_application(said: &mut Said, name: &[u8]) {
     let Some(signature) = signature_of(said, name) else {
-        return said.say("`%(..)` is a plain term", &[name]);
+        return said.say(
+            "no function is named `%`, so `%(..)` is a term",
+            &[name, name],
+        );
     };
     said.say("the function `%` gives the type ", &[name]);
     said.say("%", &[shape_text(signature.result)]);

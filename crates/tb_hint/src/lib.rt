@@ -13,6 +13,7 @@ mod lines;
 mod message;
 mod names;
 mod near;
+mod reach;
 mod reals;
 mod roots;
 mod said;

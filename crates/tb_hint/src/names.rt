@@ -2,9 +2,10 @@
 
 use crate::cures::cure_assigned;
 use crate::near::Near;
+use crate::reach::say_known;
 use crate::said::Said;
-use crate::scan::{definition_of, scope_of};
-use crate::source::is_lower;
+use crate::scan::{declared_in, definition_of, scope_of};
+use crate::source::{is_lower, text_of};
 use tb_syntax::is_sort_word;
 
 /// The words of types.
@@ -36,6 +37,34 @@ static FUNCTIONS: [&str; 24] = [
     "sec",
     "min",
     "hour",
+];
+
+/// Names of functions in other languages, each with the function that does the same.
+static FOREIGN: [(&str, &str); 24] = [
+    ("plus", "add"),
+    ("minus", "sub"),
+    ("times", "mul"),
+    ("eq", "equal"),
+    ("equals", "equal"),
+    ("ne", "not-equal"),
+    ("neq", "not-equal"),
+    ("lt", "less"),
+    ("le", "less-equal"),
+    ("leq", "less-equal"),
+    ("gt", "greater"),
+    ("ge", "greater-equal"),
+    ("geq", "greater-equal"),
+    ("rem", "mod"),
+    ("length", "size"),
+    ("len", "size"),
+    ("head", "first"),
+    ("tail", "next"),
+    ("rest", "next"),
+    ("append", "join"),
+    ("concat", "join"),
+    ("contains", "member"),
+    ("elem", "member"),
+    ("nth", "index"),
 ];
 
 /// Says that what is defined or declared at this token has a name that is taken.
@@ -87,6 +116,9 @@ fn say_declared_twice(said: &mut Said, token: usize, name: &[u8]) {
     } else {
         said.say("this `let` declares two variables named `%`", &[name]);
     }
+    if let Some(first) = declared_in(&source, scope, name) {
+        note_declared(said, first);
+    }
 }
 
 /// Says that no process has the name at this token.
@@ -125,8 +157,16 @@ pub(crate) fn say_no_tool(said: &mut Said, token: usize) {
     near.offer_definitions(&source, "tool");
     near.ask(said);
     if !near.has_found() {
-        said.help("declare it: `tool % is { command = \"..\" }`", &[name]);
+        say_tool(said, name);
     }
+}
+
+/// Says how the tool of this name is declared.
+fn say_tool(said: &mut Said, name: &[u8]) {
+    said.help(
+        "declare the tool above the process: `tool % is { command = \"..\" }`",
+        &[name],
+    );
 }
 
 fn say_no_type(said: &mut Said, token: usize) {
@@ -141,6 +181,9 @@ fn say_no_type(said: &mut Said, token: usize) {
         "types are `bool`, `int`, `str`, `list`, `term`, and the names of tools",
         &[],
     );
+    if !near.has_found() {
+        say_tool(said, name);
+    }
 }
 
 /// Says that no function has the name at this token.
@@ -151,10 +194,20 @@ pub(crate) fn say_no_function(said: &mut Said, token: usize) {
     if is_sort_word(name) {
         return said.help("`%` is a type", &[name]);
     }
+    ask_function(said, name);
+    said.help_words("the functions are ", FUNCTIONS.as_slice());
+}
+
+/// Asks which function is meant by this name of none. Returns whether there is one.
+pub(crate) fn ask_function(said: &mut Said, name: &[u8]) -> bool {
+    if let Some(function) = text_of(FOREIGN.as_slice(), name) {
+        said.help("did you mean `%`?", &[function.as_bytes()]);
+        return true;
+    }
     let mut near = Near::to(said.alloc, name);
     near.offer_words(FUNCTIONS.as_slice());
     near.ask(said);
-    said.help_words("the functions are ", FUNCTIONS.as_slice());
+    near.has_found()
 }
 
 /// Says that the variable at this token isn't known there.
@@ -168,6 +221,7 @@ pub(crate) fn say_undeclared(said: &mut Said, token: usize) {
     let mut near = Near::to(said.alloc, name);
     near.offer_known(&source, token);
     near.ask(said);
+    say_known(said, token);
     if !near.has_found() {
         say_declaration(said, token, name);
     }

@@ -64,6 +64,13 @@ impl<'a> Near<'a> {
         }
     }
 
+    /// Offers each word of a table.
+    pub(crate) fn offer_keys(&mut self, table: &[(&'static str, &'static str)]) {
+        for (word, _) in table {
+            self.offer(word.as_bytes());
+        }
+    }
+
     /// Offers each name that is defined with this keyword.
     pub(crate) fn offer_definitions(&mut self, source: &Source<'a>, keyword: &str) {
         for position in 0..source.tokens.len() {

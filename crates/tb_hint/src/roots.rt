@@ -1,10 +1,11 @@
 //! The sentence about an argument of `toolbus(..)` that has no value, or one of another type.
 
-use crate::given::say_given;
+use crate::given::{is_no_call, say_given};
+use crate::names::ask_function;
 use crate::said::Said;
 use crate::scan::scope_of;
 use std::alloc::Global;
-use tb_lex::lex;
+use tb_lex::{Tokens, lex};
 use tb_parse::parse;
 use tb_syntax::{Ast, Call};
 use tb_terms::{NoMemory, Term, write_term};
@@ -33,22 +34,31 @@ pub(crate) fn argument_at(said: &Said, token: usize) -> Result<Argument, NoMemor
 }
 
 fn evaluated(alloc: Global, text: &[u8], token: usize) -> Result<Argument, NoMemory> {
-    let Ok(tokens) = lex(alloc, text) else {
-        return Err(NoMemory);
-    };
-    let Ok(script) = parse(alloc, &tokens) else {
-        return Err(NoMemory);
-    };
-    match argument_of(script.roots.as_slice(), token) {
+    match lex(alloc, text) {
+        Ok(tokens) => parsed(alloc, &tokens, token),
+        Err(_) => Err(NoMemory),
+    }
+}
+
+fn parsed(alloc: Global, tokens: &Tokens, token: usize) -> Result<Argument, NoMemory> {
+    match parse(alloc, tokens) {
+        Ok(script) => found(alloc, script.roots.as_slice(), token),
+        Err(_) => Err(NoMemory),
+    }
+}
+
+fn found(alloc: Global, roots: &[Call], token: usize) -> Result<Argument, NoMemory> {
+    match argument_of(roots, token) {
         Some(argument) => value_of(alloc, argument),
         None => Ok(Argument::Absent),
     }
 }
 
 fn value_of(alloc: Global, argument: &Ast) -> Result<Argument, NoMemory> {
-    match closed_value(alloc, argument)? {
-        Some(value) => Ok(Argument::With(value)),
-        None => Ok(Argument::Without),
+    match closed_value(alloc, argument) {
+        Ok(Some(value)) => Ok(Argument::With(value)),
+        Ok(None) => Ok(Argument::Without),
+        Err(NoMemory) => Err(NoMemory),
     }
 }
 
@@ -93,6 +103,11 @@ pub(crate) fn say_value(said: &mut Said, token: usize, value: &Term) {
     let source = said.source;
     if !source.is(token.saturating_add(1), "(") {
         return say_given(said, token);
+    }
+    if is_no_call(said, token) {
+        say_given(said, token);
+        let _asks = ask_function(said, source.word(token));
+        return;
     }
     let mut text = Vec::new(said.alloc);
     if write_term(value, &mut text).is_err() {

@@ -1,6 +1,7 @@
 //! A message, piece by piece. If memory runs out at one piece, the message lacks it.
 
 use crate::lines::push_marked;
+use crate::scan::push_parameters;
 use crate::source::{Source, between};
 use itoa::Buffer;
 use std::alloc::Global;
@@ -75,6 +76,14 @@ impl<'a> Said<'a> {
         }
     }
 
+    /// Adds a line of help that shows a call of the process whose name is at this token.
+    pub(crate) fn help_call(&mut self, definition: usize) {
+        let source = self.source;
+        if push_call(&source, definition, &mut self.rest).is_err() {
+            self.lacks = true;
+        }
+    }
+
     /// Adds a line of help that ends with these words.
     pub(crate) fn help_words(&mut self, begin: &str, words: &[&'static str]) {
         if push_words(begin, words, &mut self.rest).is_err() {
@@ -94,6 +103,13 @@ impl<'a> Said<'a> {
 fn push_help(template: &str, parts: &[&[u8]], into: &mut Vec<u8>) -> Result<(), NoMemory> {
     into.extend_from_slice(b"\nhelp: ")?;
     fill(template, parts, into)
+}
+
+fn push_call(source: &Source, definition: usize, into: &mut Vec<u8>) -> Result<(), NoMemory> {
+    push_help("write `%", &[source.word(definition)], into)?;
+    push_parameters(source, definition, into)?;
+    into.push(b'`')?;
+    Ok(())
 }
 
 fn push_words(begin: &str, words: &[&'static str], into: &mut Vec<u8>) -> Result<(), NoMemory> {

@@ -1,6 +1,7 @@
 //! The surroundings of a token: what it is an argument of, and what is defined and declared there.
 
 use crate::source::{Source, is_upper};
+use tb_terms::NoMemory;
 
 /// What a token is an argument of, and its number from 0.
 #[derive(Clone, Copy)]
@@ -101,6 +102,50 @@ pub(crate) fn is_result(source: &Source, parameter: usize) -> bool {
     source.is(type_end(source, parameter), "?")
 }
 
+/// Adds the type with which the name at this token is declared.
+pub(crate) fn push_type(
+    source: &Source,
+    declared: usize,
+    into: &mut Vec<u8>,
+) -> Result<(), NoMemory> {
+    for token in declared.saturating_add(2)..type_end(source, declared) {
+        into.extend_from_slice(source.word(token))?;
+    }
+    Ok(())
+}
+
+/// Adds the parameters of the process whose name is at this token, in parentheses, if it has any.
+pub(crate) fn push_parameters(
+    source: &Source,
+    definition: usize,
+    into: &mut Vec<u8>,
+) -> Result<(), NoMemory> {
+    let mut begin: &'static str = "(";
+    for position in definition.saturating_add(1)..source.tokens.len() {
+        if source.is(position, "is") {
+            break;
+        }
+        if is_upper(source.word(position)) {
+            into.extend_from_slice(begin.as_bytes())?;
+            push_parameter(source, position, into)?;
+            begin = ", ";
+        }
+    }
+    if begin.len() > 1 {
+        into.push(b')')?;
+    }
+    Ok(())
+}
+
+/// Adds the name of a parameter, with its `?` if it is a result parameter.
+fn push_parameter(source: &Source, parameter: usize, into: &mut Vec<u8>) -> Result<(), NoMemory> {
+    into.extend_from_slice(source.word(parameter))?;
+    if is_result(source, parameter) {
+        into.push(b'?')?;
+    }
+    Ok(())
+}
+
 /// The token after the type of the name at this token.
 pub(crate) fn type_end(source: &Source, declared: usize) -> usize {
     let mut depth: usize = 0;
@@ -167,7 +212,7 @@ pub(crate) fn declaration_of(source: &Source, token: usize, name: &[u8]) -> Opti
 }
 
 /// The token at which this `let` or `process` declares the name.
-fn declared_in(source: &Source, scope: usize, name: &[u8]) -> Option<usize> {
+pub(crate) fn declared_in(source: &Source, scope: usize, name: &[u8]) -> Option<usize> {
     for position in first_declared(source, scope)..source.tokens.len() {
         let word = source.word(position);
         if word == name {

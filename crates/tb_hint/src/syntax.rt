@@ -2,10 +2,10 @@
 
 use crate::cures::cure;
 use crate::said::{Said, joint};
-use crate::source::{between, is_among};
-use crate::unfinished::{is_behind_symbol, is_symbol, note_open, note_symbol};
+use crate::source::{between, is_among, text_of};
+use crate::unfinished::{is_behind_symbol, is_symbol, missing_word, note_open, note_symbol};
 use std::alloc::Global;
-use tb_lex::{LexFault, lex};
+use tb_lex::{LexFault, Tokens, lex};
 use tb_parse::{ParseFault, parse};
 use tb_place::mark_at;
 use tb_terms::{Items, NoMemory};
@@ -52,15 +52,17 @@ pub(crate) fn say_syntax(said: &mut Said, token: usize) {
     said.say("expected ", &[]);
     match expected_behind(said.alloc, prefix) {
         Ok(expected) => {
-            say_expected(said, expected.as_slice(), prefix);
+            let missing = missing_word(&source, expected.as_slice(), token);
+            say_expected(said, expected.as_slice(), missing, prefix);
             say_found(said, expected.as_slice(), token);
         }
         Err(NoMemory) => said.lacks = true,
     }
 }
 
-/// Says what may come: one name for each kind of construct, with commas between them, and `or` before the last.
-fn say_expected(said: &mut Said, expected: &[&'static str], prefix: &[u8]) {
+/// Says what may come: one name for each kind of construct, with commas between them, and `or` before the last. The
+/// missing word comes first, if there is one.
+fn say_expected(said: &mut Said, expected: &[&'static str], missing: &str, prefix: &[u8]) {
     let construct = construct_of(expected);
     let ends = is_script(said, prefix);
     let count = count_names(expected, construct, ends);
@@ -69,8 +71,12 @@ fn say_expected(said: &mut Said, expected: &[&'static str], prefix: &[u8]) {
         say_name(said, position, count, construct.name);
         position = 1;
     }
+    if !missing.is_empty() {
+        say_name(said, position, count, missing);
+        position = position.saturating_add(1);
+    }
     for word in expected {
-        if !has(construct.words, *word) {
+        if !has(construct.words, *word) && word.as_bytes() != missing.as_bytes() {
             say_name(said, position, count, shown(*word));
             position = position.saturating_add(1);
         }
@@ -164,14 +170,18 @@ fn reading_with(alloc: Global, prefix: &[u8], candidate: &str) -> Result<Reading
 
 fn reading_of(alloc: Global, text: &[u8]) -> Result<Reading, NoMemory> {
     match lex(alloc, text) {
-        Ok(tokens) => match parse(alloc, &tokens) {
-            Ok(_) => Ok(Reading::Script),
-            Err(ParseFault::Syntax(token)) if token < tokens.len() => Ok(Reading::Broken),
-            Err(ParseFault::NoMemory) => Err(NoMemory),
-            Err(_) => Ok(Reading::Begun),
-        },
+        Ok(tokens) => reading_by(alloc, &tokens),
         Err(LexFault::NoMemory) => Err(NoMemory),
         Err(_) => Ok(Reading::Broken),
+    }
+}
+
+fn reading_by(alloc: Global, tokens: &Tokens) -> Result<Reading, NoMemory> {
+    match parse(alloc, tokens) {
+        Ok(_) => Ok(Reading::Script),
+        Err(ParseFault::Syntax(token)) if token < tokens.len() => Ok(Reading::Broken),
+        Err(ParseFault::NoMemory) => Err(NoMemory),
+        Err(_) => Ok(Reading::Begun),
     }
 }
 
@@ -224,12 +234,7 @@ fn construct_of(expected: &[&'static str]) -> Construct {
 }
 
 fn shown(word: &'static str) -> &'static str {
-    for (key, name) in UNQUOTED.as_slice() {
-        if key.as_bytes() == word.as_bytes() {
-            return *name;
-        }
-    }
-    word
+    text_of(UNQUOTED.as_slice(), word.as_bytes()).unwrap_or(word)
 }
 
 /// A name of several words isn't quoted.

@@ -2,7 +2,7 @@
 
 use crate::calls::say_repetition;
 use crate::said::Said;
-use crate::source::{Source, is_among};
+use crate::source::{Source, is_among, is_lower, text_of};
 use crate::syntax::{begins_process, has};
 
 /// The symbols that stand between two processes.
@@ -11,14 +11,29 @@ static BETWEEN: [&str; 5] = [".", "+", "*", "||", ">>"];
 /// The other tokens before which a process has ended.
 static ENDS: [&str; 7] = [")", "endlet", "fi", "else", "process", "tool", "toolbus"];
 
-/// What is closed: how it begins, how it ends, and what is said of one without its end.
-static CLOSED: [(&str, &str, &str); 5] = [
-    ("(", ")", "this `(` isn't closed"),
-    ("[", "]", "this `[` isn't closed"),
-    ("{", "}", "this `{` isn't closed"),
-    ("if", "fi", "this `if` has no `fi`"),
-    ("let", "endlet", "this `let` has no `endlet`"),
+/// What is closed: how it begins, and how it ends.
+static CLOSED: [(&str, &str); 5] = [
+    ("(", ")"),
+    ("[", "]"),
+    ("{", "}"),
+    ("if", "fi"),
+    ("let", "endlet"),
 ];
+
+/// How what is closed ends.
+static CLOSERS: [&str; 5] = [")", "]", "}", "fi", "endlet"];
+
+/// What is said of a beginning without its end.
+static NOTES: [(&str, &str); 5] = [
+    ("(", "this `(` isn't closed"),
+    ("[", "this `[` isn't closed"),
+    ("{", "this `{` isn't closed"),
+    ("if", "this `if` has no `fi`"),
+    ("let", "this `let` has no `endlet`"),
+];
+
+/// The words with which a definition begins.
+static DEFINITIONS: [&str; 3] = ["process", "tool", "toolbus"];
 
 /// Whether a process is missing at this token, behind a symbol that stands between two.
 pub(crate) fn is_behind_symbol(source: &Source, expected: &[&'static str], token: usize) -> bool {
@@ -51,15 +66,34 @@ pub(crate) fn note_symbol(said: &mut Said, token: usize) {
 /// Adds a note at the innermost construct around this token, if it may end here and ends nowhere.
 pub(crate) fn note_open(said: &mut Said, expected: &[&'static str], token: usize) {
     let source = said.source;
-    let Some(open) = open_before(&source, token) else {
-        return;
-    };
-    for (begin, end, note) in CLOSED.as_slice() {
-        let may_end = source.is(open, *begin) && has(expected, *end);
-        if may_end && !is_closed(&source, open, token, *end) {
-            said.note(open, *note, &[]);
-        }
+    if let Some(open) = unclosed(&source, expected, token) {
+        let note = text_of(NOTES.as_slice(), source.word(open));
+        said.note(open, note.unwrap_or(""), &[]);
     }
+}
+
+/// The `fi` or `endlet` of the innermost construct around this token, if it may come here and comes nowhere. If not, an
+/// empty text.
+pub(crate) fn missing_word(
+    source: &Source,
+    expected: &[&'static str],
+    token: usize,
+) -> &'static str {
+    let end = match unclosed(source, expected, token) {
+        Some(open) => end_of(source.word(open)),
+        None => "",
+    };
+    if is_lower(end.as_bytes()) { end } else { "" }
+}
+
+/// The token that begins the innermost construct around this token, if it may end here and ends nowhere.
+fn unclosed(source: &Source, expected: &[&'static str], token: usize) -> Option<usize> {
+    let open = open_before(source, token)?;
+    let end = end_of(source.word(open));
+    if has(expected, end) && !is_closed(source, open, token, end) {
+        return Some(open);
+    }
+    None
 }
 
 /// The last token before this one that begins what isn't closed between them.
@@ -106,7 +140,7 @@ fn is_wanted(source: &Source, token: usize, end: &[u8]) -> bool {
         let Some(open) = open_before(source, inner) else {
             return false;
         };
-        if end_of(source.word(open)) == end {
+        if end_of(source.word(open)).as_bytes() == end {
             return true;
         }
         inner = open;
@@ -119,24 +153,14 @@ fn is_begin(word: &[u8]) -> bool {
 }
 
 /// How that ends which begins with this word.
-fn end_of(word: &[u8]) -> &'static [u8] {
-    for (begin, end, _) in CLOSED.as_slice() {
-        if word == begin.as_bytes() {
-            return end.as_bytes();
-        }
-    }
-    b""
+fn end_of(word: &[u8]) -> &'static str {
+    text_of(CLOSED.as_slice(), word).unwrap_or("")
 }
 
 fn is_end(word: &[u8]) -> bool {
-    for (_, end, _) in CLOSED.as_slice() {
-        if word == end.as_bytes() {
-            return true;
-        }
-    }
-    false
+    is_among(CLOSERS.as_slice(), word)
 }
 
 fn is_definition(word: &[u8]) -> bool {
-    matches!(word, b"process" | b"tool" | b"toolbus")
+    is_among(DEFINITIONS.as_slice(), word)
 }

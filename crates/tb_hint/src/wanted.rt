@@ -4,83 +4,90 @@ use crate::arguments::signature_of;
 use crate::names::note_declared;
 use crate::said::Said;
 use crate::scan::{
-    Head, declaration_of, definition_of, head_of, is_result, parameter_of, type_end,
+    Head, declaration_of, definition_of, head_of, is_result, parameter_of, push_type,
 };
-use crate::source::is_upper;
+use crate::source::{is_upper, text_of};
 use tb_func::Shape;
 
-/// What is expected of an argument of an atom or of a time: its word, the argument's number from 0, and a sentence.
-/// Its `%` are the word and the first argument.
-static WANTED: [(&str, usize, &str); 15] = [
-    ("printf", 0, "the format of `%` must be a str"),
-    ("create", 1, "`%` gives the number of a process, an int"),
-    ("execute", 1, "`%` gives a tool of the type %"),
-    ("rec-connect", 0, "`%` gives a tool"),
-    ("rec-disconnect", 0, "`%` is about a tool"),
-    ("snd-eval", 0, "the first argument of `%` must be a tool"),
-    ("snd-do", 0, "the first argument of `%` must be a tool"),
-    (
-        "snd-terminate",
-        0,
-        "the first argument of `%` must be a tool",
-    ),
-    ("rec-value", 0, "the first argument of `%` must be a tool"),
-    ("rec-event", 0, "the first argument of `%` must be a tool"),
-    (
-        "snd-ack-event",
-        0,
-        "the first argument of `%` must be a tool",
-    ),
-    ("delay", 0, "the time of `%` must be an int"),
-    ("timeout", 0, "the time of `%` must be an int"),
-    ("abs-delay", 0, "the time of `%` must be an int"),
-    ("abs-timeout", 0, "the time of `%` must be an int"),
+/// What is expected of the first argument of an atom or of a time, by its word. A `%` is the word.
+static FIRST: [(&str, &str); 13] = [
+    ("printf", "the format of `%` must be a str"),
+    ("rec-connect", "`%` gives a tool"),
+    ("rec-disconnect", "`%` is about a tool"),
+    ("snd-eval", "the first argument of `%` must be a tool"),
+    ("snd-do", "the first argument of `%` must be a tool"),
+    ("snd-terminate", "the first argument of `%` must be a tool"),
+    ("rec-value", "the first argument of `%` must be a tool"),
+    ("rec-event", "the first argument of `%` must be a tool"),
+    ("snd-ack-event", "the first argument of `%` must be a tool"),
+    ("delay", "the time of `%` must be an int"),
+    ("timeout", "the time of `%` must be an int"),
+    ("abs-delay", "the time of `%` must be an int"),
+    ("abs-timeout", "the time of `%` must be an int"),
+];
+
+/// What is expected of the second argument. The second `%` is the first argument.
+static SECOND: [(&str, &str); 2] = [
+    ("create", "`%` gives the number of a process, an int"),
+    ("execute", "`%` gives a tool of the type %"),
 ];
 
 fn wanted_by(word: &[u8], argument: usize) -> Option<&'static str> {
-    for (key, number, sentence) in WANTED.as_slice() {
-        if word == key.as_bytes() && argument == *number {
-            return Some(*sentence);
-        }
+    match argument {
+        0 => text_of(FIRST.as_slice(), word),
+        1 => text_of(SECOND.as_slice(), word),
+        _ => None,
     }
-    None
 }
 
-/// Says what is expected of the expression that begins at this token.
-pub(crate) fn say_wanted(said: &mut Said, token: usize) {
+/// Says what is expected of the expression that begins at this token. Returns whether a bool is.
+pub(crate) fn say_wanted(said: &mut Said, token: usize) -> bool {
     let source = said.source;
     if source.has_before(token, 1, ":=") {
         return say_assigned(said, token.saturating_sub(2));
     }
     if source.has_before(token, 1, "if") {
-        return said.say("a test must be a bool", &[]);
+        said.say("a test must be a bool", &[]);
+        return true;
     }
     match head_of(&source, token) {
-        None => said.say("this expression doesn't fit", &[]),
+        None => say_unfit(said),
         Some(head) => say_argument(said, head),
     }
 }
 
+fn say_unfit(said: &mut Said) -> bool {
+    said.say("this expression doesn't fit", &[]);
+    false
+}
+
 /// Says of which type the variable at this token is.
-fn say_assigned(said: &mut Said, token: usize) {
+fn say_assigned(said: &mut Said, token: usize) -> bool {
     let source = said.source;
     let name = source.word(token);
     said.say("`%` has the type ", &[name]);
-    if let Some(declared) = declaration_of(&source, token, name) {
-        say_type(said, declared);
-        note_declared(said, declared);
+    match declaration_of(&source, token, name) {
+        Some(declared) => say_declared(said, declared),
+        None => false,
     }
+}
+
+/// Says with which type the name at this token is declared, and where. Returns whether it is bool.
+fn say_declared(said: &mut Said, declared: usize) -> bool {
+    say_type(said, declared);
+    note_declared(said, declared);
+    said.source.is(declared.saturating_add(2), "bool")
 }
 
 /// Adds the type with which the name at this token is declared.
 pub(crate) fn say_type(said: &mut Said, declared: usize) {
     let source = said.source;
-    for token in declared.saturating_add(2)..type_end(&source, declared) {
-        said.say("%", &[source.word(token)]);
+    if push_type(&source, declared, &mut said.sentence).is_err() {
+        said.lacks = true;
     }
 }
 
-fn say_argument(said: &mut Said, head: Head) {
+fn say_argument(said: &mut Said, head: Head) -> bool {
     let source = said.source;
     let word = source.word(head.token);
     if is_upper(word) {
@@ -90,40 +97,46 @@ fn say_argument(said: &mut Said, head: Head) {
         Some(sentence) => {
             let first = source.word(head.token.saturating_add(2));
             said.say(sentence, &[word, first]);
+            false
         }
         None => say_function_argument(said, word, head.argument),
     }
 }
 
-fn say_parameter(said: &mut Said, process: &[u8], number: usize) {
+fn say_parameter(said: &mut Said, process: &[u8], number: usize) -> bool {
     let source = said.source;
     let definition = definition_of(&source, "process", process).unwrap_or(0);
     let Some(parameter) = parameter_of(&source, definition, number) else {
-        return said.say("this expression doesn't fit", &[]);
+        return say_unfit(said);
     };
-    let parts = [source.word(parameter), process];
-    if is_result(&source, parameter) {
-        said.say(
-            "the result parameter `%` of `%` needs a variable of just the type ",
-            &parts,
-        );
+    let sentence = if is_result(&source, parameter) {
+        "the result parameter `%` of `%` needs a variable of just the type "
     } else {
-        said.say("the parameter `%` of `%` has the type ", &parts);
-    }
-    say_type(said, parameter);
-    note_declared(said, parameter);
+        "the parameter `%` of `%` has the type "
+    };
+    said.say(sentence, &[source.word(parameter), process]);
+    say_declared(said, parameter)
 }
 
-fn say_function_argument(said: &mut Said, word: &[u8], argument: usize) {
-    let Some(signature) = signature_of(said, word) else {
-        return said.say("this expression doesn't fit", &[]);
-    };
-    if argument == 0 {
-        said.say("the first argument of `%` must be of the type ", &[word]);
-        return said.say("%", &[shape_text(signature.first)]);
+fn say_function_argument(said: &mut Said, word: &[u8], argument: usize) -> bool {
+    match signature_of(said, word) {
+        Some(signature) if argument == 0 => say_argument_type(
+            said,
+            "first",
+            word,
+            shape_text(signature.first),
+        ),
+        Some(signature) => say_argument_type(said, "second", word, shape_text(signature.second)),
+        None => say_unfit(said),
     }
-    said.say("the second argument of `%` must be of the type ", &[word]);
-    said.say("%", &[shape_text(signature.second)]);
+}
+
+fn say_argument_type<'w>(said: &mut Said, number: &'w str, word: &'w [u8], text: &'w [u8]) -> bool {
+    said.say(
+        "the % argument of `%` must be of the type %",
+        &[number.as_bytes(), word, text],
+    );
+    text == b"bool".as_slice()
 }
 
 /// The type that a function takes or gives.
