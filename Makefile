@@ -1,6 +1,6 @@
 # The commands for developers. hello, quick, build, and test need rt of the Rattle kit. The others need the built program. All but hello,
 # build, test, and install need Python 3. bench and faults also need a C compiler. quick, faults, hostile, and soak need Linux.
-.PHONY: hello quick build test test-tools install uninstall pages order examples kits at lens installed bench walkers faults hostile soak
+.PHONY: hello quick build test test-tools install uninstall pages order examples kits at lens why installed bench walkers faults hostile soak
 
 SCRIPT := $(CURDIR)/examples/hello.tb
 PROGRAM := $(CURDIR)/crates/toolbus/out/toolbus
@@ -61,7 +61,7 @@ uninstall:
 	rm -rf "$(SHARE)/toolbus" "$(SHARE)/doc/toolbus"
 
 # Runs the tests with real tools, and those of the pages: all that the gate leaves out and that takes no more than some minutes.
-test-tools: order pages installed at lens examples kits
+test-tools: order pages installed at lens why examples kits
 
 # Compares what README.md, docs/RULES.md, and man/ show with what the built program does. Some seconds. This and all targets below aren't
 # part of the gate.
@@ -88,6 +88,10 @@ kits:
 # Compares what toolbus_lens at writes of scripts with an error. Some seconds.
 at:
 	tests/at "$(LENS)" "$(PROGRAM)"
+
+# Compares what toolbus_lens why writes of logs. Some seconds.
+why:
+	tests/why "$(LENS)"
 
 # Runs toolbus_lens chart, and uses its pages in Chromium, if that is installed. Half a minute.
 lens:

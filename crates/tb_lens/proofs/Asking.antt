@@ -3,7 +3,8 @@ use Rattle.std.proofs.Common.{◌≡◌, ◌∙◌, ℕ, ◌≤◌, ◌-◌, Lis
 use Rattle.std.specs.Prelude.{OnErr}
 use Rattle.std.proofs.lemmas.List.{append-nil, append_assoc, take_all}
 use Rattle.tb_edge.specs.Faults.{Rose}
-use Rattle.tb_lens.specs.Told.{Asks, AsksSome, CantRead, IsReason}
+use Rattle.tb_edge.specs.FilesHeld.{AsksSome}
+use Rattle.tb_lens.specs.Told.{Asks, CantRead, IsReason}
 use Rattle.tb_lens.specs.declared.status.Trouble.{Trouble}
 use Rattle.tb_lens.specs.declared.status.Trouble.TheVariants as trouble
 
@@ -76,6 +77,7 @@ asks_anyhow asked faults names old new trouble.Out is some = absurd is
 asks_anyhow asked faults names old new trouble.NoMemory is some = some
 asks_anyhow asked faults names old new (trouble.TooLong file) is some = some
 asks_anyhow asked faults names old new (trouble.Script file) is some = some
+asks_anyhow asked faults names old new trouble.Connect is some = some
 asks_anyhow asked faults names old new trouble.Input is some = some
 
 -- the load of one file failed

@@ -40,6 +40,7 @@ module _ {S : Type 0} (asked : S → List (List ℕ)) (faults : S → ℕ) where
   reason_first name names old new trouble.NoMemory is = is
   reason_first name names old new (trouble.TooLong file) is = is
   reason_first name names old new (trouble.Script file) is = is
+  reason_first name names old new trouble.Connect is = is
   reason_first name names old new trouble.Input is = is
 
   reason_rest : (name : List ℕ) (names : List (List ℕ)) (old mid new : S) (it : Trouble) → asked mid ≡ asked old ++ name ∷ []
@@ -49,6 +50,7 @@ module _ {S : Type 0} (asked : S → List (List ℕ)) (faults : S → ℕ) where
   reason_rest name names old mid new trouble.NoMemory one kept is = is
   reason_rest name names old mid new (trouble.TooLong file) one kept is = is
   reason_rest name names old mid new (trouble.Script file) one kept is = is
+  reason_rest name names old mid new trouble.Connect one kept is = is
   reason_rest name names old mid new trouble.Input one kept is = is
 
   -- while nothing is written, the output is no reason
@@ -59,6 +61,7 @@ module _ {S : Type 0} (asked : S → List (List ℕ)) (faults : S → ℕ) where
   reason_anyhow names old new Out trouble.NoMemory is = is
   reason_anyhow names old new Out (trouble.TooLong file) is = is
   reason_anyhow names old new Out (trouble.Script file) is = is
+  reason_anyhow names old new Out trouble.Connect is = is
   reason_anyhow names old new Out trouble.Input is = is
 
   pub untold : (held : List ℕ → Option (List ℕ)) (names : List (List ℕ)) (old new : S) (told : Option (List ℕ)) (it : Trouble)
@@ -68,6 +71,7 @@ module _ {S : Type 0} (asked : S → List (List ℕ)) (faults : S → ℕ) where
   untold held names old new told trouble.NoMemory is = refl
   untold held names old new told (trouble.TooLong file) is = refl
   untold held names old new told (trouble.Script file) is = refl
+  untold held names old new told trouble.Connect is = refl
   untold held names old new told trouble.Input is = refl
 
   -- the first file of a list that isn't empty

@@ -1,6 +1,7 @@
 -- What `at` tells of the scripts in files.
 use Rattle.std.specs.Prelude.{◌≡◌, ◌≢◌, ℕ, ◌<◌, ◌≤◌, List, [], ◌∷◌, ◌++◌, length, Option, None, IfSome, Result, Ok, Err}
 use Rattle.tb_edge.specs.Faults.{Rose}
+use Rattle.tb_edge.specs.FilesHeld.{AsksSome}
 use Rattle.tb_edge.specs.Sinks.{Writes, WritesPrefix}
 use Rattle.tb_body.specs.declared.program.Program.{Program}
 use Rattle.tb_script.specs.Findings.{IsFound, Program'}
@@ -53,13 +54,6 @@ pub record AtOutcome (held : List ℕ → Option (List ℕ)) (names : List (List
   pub says : Says text status
   pub written : Writes old new text
 
--- Some of the names were asked for, the first of them, in order.
-pub record AsksSome (names old new : List (List ℕ)) : Type 0 where
-  pub asked : List (List ℕ)
-  pub others : List (List ℕ)
-  pub first : asked ++ others ≡ names
-  pub is : new ≡ old ++ asked
-
 -- which names were asked for in a call: all of them, in order, unless it failed before the output
 abbrev pub Asks : List (List ℕ) → Result Status Reason → List (List ℕ) → List (List ℕ) → Type 0
 Asks names (Ok status) old new = new ≡ old ++ names
@@ -84,6 +78,7 @@ IsReason asked faults names old new out_failed trouble.Out = out_failed
 IsReason asked faults names old new out_failed trouble.NoMemory = Unit {0}
 IsReason asked faults names old new out_failed (trouble.TooLong name) = ⊥
 IsReason asked faults names old new out_failed (trouble.Script name) = ⊥
+IsReason asked faults names old new out_failed trouble.Connect = ⊥
 IsReason asked faults names old new out_failed trouble.Input = ⊥
 
 -- what is told of all files, of which the beginning is written
@@ -97,4 +92,5 @@ AtFailure held names old new trouble.Out = TellsInPart held names old new
 AtFailure held names old new trouble.NoMemory = new ≡ old
 AtFailure held names old new (trouble.TooLong name) = new ≡ old
 AtFailure held names old new (trouble.Script name) = new ≡ old
+AtFailure held names old new trouble.Connect = new ≡ old
 AtFailure held names old new trouble.Input = new ≡ old

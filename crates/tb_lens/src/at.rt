@@ -1,8 +1,9 @@
 //! `at`: the error of each script, and its place.
 ghost use Rattle.std.specs.Prelude.{◌≡◌, ℕ, ◌≤◌, List, [], ◌∷◌, ◌++◌, Option, IfOk, IfErr, map};
 ghost use Rattle.tb_edge.specs.Faults.{Rose};
+ghost use Rattle.tb_edge.specs.FilesHeld.{AsksSome};
 ghost use Rattle.tb_point.specs.Points.{IsPoint, TellsFault};
-ghost use Rattle.tb_lens.specs.Told.{Asks, AsksSome, AtFailure, AtOutcome, IsLoaded, IsReason, Says, TellsOf, TellsOfAll, long_point};
+ghost use Rattle.tb_lens.specs.Told.{Asks, AtFailure, AtOutcome, IsLoaded, IsReason, Says, TellsOf, TellsOfAll, long_point};
 
 use crate::status::{Status, Trouble};
 use std::alloc::Global;

@@ -26,7 +26,7 @@ pub(crate) fn chart_command<'a>(alloc: Global) -> Result<Command<'a>, AllocError
         .arg(connect_option(alloc))
 }
 
-fn file_arg<'a>(alloc: Global, name: &'static str, help: &'static str) -> Arg<'a> {
+pub(crate) fn file_arg<'a>(alloc: Global, name: &'static str, help: &'static str) -> Arg<'a> {
     Arg::new(alloc, name).required(true).help(help)
 }
 
@@ -45,7 +45,7 @@ fn entry_option<'a>(alloc: Global, name: &'static str, help: &'static str) -> Ar
         .help(help)
 }
 
-fn connect_option<'a>(alloc: Global) -> Arg<'a> {
+pub(crate) fn connect_option<'a>(alloc: Global) -> Arg<'a> {
     Arg::new(alloc, "connect")
         .long("connect")
         .value_name("COMMAND")

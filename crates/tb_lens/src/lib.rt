@@ -12,6 +12,7 @@ mod program;
 mod put;
 mod source;
 mod status;
+mod why;
 
 pub use at::tell_at;
 pub use chart::{ChartRequest, tell_chart};
@@ -20,3 +21,4 @@ pub use plain::tell_plain;
 pub use program::lens;
 pub use source::{Reading, Source};
 pub use status::{Status, Trouble};
+pub use why::{WhyRequest, tell_why};

@@ -9,6 +9,7 @@ use tb_edge::{Bytes, Files, FilesFault, Loaded};
 use tb_place::all_places;
 use tb_plain::Names;
 use tb_script::{ScriptFault, load};
+use tb_terms::{Items, NoMemory, Text, Texts};
 
 /// A longer file of a log is rejected.
 const MOST_LOG_BYTES: usize = 67_108_864;
@@ -27,7 +28,12 @@ pub(crate) fn load_script<F: Files>(
     files: &mut F,
 ) -> Result<Loading, Trouble> {
     let bytes = load_source(alloc, name, files)?;
-    match read_script(alloc, bytes.as_slice()) {
+    read_script(alloc, name, bytes.as_slice())
+}
+
+/// A script with these bytes, from the file of this name.
+pub(crate) fn read_script(alloc: Global, name: &str, bytes: &[u8]) -> Result<Loading, Trouble> {
+    match loaded(alloc, bytes) {
         Ok(loading) => Ok(loading),
         Err(ScriptFault::NoMemory) => Err(Trouble::NoMemory),
         Err(_) => Err(Trouble::Script(String::from_str(alloc, name)?)),
@@ -44,7 +50,7 @@ pub(crate) fn load_source<F: Files>(
 }
 
 /// A script with these bytes.
-fn read_script(alloc: Global, bytes: &[u8]) -> Result<Loading, ScriptFault> {
+fn loaded(alloc: Global, bytes: &[u8]) -> Result<Loading, ScriptFault> {
     let program = load(alloc, bytes)?;
     let places = all_places(alloc, bytes)?;
     let names = names_of(alloc, bytes, &places)?;
@@ -72,4 +78,16 @@ fn load_bytes<F: Files>(
         Err(FilesFault::Failed) => Err(Trouble::File(String::from_str(alloc, name)?)),
         Err(FilesFault::NoMemory) => Err(Trouble::NoMemory),
     }
+}
+
+/// The commands that are connected, in order.
+pub(crate) fn connects_of(alloc: Global, commands: &[&str]) -> Result<Option<Texts>, NoMemory> {
+    let mut texts = Items::new(alloc);
+    for command in commands {
+        match Text::from_str(alloc, command)? {
+            Some(text) => texts.push(text)?,
+            None => return Ok(None),
+        }
+    }
+    Ok(Some(texts))
 }

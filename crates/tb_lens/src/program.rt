@@ -7,6 +7,7 @@ use crate::feed::tell_feed;
 use crate::plain::tell_plain;
 use crate::source::Source;
 use crate::status::{Status, Trouble};
+use crate::why::{WhyRequest, tell_why, why_command};
 use clap::error::ErrorKind;
 use clap::{Arg, ArgAction, Command, Error};
 use std::alloc::{AllocError, Global};
@@ -32,10 +33,11 @@ pub fn lens<F: Files, I: Source, O: Sink, E: Sink>(
 fn commands<'a>(alloc: Global) -> Result<Command<'a>, AllocError> {
     Command::new(alloc, "toolbus_lens")
         .version("1.0")
-        .about("Shows where a script is wrong, and what a log says")
+        .about("Shows where a script is wrong, and what a bus waits for")
         .subcommand_required(true)
         .subcommand(at_command(alloc)?)?
         .subcommand(chart_command(alloc)?)?
+        .subcommand(why_command(alloc)?)?
         .subcommand(plain_command(alloc)?)?
         .subcommand(feed_command(alloc)?)
 }
@@ -83,6 +85,14 @@ fn answer<F: Files, I: Source, O: Sink, E: Sink>(
     };
     match matches.subcommand() {
         Some(("at", asked)) => tell_at(alloc, asked.get_strs("SCRIPT").unwrap_or(&[]), files, out),
+        Some(("why", asked)) => {
+            let request = WhyRequest {
+                script: asked.get_str("SCRIPT").unwrap_or(""),
+                log: asked.get_str("LOG").unwrap_or(""),
+                commands: asked.get_strs("connect").unwrap_or(&[]),
+            };
+            tell_why(alloc, &request, files, out, err)
+        }
         Some(("plain", asked)) => {
             let script = asked.get_str("SCRIPT").unwrap_or("");
             tell_plain(alloc, script, files, input, out)
@@ -129,6 +139,7 @@ fn report<E: Sink>(trouble: &Trouble, err: &mut E) -> Status {
                 err,
             )
         }
+        Trouble::Connect => err.put(b"at most 16 commands can be connected, and each is a text"),
         Trouble::Input => err.put(b"can't read the standard input"),
         Trouble::Out => err.put(b"can't write to the standard output"),
         Trouble::NoMemory => err.put(b"out of memory"),

@@ -39,6 +39,8 @@ pub enum Trouble {
     TooLong(String),
     /// The script in the file of this name is rejected.
     Script(String),
+    /// A command to connect is no text, or there are more than 16.
+    Connect,
     /// The standard input could not be read.
     Input,
     /// The output could not be written.

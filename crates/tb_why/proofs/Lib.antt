@@ -1,0 +1,10 @@
+mod FailLemmas
+mod FaultLemmas
+mod FirstLemmas
+mod FollowLemmas
+mod FormatLemmas
+mod LookLemmas
+mod PartnerLemmas
+mod PossibleLemmas
+mod StepLemmas
+mod WaitLemmas

@@ -1,0 +1,343 @@
+//! Why an atom that speaks with a tool can't happen.
+
+ghost use Rattle.std.specs.Prelude.{◌≡◌, IfOk, IsSome, slice_get, if◌then◌else◌};
+ghost use Rattle.std.specs.Option.{ForSome};
+ghost use Rattle.tb_log.specs.Shapes.{IsLane};
+ghost use Rattle.tb_tools.specs.Acts.{answer_at};
+ghost use Rattle.tb_tools.specs.Finding.{first_at, free_lane};
+ghost use Rattle.tb_tools.specs.Inputs.{has_asked};
+ghost use Rattle.tb_tools.specs.Lanes.{tool_at, tool_term};
+ghost use Rattle.tb_bus.specs.Exchanges.{behind};
+ghost use Rattle.tb_why.specs.Reasons.{with_patterns, with_terms};
+ghost use Rattle.tb_why.specs.Tools.{answer_reason, at_stage, event_reason, execute_reason, found_reason, idle_reason, kind_reason, lane_named, lane_reason, leaving_reason, live_reason, missing, open_reason, received_reason, fits_reason, tool_reason, unless, value_reason};
+ghost use Rattle.tb_why.specs.Helpers.Scenes.{setting_of};
+
+use crate::reason::Reason;
+use crate::scene::Speaker;
+use crate::slots::fits_slot;
+use sqlite_items::at;
+use std::alloc::Global;
+use tb_match::match_list;
+use tb_terms::{Items, Name, NoMemory, Patterns, Term, Terms, is_within_limits};
+use tb_tools::{Bench, Stage};
+
+/// The reason, unless a condition holds.
+pub(crate) fn unless(holds: bool, reason: Reason) -> Option<Reason>
+    ensures { result ≡ unless holds reason }
+{
+    if holds { None } else { Some(reason) }
+}
+
+/// The lane of the tool that is the first of these terms.
+pub(crate) fn lane_named(bench: &Bench, terms: &Terms) -> Option<u8>
+    ensures lane { result ≡ lane_named bench.now terms.now }
+    ensures within { ForSome result IsLane }
+    ensures tool { ForSome result (λ lane. IsSome (tool_at lane bench.now)) }
+{
+    match terms.as_slice() {
+        [] => None,
+        [tool, ..] => bench.find_tool(tool),
+    }
+}
+
+/// At which stage the tool of a lane is.
+fn at_stage(bench: &Bench, lane: u8) -> Reason
+    requires lane { IsLane lane }
+    requires tool { IsSome (tool_at lane bench.now) }
+    ensures { result ≡ at_stage bench.now lane }
+{
+    Reason::AtStage(lane, bench.stage(lane))
+}
+
+/// For an atom for which the tool has to be leaving.
+pub(crate) fn leaving_reason(bench: &Bench, sent: &Option<Terms>) -> Option<Reason>
+    ensures { result ≡ with_terms (λ terms. tool_reason (leaving_reason bench.now)
+        (lane_named bench.now terms)) sent.now }
+{
+    let Some(terms) = sent else {
+        return Some(Reason::NoValue);
+    };
+    match lane_named(bench, terms) {
+        Some(lane) => unless(bench.can_leave(lane), at_stage(bench, lane)),
+        None => Some(Reason::NoTool),
+    }
+}
+
+/// For an atom for which the tool has to be live.
+pub(crate) fn live_reason(bench: &Bench, sent: &Option<Terms>) -> Option<Reason>
+    ensures { result ≡ with_terms (λ terms. tool_reason (live_reason bench.now)
+        (lane_named bench.now terms)) sent.now }
+{
+    let Some(terms) = sent else {
+        return Some(Reason::NoValue);
+    };
+    match lane_named(bench, terms) {
+        Some(lane) => unless(bench.is_live(lane), at_stage(bench, lane)),
+        None => Some(Reason::NoTool),
+    }
+}
+
+/// For an atom for which the tool has to be live, and no evaluation open.
+pub(crate) fn idle_reason(bench: &Bench, sent: &Option<Terms>) -> Option<Reason>
+    ensures { result ≡ with_terms (λ terms. tool_reason (idle_reason bench.now)
+        (lane_named bench.now terms)) sent.now }
+{
+    let Some(terms) = sent else {
+        return Some(Reason::NoValue);
+    };
+    match lane_named(bench, terms) {
+        Some(lane) => {
+            if bench.is_live(lane) {
+                unless(bench.can_eval(lane), open_reason(bench, lane))
+            } else {
+                Some(at_stage(bench, lane))
+            }
+        }
+        None => Some(Reason::NoTool),
+    }
+}
+
+/// Why an evaluation is open: its answer hasn't come, or no process has received it.
+fn open_reason(bench: &Bench, lane: u8) -> Reason
+    requires { IsLane lane }
+    ensures { result ≡ open_reason bench.now lane }
+{
+    match bench.answer(lane) {
+        Some(_) => Reason::AnswerWaits(lane),
+        None => Reason::EvalOpen(lane),
+    }
+}
+
+/// Where nothing that matches has come: this reason, unless the tool is leaving.
+fn missing(bench: &Bench, lane: u8, reason: Reason) -> Reason
+    requires { IsLane lane }
+    ensures { result ≡ missing bench.now lane reason }
+{
+    if bench.can_leave(lane) {
+        Reason::Ended(lane)
+    } else {
+        reason
+    }
+}
+
+/// For an atom that takes the answer of a tool.
+pub(crate) fn value_reason(
+    alloc: Global,
+    bench: &Bench,
+    sent: &Option<Terms>,
+    patterns: &Option<Patterns>,
+) -> Result<Option<Reason>, NoMemory>
+    ensures { IfOk result (λ reason. reason ≡ with_terms (λ terms. with_patterns (λ patterns.
+        tool_reason (value_reason bench.now patterns) (lane_named bench.now terms)) patterns.now)
+        sent.now) }
+{
+    let Some(terms) = sent else {
+        return Ok(Some(Reason::NoValue));
+    };
+    let Some(patterns) = patterns else {
+        return Ok(Some(Reason::NoPattern));
+    };
+    match lane_named(bench, terms) {
+        Some(lane) => {
+            if bench.is_taken(lane) {
+                answer_reason(alloc, bench, lane, patterns)
+            } else {
+                Ok(Some(at_stage(bench, lane)))
+            }
+        }
+        None => Ok(Some(Reason::NoTool)),
+    }
+}
+
+/// The same on the lane of a tool that is live or leaving.
+fn answer_reason(
+    alloc: Global,
+    bench: &Bench,
+    lane: u8,
+    patterns: &Patterns,
+) -> Result<Option<Reason>, NoMemory>
+    requires { IsLane lane }
+    ensures { IfOk result (λ reason. reason
+        ≡ answer_reason bench.now patterns.now lane (answer_at lane bench.now)) }
+{
+    match bench.answer(lane) {
+        Some(value) => {
+            let values = Items::from_vec(vec![in alloc; value.copy(alloc)?]?);
+            let found = match_list(alloc, patterns, &values)?;
+            Ok(unless(found.is_some(), Reason::AnswerDiffers(lane)))
+        }
+        None => Ok(Some(missing(bench, lane, unanswered(bench, lane)))),
+    }
+}
+
+/// Whether the tool was asked.
+fn unanswered(bench: &Bench, lane: u8) -> Reason
+    requires { IsLane lane }
+    ensures { result ≡ (if has_asked (tool_at lane bench.now) then Reason.NotAnswered lane
+        else Reason.NotAsked lane) }
+{
+    if bench.asked(lane) {
+        Reason::NotAnswered(lane)
+    } else {
+        Reason::NotAsked(lane)
+    }
+}
+
+/// For an atom that receives an event.
+pub(crate) fn event_reason(
+    bench: &Bench,
+    sent: &Option<Terms>,
+    patterns: &Option<Patterns>,
+) -> Result<Option<Reason>, NoMemory>
+    ensures { IfOk result (λ reason. reason ≡ with_terms (λ terms. with_patterns (λ patterns.
+        tool_reason (event_reason bench.now patterns) (lane_named bench.now terms)) patterns.now)
+        sent.now) }
+{
+    let Some(terms) = sent else {
+        return Ok(Some(Reason::NoValue));
+    };
+    let Some(patterns) = patterns else {
+        return Ok(Some(Reason::NoPattern));
+    };
+    match lane_named(bench, terms) {
+        Some(lane) => {
+            if bench.is_taken(lane) {
+                let found = bench.find_event(lane, patterns)?;
+                let reason = missing(bench, lane, Reason::NoEvent(lane));
+                Ok(unless(found.is_some(), reason))
+            } else {
+                Ok(Some(at_stage(bench, lane)))
+            }
+        }
+        None => Ok(Some(Reason::NoTool)),
+    }
+}
+
+/// For an atom that acknowledges an event.
+pub(crate) fn received_reason(
+    alloc: Global,
+    bench: &Bench,
+    sent: &Option<Terms>,
+) -> Result<Option<Reason>, NoMemory>
+    ensures { IfOk result (λ reason. reason ≡ with_terms (λ terms. tool_reason
+        (received_reason bench.now terms) (lane_named bench.now terms)) sent.now) }
+{
+    let Some(terms) = sent else {
+        return Ok(Some(Reason::NoValue));
+    };
+    match lane_named(bench, terms) {
+        Some(lane) => {
+            if bench.is_live(lane) {
+                let event = behind(alloc, terms)?;
+                let found = bench.find_received(lane, &event);
+                Ok(unless(found.is_some(), Reason::NotReceived(lane)))
+            } else {
+                Ok(Some(at_stage(bench, lane)))
+            }
+        }
+        None => Ok(Some(Reason::NoTool)),
+    }
+}
+
+/// A copy of the terms behind the tool's own.
+fn behind(alloc: Global, terms: &Terms) -> Result<Terms, NoMemory>
+    ensures { IfOk result (λ event. event ≡ behind terms.now) }
+{
+    match terms.as_slice() {
+        [] => Ok(Items::new(alloc)),
+        [_, parts @ ..] => copies(alloc, parts),
+    }
+}
+
+fn copies(alloc: Global, terms: &[Term]) -> Result<Terms, NoMemory>
+    ensures { IfOk result (λ copies. copies ≡ terms.now) }
+{
+    let mut copies = Items::new(alloc);
+    for term in terms {
+        copies.push(term.copy(alloc)?)?;
+    }
+    Ok(copies)
+}
+
+/// For an atom that starts a tool of a kind.
+pub(crate) fn execute_reason(
+    alloc: Global,
+    speaker: &Speaker,
+    tool: u32,
+    slot: u32,
+) -> Result<Option<Reason>, NoMemory>
+    ensures { IfOk result (λ reason. reason ≡ execute_reason (setting_of speaker.now) slot
+        (slice_get (setting_of speaker.now).kinds tool)) }
+{
+    match at(speaker.program.tools.as_slice(), tool as usize) {
+        Some(kind) => match kind.command {
+            Some(_) => lane_reason(alloc, speaker, &kind.name, slot),
+            None => Ok(Some(Reason::NoCommand)),
+        },
+        None => Ok(Some(Reason::NoCommand)),
+    }
+}
+
+/// The same, where the kind has a command.
+fn lane_reason(
+    alloc: Global,
+    speaker: &Speaker,
+    name: &Name,
+    slot: u32,
+) -> Result<Option<Reason>, NoMemory>
+    ensures { IfOk result (λ reason. reason ≡ lane_reason (setting_of speaker.now) slot name.now
+        (free_lane speaker.now.bench.now)) }
+{
+    match speaker.bench.free_lane() {
+        Some(_) => {
+            let tool = next_term(alloc, speaker.bench, name)?;
+            Ok(fits_reason(speaker, slot, &tool))
+        }
+        None => Ok(Some(Reason::NoLane)),
+    }
+}
+
+/// The term of the next tool, where it has this name.
+fn next_term(alloc: Global, bench: &Bench, name: &Name) -> Result<Term, NoMemory>
+    ensures { IfOk result (λ tool. tool ≡ tool_term name.now bench.now.next_tool) }
+{
+    let number = Term::Int(i64::from(bench.next_tool()));
+    let parts = Items::from_vec(vec![in alloc; number]?);
+    Ok(Term::Appl(name.share()?, parts))
+}
+
+/// For an atom that takes a tool of a kind at a stage.
+pub(crate) fn kind_reason(speaker: &Speaker, stage: Stage, tool: u32, slot: u32) -> Option<Reason>
+    ensures { result ≡ kind_reason (setting_of speaker.now) stage slot
+        (slice_get (setting_of speaker.now).kinds tool) }
+{
+    match at(speaker.program.tools.as_slice(), tool as usize) {
+        Some(kind) => found_reason(speaker, stage, &kind.name, slot),
+        None => Some(Reason::NoneAt(stage)),
+    }
+}
+
+/// The same, where the kind is there.
+fn found_reason(speaker: &Speaker, stage: Stage, name: &Name, slot: u32) -> Option<Reason>
+    ensures { result ≡ found_reason (setting_of speaker.now) stage slot
+        (first_at name.now stage speaker.now.bench.now) }
+{
+    match speaker.bench.first_at(name, stage) {
+        Some(lane) => fits_reason(speaker, slot, speaker.bench.tool(lane)),
+        None => Some(Reason::NoneAt(stage)),
+    }
+}
+
+/// Whether the term of a tool is within the limits, and a slot takes it.
+fn fits_reason(speaker: &Speaker, slot: u32, tool: &Term) -> Option<Reason>
+    ensures { result ≡ fits_reason (setting_of speaker.now) slot tool.now }
+{
+    if !is_within_limits(tool) {
+        return Some(Reason::ToolTooLarge);
+    }
+    let bodies = speaker.program.bodies.as_slice();
+    unless(
+        fits_slot(bodies, speaker.body, slot, tool),
+        Reason::WrongTool,
+    )
+}
