@@ -160,7 +160,6 @@ impl<W: Walker> LiveBus<W> {
     }
 
     /// A process sends, and another receives, as was found.
-    #[inline(never)]
     fn shake(
         &mut self,
         alloc: Global,

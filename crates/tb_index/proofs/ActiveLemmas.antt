@@ -1,9 +1,10 @@
 -- Marks that meet, and which of them are active.
-use Rattle.std.proofs.Common.{◌≡◌, ◌≢◌, ℕ, ◌<◌, ◌+◌, ◌++◌, Bool, true, false, not, ◌&&◌, ◌||◌, ◌==◌, List, [], ◌∷◌, length, take, drop, refl, ap, sym, ◌∙◌, subst, arith, ◌⊎◌, inl, inr, ⊎_elim, get_or, zero, suc, cond}
+use Rattle.std.proofs.Common.{◌≡◌, ◌≢◌, ℕ, ◌<◌, ◌+◌, ◌++◌, Bool, true, false, not, ◌&&◌, ◌||◌, ◌==◌, List, [], ◌∷◌, length, take, drop, swap_remove, refl, ap, sym, ◌∙◌, subst, arith, ◌⊎◌, inl, inr, ⊎_elim, get_or, zero, suc, cond}
 use Rattle.std.proofs.lemmas.Bool.{eqb-true}
 use Rattle.std.proofs.lemmas.Bool.Decides.{nat_tests}
-use Rattle.std.proofs.lemmas.List.{take_more}
+use Rattle.std.proofs.lemmas.List.{take_more, get_or_default}
 use Rattle.std.proofs.lemmas.List.Folds.{list_any-append, list_any_more, list_any_at}
+use Rattle.std.proofs.lemmas.List.Sorted.{IsPermutation-swap_remove, list_any-IsPermutation}
 use Rattle.std.specs.List.{list_any}
 use Rattle.std.specs.BTreeMap.{is_at}
 use Rattle.tb_index.specs.declared.pairs.Pairs.{Pairs}
@@ -243,11 +244,14 @@ count-more marks but i d c c2 p less before kept here m e f = ⊎_elim
     ap (λ (k : Mark). has c2 (wide k) p) same ∙ here (ap (has_mark but) (sym same) ∙ f))
     (or-cases (has_mark (take i marks) m) (is_mark m (get_or marks i d)) (sym (list_any_more (is_mark m) marks i d less) ∙ e))
 
-pub dropped : (xs ys : List Mark) (place : ℕ) (x there : Mark) → place < length xs → there ≡ get_or xs place there → there.count ≡ x.count → there.head ≡ x.head → ys ≡ take place xs ++ drop (place + 1) xs →
+pub dropped : (xs ys : List Mark) (place : ℕ) (gone there x : Mark) → place < length xs → gone ≡ get_or xs place gone → there ≡ get_or xs place there → there.count ≡ x.count → there.head ≡ x.head → ys ≡ swap_remove xs place gone →
     (other : Mark) → is_mark other x ≡ false → has_mark xs other ≡ true → has_mark ys other ≡ true
-dropped xs ys place x there less read counts heads left other apart e =
+dropped xs ys place gone there x less taken read counts heads left other apart e =
+    let here : gone ≡ there = taken ∙ get_or_default xs place gone there less ∙ sym read in
     let same : is_mark other there ≡ is_mark other x = ap (λ n. (other.count == n) && (other.head == there.head)) counts ∙ ap (λ n. (other.count == x.count) && (other.head == n)) heads in
-    ap (λ (zs : List Mark). has_mark zs other) left ∙ any-without (is_mark other) xs place there less (ap (is_mark other) (sym read) ∙ same ∙ apart) ∙ e
+    let not_it : is_mark other gone ≡ false = ap (is_mark other) here ∙ same ∙ apart in
+    let whole : has_mark xs other ≡ (is_mark other gone || has_mark (swap_remove xs place gone) other) = list_any-IsPermutation (is_mark other) xs (gone ∷ swap_remove xs place gone) (IsPermutation-swap_remove xs place gone less taken) in
+    ap (λ (zs : List Mark). has_mark zs other) left ∙ sym (ap (λ b. b || has_mark (swap_remove xs place gone) other) not_it) ∙ sym whole ∙ e
 
 pub counted-pair : (c : Pairs) (m : Mark) (p : ℕ) (t : ℕ × ℕ × ℕ) → is_at (triple_cmp (m.count, m.head, p)) t ≡ true → has c (record { count = t.0; head = open_head }) t.2 ≡ true → has c (wide m) p ≡ true
 counted-pair c m p t e h =

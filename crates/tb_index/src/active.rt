@@ -225,6 +225,7 @@ fn quiet_unsent(active: &mut Vec<Mark>, sending: &Pairs, counts: &Counts, mark: 
 }
 
 /// Whether nobody sends what is received under the mark.
+#[inline(always)]
 fn is_unsent(sending: &Pairs, counts: &Counts, mark: Mark) -> bool
     requires { AreCountedIf counts.now.opened sending.now counts.now.pairs }
     ensures { result ≡ true → (sent : TheMark) (proc : ℕ)
@@ -260,7 +261,7 @@ fn drop_mark(active: &mut Vec<Mark>, mark: Mark)
     for place in 0..active.len() {
         let there = active[place];
         if there.count == mark.count && there.head == mark.head {
-            active.remove(place);
+            active.swap_remove(place);
             return;
         }
     }

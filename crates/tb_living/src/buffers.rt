@@ -2,9 +2,10 @@
 ghost use Rattle.std.specs.Prelude.{◌≡◌, [], IfOk};
 
 use std::alloc::Global;
+use std::mem::forget;
 use tb_bus::Action;
 use tb_match::Binds;
-use tb_terms::{Items, NoMemory, Patterns, Terms};
+use tb_terms::{Items, NoMemory, Pattern, Patterns, Sort, Term, Terms};
 
 /// How many lists of a kind are kept: for as many messages one process seldom waits.
 const MOST_KEPT: usize = 8;
@@ -45,7 +46,7 @@ impl Buffers {
     pub(crate) fn keep(&mut self, action: Action) {
         match action {
             Action::Send(terms) => keep_list(&mut self.terms, terms),
-            Action::Receive(patterns) => keep_list(&mut self.patterns, patterns),
+            Action::Receive(patterns) => keep_patterns(&mut self.patterns, patterns),
             Action::Own(_) => {}
         }
     }
@@ -60,6 +61,34 @@ fn keep_list<T: Drop>(kept: &mut Vec<Items<T>>, mut list: Items<T>) {
         drop(item);
     }
     keep_memory(kept, list);
+}
+
+/// Likewise a list of patterns, of which most are numbers.
+fn keep_patterns(kept: &mut Vec<Patterns>, mut list: Patterns) {
+    if list.is_empty() {
+        return;
+    }
+    for _turn in 0..list.len() {
+        drop_last(&mut list);
+    }
+    keep_memory(kept, list);
+}
+
+/// Drops the last pattern. A number, or a variable for one, owns no memory, so it is only forgotten.
+fn drop_last(list: &mut Patterns) {
+    if ends_plain(list.as_slice()) {
+        forget(list.pop());
+    } else {
+        drop(list.pop());
+    }
+}
+
+/// Returns whether the last pattern is a number, or a variable for one.
+fn ends_plain(list: &[Pattern]) -> bool {
+    match list.last() {
+        Some(Pattern::Fixed(Term::Int(_))) | Some(Pattern::Result(_, Sort::Int)) => true,
+        _ => false,
+    }
 }
 
 /// Keeps a list where there is room for it.

@@ -11,6 +11,7 @@ use tb_func::Store;
 use tb_terms::{Expr, Func, Term};
 
 /// The number that an expression is worth, where it is found without a term. None says nothing.
+#[inline(always)]
 pub(crate) fn number(expr: &Expr, store: &Store) -> Option<i64>
     ensures { IfSome result (λ number. value_of store.now expr.now ≡ Some (term.Int number)) }
 {

@@ -26,6 +26,7 @@ pub enum Step {
 }
 
 /// What becomes of a row where the branch at the index has ended.
+#[inline(always)]
 pub(crate) fn left_by(code: &Code, row: &[Branch], ticks: u64, at: usize) -> Step
     requires within { at < length row.now }
     requires there { (branch : Branch) → slice_get row.now at ≡ Some branch
@@ -41,6 +42,7 @@ pub(crate) fn left_by(code: &Code, row: &[Branch], ticks: u64, at: usize) -> Ste
 }
 
 /// The same where its position has this frame.
+#[inline(always)]
 fn left_in(code: &Code, frame: usize, row: &[Branch], ticks: u64, at: usize) -> Step
     requires frame { frame < size (fresh code.now.body.tree) }
     requires within { at < length row.now }
