@@ -211,8 +211,8 @@ fn received_on(alloc: Global, bench: &Bench, lane: u8, event: &Terms) -> Option<
     }
 }
 
-/// A copy of the terms behind the tool's own.
-fn behind(alloc: Global, terms: &Terms) -> Result<Terms, NoMemory>
+/// A copy of the terms behind the first one, which names the tool.
+pub fn behind(alloc: Global, terms: &Terms) -> Result<Terms, NoMemory>
     ensures { IfOk result (λ event. event ≡ behind terms.now) }
 {
     match terms.as_slice() {
@@ -273,7 +273,7 @@ fn starting(
 }
 
 /// The term of the next tool, where it has this name.
-fn next_term(alloc: Global, bench: &Bench, name: &Name) -> Result<Term, NoMemory>
+pub fn next_term(alloc: Global, bench: &Bench, name: &Name) -> Result<Term, NoMemory>
     ensures { IfOk result (λ tool. tool ≡ tool_term name.now bench.now.next_tool) }
 {
     let number = Term::Int(i64::from(bench.next_tool()));

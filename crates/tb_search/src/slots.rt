@@ -8,8 +8,8 @@ use sqlite_items::at;
 use tb_body::Body;
 use tb_terms::{Sort, Term, has_sort};
 
-/// Whether the values have the sorts of the formals of a body.
-pub(crate) fn fits_formals(bodies: &[Body], process: u32, actuals: &[Term]) -> bool
+/// Whether the body has that many formals, and the values have their sorts; `false` where there is no such body.
+pub fn fits_formals(bodies: &[Body], process: u32, actuals: &[Term]) -> bool
     ensures { result ≡ fits_formals (slice_get bodies.now process) actuals.now }
 {
     match at(bodies, process as usize) {
@@ -37,8 +37,8 @@ fn have_sorts(sorts: &[Sort], terms: &[Term]) -> bool
     true
 }
 
-/// Whether a slot of a body takes the value.
-pub(crate) fn fits_slot(bodies: &[Body], process: u32, slot: u32, value: &Term) -> bool
+/// Whether a slot of a body takes the value; `false` where there is no such body or slot.
+pub fn fits_slot(bodies: &[Body], process: u32, slot: u32, value: &Term) -> bool
     ensures { result ≡ fits_slot (slice_get bodies.now process) slot value.now }
 {
     match at(bodies, process as usize) {
