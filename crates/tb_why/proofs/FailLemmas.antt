@@ -40,7 +40,7 @@ use Rattle.tb_bus.specs.Exchanges.{Setting, behind, command_of, name_of, term_on
 use Rattle.tb_bus.specs.Slots.{fits_formals, fits_slot}
 use Rattle.tb_bus.specs.declared.exchange.Exchange.{Exchange}
 use Rattle.tb_bus.proofs.OrderLemmas.{contains-cases, contains-further}
-use Rattle.tb_why.specs.Failing.{FailsBy, HasPatterns, HasValues, SpeaksOn, Takes, TakesAt, act_by, asks, first_of_kind_at, is_ready_by, may_on, speaks}
+use Rattle.tb_why.specs.Failing.{FailsBy, HasPatterns, HasValues, MaySpeakOn, NobodyGivesNow, NobodyTakesNow, SpeaksOn, Takes, TakesAt, act_by, asks, first_of_kind_at, is_ready_by, may_on, speaks}
 use Rattle.tb_why.specs.Formats.{format_fault}
 use Rattle.tb_why.specs.Reasons.{create_reason, created_reason, end_reason, first_later, first_offer, full_queue, full_reason, gives_later, has_receiver, has_sender, if_so, matches, partner_or, partner_reason, print_reason, queue_of, reason_by, receiver_reason, received_now, receives, scene_of, sender_reason, sends, sent_now, set_reason, sorts_in, takes_later, waits_reason, with_patterns, with_terms}
 use Rattle.tb_why.specs.Standing.{offering_of, standing_of, standings}
@@ -105,6 +105,23 @@ slot-sort (Some body) slot value = refl
 partner-none : (other : Standing) (found : Option ℕ) (later : Option Partner) → partner_or other found later ≡ None → (found ≡ None) × (later ≡ None)
 partner-none other None later e = (refl, e)
 partner-none other (Some atom) later e = cc
+
+-- a test that no offer passes
+abbrev never : List Atom → Offering → Bool
+never atoms offer = false
+
+never-offer : (atoms : List Atom) (offers : List Offering) → first_offer (never atoms) offers ≡ None
+never-offer atoms [] = refl
+never-offer atoms (offer ∷ offers) = never-offer atoms offers
+
+never-later : (bodies : List Body) (number : ℕ) (others : List Standing) → first_later bodies number never others ≡ None
+never-later bodies number [] = refl
+never-later bodies number (other ∷ others) =
+    by (other.number == number) (first_offer (never (atoms_of bodies other.body)) other.offers) (first_later bodies number never others) (never-offer (atoms_of bodies other.body) other.offers) (never-later bodies number others)
+  where
+    by : (same : Bool) (found : Option ℕ) (rest : Option Partner) → found ≡ None → rest ≡ None → partner_or other (if same then None else found) rest ≡ None
+    by true found rest f r = r
+    by false found rest f r = subst (λ (o : Option ℕ). partner_or other o rest ≡ None) (sym f) r
 
 module _ (bus : Bus) (number : ℕ) (now later : List Atom → Offering → Bool) where
   abbrev bodies : List Body
@@ -198,6 +215,11 @@ module _ (bus : Bus) (number : ℕ) (now later : List Atom → Offering → Bool
   found-procs (proc ∷ procs) partner e =
       found-step proc (filter is_apart procs) partner (proc.number == number) (first_offer (later (atoms_of bodies proc.body)) (map (seen (atoms_of bodies proc.body)) (offers proc.term proc.store)))
       (first_later bodies number later (map (standing_of bodies bus.now) procs)) (found-offers (atoms_of bodies proc.body) (offers proc.term proc.store)) (found-procs procs partner) e
+
+-- none passes now
+none-now : (bus : Bus) (number : ℕ) (now : List Atom → Offering → Bool) → list_any (now_in bus number now never) (standings bus) ≡ false → (other : Proc) → Contains (filter (is_apart bus number now never) bus.procs) other →
+    (o : Offered) → Contains (offers other.term other.store) o → now (atoms_of bus.program.bodies other.body) (offering_of (atoms_of bus.program.bodies other.body) bus.now o) ≡ false
+none-now bus number now n other c o d = let none = none-procs bus number now never bus.procs n (never-later bus.program.bodies number (standings bus)) other c o d in none.0
 
 -- what an offer that matches neither now nor later receives, and what it sends, doesn't match
 taken-none : (ready takes : Bool) (found : Option (List Pattern)) (terms : List Term) (patterns : List Pattern) → takes ≡ true → found ≡ Some patterns →
@@ -348,6 +370,13 @@ module _ (bus : Bus) (proc : Proc) (offered : Offered) where
   abbrev values_at : Proc → Offered → Option (List Term)
   values_at other offer = values_together offer.store (sent_exprs (act_by bus other offer))
 
+  none-takes : (terms : List Term) → has_receiver bus.program.bodies proc.number (Some terms) (standings bus) ≡ false → NobodyTakesNow bus proc terms
+  none-takes terms fails other offer patterns is ready took =
+      let takes = receives (act_by bus other offer) in
+      let found = patterns_at other offer in
+      let none = none-now bus proc.number (takes_now terms) fails other is.0 offer is.1 in
+      taken-none true takes found terms patterns (ap receives took.1) took.2 (subst (λ (b : Bool). matches (if_so (b && takes) found) (Some terms) ≡ false) ready none) refl
+
   taken-so : (exprs : List Expr) (terms : List Term) → HasValues store (SndMsg exprs) terms → has_receiver bus.program.bodies proc.number (Some terms) (standings bus) ≡ false →
       (found : Option Partner) → first_later bus.program.bodies proc.number (takes_later terms) (standings bus) ≡ found → FailsBy bus proc offered (SndMsg exprs) (partner_reason found reason.NobodyReceives)
   taken-so exprs terms has fails None e = (
@@ -361,12 +390,19 @@ module _ (bus : Bus) (proc : Proc) (offered : Offered) where
       let it = found-procs bus proc.number (takes_now terms) (takes_later terms) bus.procs partner e in
       let late = taken-later (is_ready_by bus it.0 it.1) (receives (act_by bus it.0 it.1)) (patterns_at it.0 it.1) terms it.7 in
       let its = is-receive (act_by bus it.0 it.1) late.1 in
-      inl (terms, (exprs, refl, has), (it.0, it.1, late.2.0, ((it.2, it.3), it.4, it.5, it.6, late.0), (its.0, its.1, late.2.1), late.2.2))
+      inl (terms, (exprs, refl, has), (it.0, it.1, late.2.0, ((it.2, it.3), it.4, it.5, it.6, late.0), (its.0, its.1, late.2.1), late.2.2), none-takes terms fails)
 
   send-so : (exprs : List Expr) (terms : List Term) → HasValues store (SndMsg exprs) terms → Explains (SndMsg exprs) (receiver_reason bus.program.bodies proc.number (standings bus) terms)
   send-so exprs terms has =
       let found = first_later bus.program.bodies proc.number (takes_later terms) (standings bus) in
       unless-so (SndMsg exprs) (has_receiver bus.program.bodies proc.number (Some terms) (standings bus)) (partner_reason found reason.NobodyReceives) (λ fails. taken-so exprs terms has fails found refl)
+
+  none-gives : (patterns : List Pattern) → has_sender bus.program.bodies proc.number (Some patterns) (standings bus) ≡ false → NobodyGivesNow bus proc patterns
+  none-gives patterns fails other offer terms is ready gave =
+      let gives = sends (act_by bus other offer) in
+      let found = values_at other offer in
+      let none = none-now bus proc.number (gives_now patterns) fails other is.0 offer is.1 in
+      given-none true gives found patterns terms (ap sends gave.1) gave.2 (subst (λ (b : Bool). matches (Some patterns) (if_so (b && gives) found) ≡ false) ready none) refl
 
   given-so : (exprs : List Expr) (patterns : List Pattern) → HasPatterns store (RecMsg exprs) patterns → has_sender bus.program.bodies proc.number (Some patterns) (standings bus) ≡ false →
       (found : Option Partner) → first_later bus.program.bodies proc.number (gives_later patterns) (standings bus) ≡ found → FailsBy bus proc offered (RecMsg exprs) (partner_reason found reason.NobodySends)
@@ -381,7 +417,7 @@ module _ (bus : Bus) (proc : Proc) (offered : Offered) where
       let it = found-procs bus proc.number (gives_now patterns) (gives_later patterns) bus.procs partner e in
       let late = given-later (is_ready_by bus it.0 it.1) (sends (act_by bus it.0 it.1)) (values_at it.0 it.1) patterns it.7 in
       let its = is-send (act_by bus it.0 it.1) late.1 in
-      inr (patterns, (exprs, refl, has), (it.0, it.1, late.2.0, ((it.2, it.3), it.4, it.5, it.6, late.0), (its.0, its.1, late.2.1), late.2.2))
+      inr (patterns, (exprs, refl, has), (it.0, it.1, late.2.0, ((it.2, it.3), it.4, it.5, it.6, late.0), (its.0, its.1, late.2.1), late.2.2), none-gives patterns fails)
 
   receive-so : (exprs : List Expr) (patterns : List Pattern) → HasPatterns store (RecMsg exprs) patterns → Explains (RecMsg exprs) (sender_reason bus.program.bodies proc.number (standings bus) patterns)
   receive-so exprs patterns has =
@@ -471,7 +507,7 @@ module _ (bus : Bus) (proc : Proc) (offered : Offered) where
   staged-so act lane on false e found h = some-so act (at_stage bus.bench lane) (stage-so act lane on e)
 
   -- an evaluation is open
-  open-so : (act : Act) (lane : ℕ) → SpeaksOn bus.bench store act lane → asks act ≡ true → is_live_at lane bus.bench ≡ true → of_tool (λ tool. is_closed tool.eval) (tool_at lane bus.bench) ≡ false →
+  open-so : (act : Act) (lane : ℕ) → MaySpeakOn bus.bench store act lane → asks act ≡ true → is_live_at lane bus.bench ≡ true → of_tool (λ tool. is_closed tool.eval) (tool_at lane bus.bench) ≡ false →
       (answer : Option Term) → answer_at lane bus.bench ≡ answer → FailsBy bus proc offered act (if is_some answer then reason.AnswerWaits lane else reason.EvalOpen lane)
   open-so act lane on asking live unclosed None e = (on, asking, asked-by (tool_at lane bus.bench) (λ (tool : Tool). is_same_stage tool.stage stage.Live) live unclosed e)
   open-so act lane on asking live unclosed (Some value) e = (on, asking, (value, e))
@@ -480,7 +516,7 @@ module _ (bus : Bus) (proc : Proc) (offered : Offered) where
   idle-so act lane on asking may =
       staged-so act lane on (is_live_at lane bus.bench) may (unless (can_eval lane bus.bench) (open_reason bus.bench lane))
       (λ live. unless-so act (can_eval lane bus.bench) (open_reason bus.bench lane)
-      (λ fails. open-so act lane on asking live (subst (λ (b : Bool). (b && of_tool (λ tool. is_closed tool.eval) (tool_at lane bus.bench)) ≡ false) live fails) (answer_at lane bus.bench) refl))
+      (λ fails. open-so act lane (on, may ∙ live) asking live (subst (λ (b : Bool). (b && of_tool (λ tool. is_closed tool.eval) (tool_at lane bus.bench)) ≡ false) live fails) (answer_at lane bus.bench) refl))
 
   -- nothing has come
   missing-so : (act : Act) (lane : ℕ) (q : Reason) → (can_leave lane bus.bench ≡ true → FailsBy bus proc offered act (reason.Ended lane)) → (can_leave lane bus.bench ≡ false → FailsBy bus proc offered act q) → (leaving : Bool) → can_leave lane bus.bench ≡ leaving →
@@ -488,17 +524,17 @@ module _ (bus : Bus) (proc : Proc) (offered : Offered) where
   missing-so act lane q ended other true e = ended e
   missing-so act lane q ended other false e = other e
 
-  asked-so : (tool expr : Expr) (lane : ℕ) → SpeaksOn bus.bench store (RecValue tool expr) lane → answer_at lane bus.bench ≡ None → can_leave lane bus.bench ≡ false → (asked : Bool) → has_asked (tool_at lane bus.bench) ≡ asked →
+  asked-so : (tool expr : Expr) (lane : ℕ) → MaySpeakOn bus.bench store (RecValue tool expr) lane → answer_at lane bus.bench ≡ None → can_leave lane bus.bench ≡ false → (asked : Bool) → has_asked (tool_at lane bus.bench) ≡ asked →
       FailsBy bus proc offered (RecValue tool expr) (if asked then reason.NotAnswered lane else reason.NotAsked lane)
   asked-so tool expr lane on none stays true e = (on, (tool, expr, refl), stays, e)
   asked-so tool expr lane on none stays false e =
-      let stands = found-stands on.0 bus.bench lane on.4 in
+      let stands = found-stands on.0.0 bus.bench lane on.0.4 in
       (on, (tool, expr, refl), stays, closed-by (tool_at lane bus.bench) stands.0 stands.1 e none)
 
   abbrev value_one : List Pattern → ℕ → Term → Option Exchange
   value_one patterns lane value = option_map (λ binds. record { lane = lane; event = 0; binds = binds }) (match_list patterns (value ∷ []))
 
-  answer-so : (tool expr : Expr) (patterns : List Pattern) (lane : ℕ) → HasPatterns store (RecValue tool expr) patterns → SpeaksOn bus.bench store (RecValue tool expr) lane → (answer : Option Term) → answer_at lane bus.bench ≡ answer →
+  answer-so : (tool expr : Expr) (patterns : List Pattern) (lane : ℕ) → HasPatterns store (RecValue tool expr) patterns → MaySpeakOn bus.bench store (RecValue tool expr) lane → (answer : Option Term) → answer_at lane bus.bench ≡ answer →
       Explains (RecValue tool expr) (answer_reason bus.bench patterns lane answer)
   answer-so tool expr patterns lane has on None e =
       let act = RecValue tool expr in
@@ -515,7 +551,7 @@ module _ (bus : Bus) (proc : Proc) (offered : Offered) where
 
   value-so : (tool expr : Expr) (patterns : List Pattern) (lane : ℕ) → HasPatterns store (RecValue tool expr) patterns → SpeaksOn bus.bench store (RecValue tool expr) lane → Explains (RecValue tool expr) (value_reason bus.bench patterns lane)
   value-so tool expr patterns lane has on =
-      staged-so (RecValue tool expr) lane on (is_taken_at lane bus.bench) refl (answer_reason bus.bench patterns lane (answer_at lane bus.bench)) (λ may. answer-so tool expr patterns lane has on (answer_at lane bus.bench) refl)
+      staged-so (RecValue tool expr) lane on (is_taken_at lane bus.bench) refl (answer_reason bus.bench patterns lane (answer_at lane bus.bench)) (λ may. answer-so tool expr patterns lane has (on, may) (answer_at lane bus.bench) refl)
 
   event-so : (tool : Expr) (exprs : List Expr) (patterns : List Pattern) (lane : ℕ) → HasPatterns store (RecEvent tool exprs) patterns → SpeaksOn bus.bench store (RecEvent tool exprs) lane →
       Explains (RecEvent tool exprs) (event_reason bus.bench patterns lane)
@@ -526,7 +562,7 @@ module _ (bus : Bus) (proc : Proc) (offered : Offered) where
       (λ may. unless-so act (is_some (oldest_event patterns lane bus.bench)) q
       (λ fails.
       let none = is-none (oldest_event patterns lane bus.bench) fails in
-      missing-so act lane (reason.NoEvent lane) (λ leaving. (on, leaving, inr (tool, exprs, patterns, refl, has, none))) (λ stays. (on, (tool, exprs, refl), stays, (patterns, has, none))) (can_leave lane bus.bench) refl))
+      missing-so act lane (reason.NoEvent lane) (λ leaving. ((on, may), leaving, inr (tool, exprs, patterns, refl, has, none))) (λ stays. ((on, may), (tool, exprs, refl), stays, (patterns, has, none))) (can_leave lane bus.bench) refl))
 
   received-so : (tool : Expr) (exprs : List Expr) (terms : List Term) (lane : ℕ) → HasValues store (SndAckEvent tool exprs) terms → SpeaksOn bus.bench store (SndAckEvent tool exprs) lane →
       Explains (SndAckEvent tool exprs) (received_reason bus.bench terms lane)
@@ -534,7 +570,7 @@ module _ (bus : Bus) (proc : Proc) (offered : Offered) where
       let act = SndAckEvent tool exprs in
       let found = oldest_received (behind terms) lane bus.bench in
       staged-so act lane on (is_live_at lane bus.bench) refl (unless (is_some found) (reason.NotReceived lane))
-      (λ may. unless-so act (is_some found) (reason.NotReceived lane) (λ fails. (on, (tool, exprs, refl), (terms, has, is-none found fails))))
+      (λ may. unless-so act (is_some found) (reason.NotReceived lane) (λ fails. ((on, may), (tool, exprs, refl), (terms, has, is-none found fails))))
 
   -- by the atom
   abbrev pub offer_with : Bool → Act → Offering

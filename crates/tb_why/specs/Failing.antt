@@ -67,6 +67,15 @@ NobodyTakes bus proc terms =
 abbrev pub NobodyGives : Bus → Proc → List Pattern → Type 0
 NobodyGives bus proc patterns = (other : Proc) (offer : Offered) (terms : List Term) → IsOther bus proc other offer → Sends offer.store (act_by bus other offer) terms → match_list patterns terms ≡ None
 
+-- no offer of another process whose times hold receives the terms, and none sends what matches
+abbrev pub NobodyTakesNow : Bus → Proc → List Term → Type 0
+NobodyTakesNow bus proc terms =
+    (other : Proc) (offer : Offered) (patterns : List Pattern) → IsOther bus proc other offer → is_ready_by bus other offer ≡ true → Receives offer.store (act_by bus other offer) patterns → match_list patterns terms ≡ None
+
+abbrev pub NobodyGivesNow : Bus → Proc → List Pattern → Type 0
+NobodyGivesNow bus proc patterns =
+    (other : Proc) (offer : Offered) (terms : List Term) → IsOther bus proc other offer → is_ready_by bus other offer ≡ true → Sends offer.store (act_by bus other offer) terms → match_list patterns terms ≡ None
+
 -- the partner is this offer of another process, and its times don't hold
 abbrev pub IsLater : Bus → Proc → Partner → Proc → Offered → Type 0
 IsLater bus proc partner other offer =
@@ -169,6 +178,10 @@ may_on act lane bench = true
 abbrev pub SpeaksOn : BenchState → List Slot → Act → ℕ → Type 0
 SpeaksOn bench store act lane = (tool : Term) × (terms : List Term) × (speaks act ≡ true) × HasValues store act (tool ∷ terms) × (find_tool tool bench ≡ Some lane)
 
+-- and it is at a stage at which the atom may happen
+abbrev pub MaySpeakOn : BenchState → List Slot → Act → ℕ → Type 0
+MaySpeakOn bench store act lane = SpeaksOn bench store act lane × (may_on act lane bench ≡ true)
+
 -- nothing that the atom receives has come on the lane
 abbrev pub NothingOn : BenchState → List Slot → Act → ℕ → Type 0
 NothingOn bench store act lane =
@@ -191,9 +204,10 @@ FailsBy bus proc offered act reason.WrongSort =
     (slot : ℕ) × (expr : Expr) × (value : Term) × (act ≡ Set slot expr) × HasValues offered.store act (value ∷ []) × (fits_slot (slice_get bus.program.bodies proc.body) slot value ≡ false)
 -- `printf` has no text for the values
 FailsBy bus proc offered act (reason.NoText fault) = (exprs : List Expr) × (terms : List Term) × (act ≡ Printf exprs) × HasValues offered.store act terms × (printf_of terms ≡ None) × Faults terms fault
--- an offer of another process takes the message, or gives one that matches, and isn't ready
+-- an offer of another process takes the message, or gives one that matches, and isn't ready; none that is ready does
 FailsBy bus proc offered act (reason.PartnerWaits partner) =
-    ((terms : List Term) × Sends offered.store act terms × TakesLater bus proc partner terms) ⊎ ((patterns : List Pattern) × Receives offered.store act patterns × GivesLater bus proc partner patterns)
+    ((terms : List Term) × Sends offered.store act terms × TakesLater bus proc partner terms × NobodyTakesNow bus proc terms)
+    ⊎ ((patterns : List Pattern) × Receives offered.store act patterns × GivesLater bus proc partner patterns × NobodyGivesNow bus proc patterns)
 -- no such offer takes the message, or gives one that matches
 FailsBy bus proc offered act reason.NobodyReceives = (terms : List Term) × Sends offered.store act terms × NobodyTakes bus proc terms
 FailsBy bus proc offered act reason.NobodySends = (patterns : List Pattern) × Receives offered.store act patterns × NobodyGives bus proc patterns
@@ -223,26 +237,26 @@ FailsBy bus proc offered act reason.NoTool = (tool : Term) × (terms : List Term
 -- the tool of the lane is at this stage, at which the atom doesn't happen
 FailsBy bus proc offered act (reason.AtStage lane at) =
     SpeaksOn bus.bench offered.store act lane × ((tool : Tool) × (tool_at lane bus.bench ≡ Some tool) × (tool.stage ≡ at)) × (may_on act lane bus.bench ≡ false)
--- an evaluation is open: no answer has come, or one has
-FailsBy bus proc offered act (reason.EvalOpen lane) = SpeaksOn bus.bench offered.store act lane × (asks act ≡ true) × (has_asked (tool_at lane bus.bench) ≡ true)
-FailsBy bus proc offered act (reason.AnswerWaits lane) = SpeaksOn bus.bench offered.store act lane × (asks act ≡ true) × ((value : Term) × (answer_at lane bus.bench ≡ Some value))
+-- From here on, the tool of the lane is at a stage at which the atom may happen. An evaluation is open: no answer has come, or one has.
+FailsBy bus proc offered act (reason.EvalOpen lane) = MaySpeakOn bus.bench offered.store act lane × (asks act ≡ true) × (has_asked (tool_at lane bus.bench) ≡ true)
+FailsBy bus proc offered act (reason.AnswerWaits lane) = MaySpeakOn bus.bench offered.store act lane × (asks act ≡ true) × ((value : Term) × (answer_at lane bus.bench ≡ Some value))
 -- the tool is leaving, and nothing that the atom receives has come
-FailsBy bus proc offered act (reason.Ended lane) = SpeaksOn bus.bench offered.store act lane × (can_leave lane bus.bench ≡ true) × NothingOn bus.bench offered.store act lane
+FailsBy bus proc offered act (reason.Ended lane) = MaySpeakOn bus.bench offered.store act lane × (can_leave lane bus.bench ≡ true) × NothingOn bus.bench offered.store act lane
 -- the tool isn't leaving, and no evaluation is open, or no answer has come; or one has come, and doesn't match
 FailsBy bus proc offered act (reason.NotAsked lane) =
-    SpeaksOn bus.bench offered.store act lane × ((tool : Expr) × (expr : Expr) × (act ≡ RecValue tool expr)) × (can_leave lane bus.bench ≡ false) × (of_tool (λ tool. is_closed tool.eval) (tool_at lane bus.bench) ≡ true)
+    MaySpeakOn bus.bench offered.store act lane × ((tool : Expr) × (expr : Expr) × (act ≡ RecValue tool expr)) × (can_leave lane bus.bench ≡ false) × (of_tool (λ tool. is_closed tool.eval) (tool_at lane bus.bench) ≡ true)
 FailsBy bus proc offered act (reason.NotAnswered lane) =
-    SpeaksOn bus.bench offered.store act lane × ((tool : Expr) × (expr : Expr) × (act ≡ RecValue tool expr)) × (can_leave lane bus.bench ≡ false) × (has_asked (tool_at lane bus.bench) ≡ true)
+    MaySpeakOn bus.bench offered.store act lane × ((tool : Expr) × (expr : Expr) × (act ≡ RecValue tool expr)) × (can_leave lane bus.bench ≡ false) × (has_asked (tool_at lane bus.bench) ≡ true)
 FailsBy bus proc offered act (reason.AnswerDiffers lane) =
-    SpeaksOn bus.bench offered.store act lane × ((tool : Expr) × (expr : Expr) × (act ≡ RecValue tool expr))
+    MaySpeakOn bus.bench offered.store act lane × ((tool : Expr) × (expr : Expr) × (act ≡ RecValue tool expr))
     × ((patterns : List Pattern) × (value : Term) × HasPatterns offered.store act patterns × (answer_at lane bus.bench ≡ Some value) × (match_list patterns (value ∷ []) ≡ None))
 -- the tool isn't leaving, and no event that waits matches
 FailsBy bus proc offered act (reason.NoEvent lane) =
-    SpeaksOn bus.bench offered.store act lane × ((tool : Expr) × (exprs : List Expr) × (act ≡ RecEvent tool exprs)) × (can_leave lane bus.bench ≡ false)
+    MaySpeakOn bus.bench offered.store act lane × ((tool : Expr) × (exprs : List Expr) × (act ≡ RecEvent tool exprs)) × (can_leave lane bus.bench ≡ false)
     × ((patterns : List Pattern) × HasPatterns offered.store act patterns × (oldest_event patterns lane bus.bench ≡ None))
 -- no event with just the terms behind the tool was received
 FailsBy bus proc offered act (reason.NotReceived lane) =
-    SpeaksOn bus.bench offered.store act lane × ((tool : Expr) × (exprs : List Expr) × (act ≡ SndAckEvent tool exprs))
+    MaySpeakOn bus.bench offered.store act lane × ((tool : Expr) × (exprs : List Expr) × (act ≡ SndAckEvent tool exprs))
     × ((terms : List Term) × HasValues offered.store act terms × (oldest_received (behind terms) lane bus.bench ≡ None))
 
 -- What comes before it holds: the bus is up, the times hold, and the values and the patterns are there.

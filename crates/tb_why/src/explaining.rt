@@ -47,39 +47,26 @@ fn reason_by<W>(
     ensures { IfOk result (λ reason. reason ≡ reason_by (scene_seen sight.now)
         who.now.number who.now.body who.now.inbox.now.held who.now.offer.now act.now) }
 {
-    let Sight {
-        program,
-        bench,
-        all,
-        standings,
-        ..
-    } = sight;
+    let Sight { program, bench, .. } = sight;
+    let Offering { sent, patterns, .. } = who.offer;
     let bodies = program.bodies.as_slice();
-    let Offerer {
-        number,
-        body,
-        inbox,
-        offer,
-    } = who;
-    let Offering { sent, patterns, .. } = offer;
+    let body = who.body;
     let speaker = Speaker {
         program,
         bench,
-        body: *body,
+        body,
     };
     match act {
         Act::Delta => Ok(Some(Reason::Never)),
         Act::Tau => Ok(None),
-        Act::Set { slot, .. } => Ok(set_reason(bodies, *body, *slot, sent)),
+        Act::Set { slot, .. } => Ok(set_reason(bodies, body, *slot, sent)),
         Act::Printf(_) => print_reason(alloc, sent),
-        Act::Create { process, slot, .. } => {
-            Ok(create_reason(sight, *body, *process, *slot, sent))
-        }
-        Act::SndMsg(_) => receiver_reason(alloc, bodies, *number, sent, standings),
-        Act::RecMsg(_) => sender_reason(alloc, bodies, *number, patterns, standings),
-        Act::SndNote(_) => Ok(full_reason(all, sent)),
-        Act::RecNote(_) => note_reason(inbox, patterns),
-        Act::NoNote(_) => waits_reason(inbox, patterns),
+        Act::Create { process, slot, .. } => Ok(create_reason(sight, body, *process, *slot, sent)),
+        Act::SndMsg(_) => receiver_reason(alloc, bodies, who.number, sent, sight.standings),
+        Act::RecMsg(_) => sender_reason(alloc, bodies, who.number, patterns, sight.standings),
+        Act::SndNote(_) => Ok(full_reason(sight.all, sent)),
+        Act::RecNote(_) => note_reason(who.inbox, patterns),
+        Act::NoNote(_) => waits_reason(who.inbox, patterns),
         Act::Subscribe(_) | Act::Unsubscribe(_) => Ok(pattern_reason(patterns)),
         Act::Execute { tool, slot } => execute_reason(alloc, &speaker, *tool, *slot),
         Act::RecConnect { tool, slot } => Ok(kind_reason(&speaker, Stage::Waiting, *tool, *slot)),

@@ -11,7 +11,6 @@ mod own;
 mod partners;
 mod reason;
 mod scene;
-mod slots;
 mod stall;
 mod standing;
 mod tools;

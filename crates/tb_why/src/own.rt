@@ -1,4 +1,4 @@
-//! Why an atom that a process does by itself can't happen, but for those that speak with a tool.
+//! Why an atom that a process does by itself can't happen. `tools` has the atoms that speak with a tool.
 
 ghost use Rattle.std.specs.Prelude.{◌≡◌, IfOk, None, slice_get, is_some};
 ghost use Rattle.std.specs.Option.{option_copied};
@@ -12,14 +12,13 @@ ghost use Rattle.tb_why.specs.Helpers.Scenes.{queues_in, scene_seen};
 use crate::formats::format_fault;
 use crate::reason::Reason;
 use crate::scene::Sight;
-use crate::slots::{fits_formals, fits_slot};
 use crate::tools::unless;
 use sqlite_items::at;
 use std::alloc::Global;
 use tb_body::Body;
 use tb_func::printf_text;
 use tb_notes::Inbox;
-use tb_search::{Apart, Living};
+use tb_search::{Apart, Living, fits_formals, fits_slot};
 use tb_terms::{NoMemory, Patterns, Sort, Term, Terms, has_sort};
 
 /// How many processes may be alive.

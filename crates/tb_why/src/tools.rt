@@ -6,18 +6,17 @@ ghost use Rattle.tb_log.specs.Shapes.{IsLane};
 ghost use Rattle.tb_tools.specs.Acts.{answer_at};
 ghost use Rattle.tb_tools.specs.Finding.{first_at, free_lane};
 ghost use Rattle.tb_tools.specs.Inputs.{has_asked};
-ghost use Rattle.tb_tools.specs.Lanes.{tool_at, tool_term};
-ghost use Rattle.tb_bus.specs.Exchanges.{behind};
+ghost use Rattle.tb_tools.specs.Lanes.{tool_at};
 ghost use Rattle.tb_why.specs.Reasons.{with_patterns, with_terms};
 ghost use Rattle.tb_why.specs.Tools.{answer_reason, at_stage, event_reason, execute_reason, found_reason, idle_reason, kind_reason, lane_named, lane_reason, leaving_reason, live_reason, missing, open_reason, received_reason, fits_reason, tool_reason, unless, value_reason};
 ghost use Rattle.tb_why.specs.Helpers.Scenes.{setting_of};
 
 use crate::reason::Reason;
 use crate::scene::Speaker;
-use crate::slots::fits_slot;
 use sqlite_items::at;
 use std::alloc::Global;
 use tb_match::match_list;
+use tb_search::{behind, fits_slot, next_term};
 use tb_terms::{Items, Name, NoMemory, Patterns, Term, Terms, is_within_limits};
 use tb_tools::{Bench, Stage};
 
@@ -239,26 +238,6 @@ pub(crate) fn received_reason(
     }
 }
 
-/// A copy of the terms behind the tool's own.
-fn behind(alloc: Global, terms: &Terms) -> Result<Terms, NoMemory>
-    ensures { IfOk result (λ event. event ≡ behind terms.now) }
-{
-    match terms.as_slice() {
-        [] => Ok(Items::new(alloc)),
-        [_, parts @ ..] => copies(alloc, parts),
-    }
-}
-
-fn copies(alloc: Global, terms: &[Term]) -> Result<Terms, NoMemory>
-    ensures { IfOk result (λ copies. copies ≡ terms.now) }
-{
-    let mut copies = Items::new(alloc);
-    for term in terms {
-        copies.push(term.copy(alloc)?)?;
-    }
-    Ok(copies)
-}
-
 /// For an atom that starts a tool of a kind.
 pub(crate) fn execute_reason(
     alloc: Global,
@@ -295,15 +274,6 @@ fn lane_reason(
         }
         None => Ok(Some(Reason::NoLane)),
     }
-}
-
-/// The term of the next tool, where it has this name.
-fn next_term(alloc: Global, bench: &Bench, name: &Name) -> Result<Term, NoMemory>
-    ensures { IfOk result (λ tool. tool ≡ tool_term name.now bench.now.next_tool) }
-{
-    let number = Term::Int(i64::from(bench.next_tool()));
-    let parts = Items::from_vec(vec![in alloc; number]?);
-    Ok(Term::Appl(name.share()?, parts))
 }
 
 /// For an atom that takes a tool of a kind at a stage.

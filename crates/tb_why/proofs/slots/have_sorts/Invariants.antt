@@ -1,7 +1,0 @@
-use Rattle.std.proofs.Common.{◌≡◌, drop}
-use Rattle.tb_body.specs.Programs.{have_sorts}
-use Rattle.tb_why.proofs.slots.have_sorts.Given as goal
-
--- the terms that are left decide
-abbrev pub invariant-loop-place : goal.invariant-loop-place
-invariant-loop-place l = have_sorts (drop l.place l.sorts) (drop l.place l.terms) ≡ have_sorts l.sorts l.terms
