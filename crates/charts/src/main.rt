@@ -5,9 +5,9 @@
 use std::alloc::Global;
 use std::{fs, io};
 use tb_cases::Tally;
-use tb_cast::load_cast;
 use tb_chart::{Cast, ChartFault, Span, chart_of};
-use tb_draw::{Output, write_chart};
+use tb_chart_cast::load_cast;
+use tb_chart_draw::{Output, write_chart};
 use tb_log::Entry;
 use tb_log_read::{LogFault, read_log};
 

@@ -1,9 +1,8 @@
 //! The sentence about bytes that have no tokens.
 
 use crate::reals::say_real;
-use crate::said::Said;
-use crate::source::{between, text_of};
 use std::alloc::Global;
+use tb_hint_parts::{Said, between, text_of};
 use tb_lex::{LexFault, lex};
 
 /// Why a byte begins no token. A `%` is the byte.
@@ -68,7 +67,7 @@ pub(crate) fn say_lex(said: &mut Said, fault: LexFault) {
                 &[],
             );
         }
-        LexFault::NoMemory => said.lacks = true,
+        LexFault::NoMemory => said.lack(),
     }
 }
 
@@ -91,7 +90,7 @@ fn say_byte(said: &mut Said, at: usize) {
             said,
             between(text, at, at.saturating_add(2)),
         ),
-        Some(LexFault::NoMemory) => said.lacks = true,
+        Some(LexFault::NoMemory) => said.lack(),
         _ => say_outside(said, byte),
     }
 }

@@ -1,12 +1,11 @@
 //! The sentences about calls that have no end, and about too much of something.
 
-use crate::said::{Said, joint};
-use crate::scan::{count_parameters, definition_of};
 use sqlite_items::at;
 use tb_expand::ExpandFault;
+use tb_fault_place::first_call;
+use tb_hint_parts::{Said, count_parameters, definition_of, joint};
 use tb_lex::Tokens;
 use tb_parse::parse;
-use tb_point::first_call;
 use tb_syntax::Script;
 use tb_terms::Ident;
 
@@ -23,7 +22,7 @@ fn say_recursion(said: &mut Said, tokens: &Tokens, names: &[Ident]) {
     say_cycle(said, names);
     match parse(said.alloc, tokens) {
         Ok(script) => say_calls(said, &script, names),
-        Err(_) => said.lacks = true,
+        Err(_) => said.lack(),
     }
     let first = first_name(names);
     said.help(

@@ -1,13 +1,11 @@
 //! Help about tokens that spell no script.
 
-use crate::arguments::signature_of;
-use crate::forms::{ATOMS, say_form};
-use crate::near::Near;
-use crate::said::Said;
-use crate::scan::head_of;
-use crate::source::{Source, is_lower, is_upper, text_of};
 use crate::syntax::{begins_process, has};
 use std::alloc::Global;
+use tb_hint_parts::{
+    Near, Said, Source, head_of, is_lower, is_upper, say_assigned_operator, say_form,
+    say_functions, signature_of, text_of,
+};
 use tb_syntax::{atom_word, is_reserved, is_time_word};
 use tb_terms::NoMemory;
 
@@ -36,15 +34,6 @@ static AFTER_END: [(&str, &str); 3] = [
         "toolbus",
         "a script has one `toolbus(..)`: name all processes that start in it",
     ),
-];
-
-/// The functions that stand for the operators of other languages.
-static OPERATORS: [(&str, &str); 5] = [
-    ("<", "`less(x, y)` or `less-equal(x, y)`"),
-    (">", "`greater(x, y)` or `greater-equal(x, y)`"),
-    ("=", "`equal(x, y)`"),
-    ("+", "`add(x, y)`"),
-    ("*", "`mul(x, y)`"),
 ];
 
 /// Says what helps against the token that is found, or against the end of the script.
@@ -98,26 +87,9 @@ fn cure_create(said: &mut Said, token: usize) {
 fn cure_operator(said: &mut Said, expected: &[&'static str], token: usize) {
     let source = said.source;
     if begins_process(expected) {
-        cure_assigned(said, token);
+        say_assigned_operator(said, token);
     } else if is_behind_expression(&source, expected, token) && !is_placeholder(&source, token) {
         say_functions(said, source.word(token));
-    }
-}
-
-/// Says which function stands for the operator before this token, if it is the first one behind a `:=`.
-pub(crate) fn cure_assigned(said: &mut Said, token: usize) {
-    let source = said.source;
-    if source.has_before(token, 3, ":=") {
-        say_functions(said, source.word(token.saturating_sub(1)));
-    }
-}
-
-fn say_functions(said: &mut Said, operator: &[u8]) {
-    if let Some(functions) = text_of(OPERATORS.as_slice(), operator) {
-        said.help(
-            "expressions have no operators: write %",
-            &[functions.as_bytes()],
-        );
     }
 }
 
@@ -187,7 +159,7 @@ fn offer_expected(near: &mut Near, expected: &[&'static str]) {
         return;
     }
     if begins_process(expected) {
-        near.offer_keys(ATOMS.as_slice());
+        near.offer_atoms();
     }
     if has(expected, "delay") {
         near.offer_words(TIMES.as_slice());
@@ -220,7 +192,7 @@ fn cure_case(said: &mut Said, expected: &[&'static str], found: &[u8]) {
 fn say_other_case(said: &mut Said, name: &[u8]) {
     match with_other_case(said.alloc, name) {
         Ok(other) => say_instead(said, other.as_slice()),
-        Err(NoMemory) => said.lacks = true,
+        Err(NoMemory) => said.lack(),
     }
 }
 

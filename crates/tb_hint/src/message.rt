@@ -1,24 +1,22 @@
 //! The message about a script that is rejected.
 ghost use Rattle.std.specs.Prelude.{IfOk};
-ghost use Rattle.tb_point.specs.Points.{TellsFault};
+ghost use Rattle.tb_fault_place.specs.Points.{TellsFault};
 
 use crate::bytes::say_lex;
 use crate::calls::{say_expand, say_long, say_roots};
-use crate::checked::say_check;
-use crate::lines::push_marked;
-use crate::said::Said;
-use crate::source::Source;
 use crate::syntax::{say_deep, say_syntax};
 use std::alloc::Global;
+use tb_fault_place::{Point, fault_name, write_place};
+use tb_hint_checks::say_check;
+use tb_hint_parts::{Said, Source};
 use tb_lex::{LexFault, Tokens, lex};
 use tb_parse::ParseFault;
-use tb_point::{Point, fault_name, write_place};
 use tb_script::ScriptFault;
 use tb_terms::{Items, NoMemory};
 
 /// The lines about a script that is rejected: the place, the name of the fault and a sentence, the line of the
 /// script with a mark beneath it, notes, and help. `text` is the script, and `name` the name of its file.
-#[tactic(auto, using(tb_point::proofs::Tells::tells))]
+#[tactic(auto, using(tb_fault_place::proofs::Tells::tells))]
 pub fn message_text(
     alloc: Global,
     name: &str,
@@ -60,20 +58,7 @@ fn rest_by(
     };
     let mut said = Said::new(alloc, source);
     say_fault(&mut said, tokens, &point.fault);
-    if said.lacks {
-        return Err(NoMemory);
-    }
-    joined(&said, point)
-}
-
-/// The sentence, the line with its mark, and the other lines.
-fn joined(said: &Said, point: &Point) -> Result<Vec<u8>, NoMemory> {
-    let mut lines = Vec::from_slice(said.alloc, said.sentence.as_slice())?;
-    if let Some(mark) = point.mark {
-        push_marked(said.source.text, mark, &mut lines)?;
-    }
-    lines.extend_from_slice(said.rest.as_slice())?;
-    Ok(lines)
+    said.joined(point.mark)
 }
 
 fn say_fault(said: &mut Said, tokens: &Tokens, fault: &ScriptFault) {
@@ -85,7 +70,7 @@ fn say_fault(said: &mut Said, tokens: &Tokens, fault: &ScriptFault) {
         ScriptFault::Roots(count) => say_roots(said, *count),
         ScriptFault::TooLong(count) => say_long(said, *count),
         ScriptFault::NotBuilt(_) => {}
-        ScriptFault::NoMemory => said.lacks = true,
+        ScriptFault::NoMemory => said.lack(),
     }
 }
 
@@ -93,6 +78,6 @@ fn say_parse(said: &mut Said, fault: ParseFault) {
     match fault {
         ParseFault::Syntax(token) => say_syntax(said, token),
         ParseFault::TooDeep(token) => say_deep(said, token),
-        ParseFault::NoMemory => said.lacks = true,
+        ParseFault::NoMemory => said.lack(),
     }
 }

@@ -1,7 +1,6 @@
 //! The sentence about a number with a decimal point.
 
-use crate::said::Said;
-use crate::source::{Source, between};
+use tb_hint_parts::{Said, Source, between};
 use tb_lex::{LexFault, lex};
 use tb_syntax::is_time_word;
 
@@ -18,7 +17,7 @@ pub(crate) fn say_real(said: &mut Said, number: &[u8], prefix: &[u8]) {
             };
             say_time(said, number, word_of_argument(&source));
         }
-        Err(LexFault::NoMemory) => said.lacks = true,
+        Err(LexFault::NoMemory) => said.lack(),
         Err(_) => {}
     }
 }

@@ -1,13 +1,12 @@
 //! The sentence about tokens that spell no script. Which tokens may come next is found by trying the parser.
 
 use crate::cures::cure;
-use crate::said::{Said, joint};
-use crate::source::{between, is_among, text_of};
 use crate::unfinished::{is_behind_symbol, is_symbol, missing_word, note_open, note_symbol};
 use std::alloc::Global;
+use tb_hint_parts::{Said, between, is_among, joint, text_of};
 use tb_lex::{LexFault, Tokens, lex};
 use tb_parse::{ParseFault, parse};
-use tb_place::mark_at;
+use tb_source_map::mark_at;
 use tb_terms::{Items, NoMemory};
 
 /// A token of each kind that the grammar tells apart.
@@ -56,7 +55,7 @@ pub(crate) fn say_syntax(said: &mut Said, token: usize) {
             say_expected(said, expected.as_slice(), missing, prefix);
             say_found(said, expected.as_slice(), token);
         }
-        Err(NoMemory) => said.lacks = true,
+        Err(NoMemory) => said.lack(),
     }
 }
 
@@ -91,7 +90,7 @@ fn is_script(said: &mut Said, prefix: &[u8]) -> bool {
     match reading_of(said.alloc, prefix) {
         Ok(reading) => reading == Reading::Script,
         Err(NoMemory) => {
-            said.lacks = true;
+            said.lack();
             false
         }
     }
@@ -138,12 +137,12 @@ fn say_cure(said: &mut Said, expected: &[&'static str], token: usize) {
         note_symbol(said, token);
     } else if is_symbol(&source, token) {
         note_open(said, expected, token);
-        if said.rest.is_empty() {
+        if !said.has_more() {
             cure(said, expected, token);
         }
     } else {
         cure(said, expected, token);
-        if said.rest.is_empty() {
+        if !said.has_more() {
             note_open(said, expected, token);
         }
     }

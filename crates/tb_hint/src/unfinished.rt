@@ -1,9 +1,8 @@
 //! Notes at what is begun before a token that spells no script, and isn't finished.
 
 use crate::calls::say_repetition;
-use crate::said::Said;
-use crate::source::{Source, is_among, is_lower, text_of};
 use crate::syntax::{begins_process, has};
+use tb_hint_parts::{Said, Source, is_among, is_lower, text_of};
 
 /// The symbols that stand between two processes.
 static BETWEEN: [&str; 5] = [".", "+", "*", "||", ">>"];

@@ -1,8 +1,0 @@
-use Rattle.tb_place.proofs.SpotLemmas.{first_line, later_line}
-use Rattle.tb_place.proofs.laws.columns_count_from_the_line.Goals as goal
-
-pub returns-clause-first : goal.returns-clause-first
-returns-clause-first c = first_line
-
-pub returns-clause-later : goal.returns-clause-later
-returns-clause-later c = later_line

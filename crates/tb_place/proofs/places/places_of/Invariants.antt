@@ -1,6 +1,0 @@
-use Rattle.std.proofs.Common.{◌≡◌, map, take}
-use Rattle.tb_place.specs.Places.{place_of}
-use Rattle.tb_place.proofs.places.places_of.Given as goal
-
-abbrev pub invariant-loop-def : goal.invariant-loop-def
-invariant-loop-def l = l.places ≡ map (place_of l.tokens l.script) (take l.def-index l.script.procs)

@@ -1,5 +1,0 @@
-use Rattle.tb_point.proofs.Named.{begins_line}
-use Rattle.tb_point.proofs.laws.lines_begin_with_names.Goals as goal
-
-pub returns : goal.returns
-returns c = begins_line
