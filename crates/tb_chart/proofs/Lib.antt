@@ -1,6 +1,9 @@
+pub mod ColumnLemmas
+pub mod DrawnLemmas
 pub mod LineLemmas
 pub mod ListLemmas
 pub mod NameLemmas
+pub mod NeedLemmas
 pub mod PlaceLemmas
 pub mod RefusalLemmas
 pub mod RowLemmas

@@ -1,11 +1,11 @@
 -- Lemmas on the lifelines of a chart.
-use Rattle.std.proofs.Common.{◌≡◌, ◌≢◌, ◌∙◌, ◌+◌, ◌-◌, ◌<◌, ◌≤◌, ◌++◌, ◌∷◌, [], ℕ, zero, suc, List, length, take, get_or, Bool, true, false, inl, inr, Option, Some, None, All, IsTrue, refl, sym, ap, subst, arith}
+use Rattle.std.proofs.Common.{◌≡◌, ◌≢◌, ◌∙◌, ◌+◌, ◌-◌, ◌<◌, ◌≤◌, ◌++◌, ◌∷◌, [], ℕ, zero, suc, List, length, take, get_or, Bool, true, false, inl, inr, Option, Some, None, All, AllPairs, IsTrue, refl, sym, ap, subst, subst₂, arith}
 use Rattle.std.specs.Prelude.{slice_get, nat_lt, is_some, unwrap_or, option_and_then, if◌then◌else◌, Result, Ok, Err, OnOk}
 use Rattle.std.specs.List.{list_any}
 use Rattle.std.proofs.lemmas.Bool.{and_parts, and_from, cases_eq, false≢true, lt-ltb, le-ltb}
 use Rattle.std.proofs.Math.Seq.{take-length}
 use Rattle.std.proofs.lemmas.List.Elements.{All-push}
-use Rattle.std.proofs.lemmas.Option.{none-some, slice_get-get_or, slice_get_within}
+use Rattle.std.proofs.lemmas.Option.{none-some, same_Some, slice_get-get_or, slice_get_within}
 use Rattle.tb_log.specs.declared.entry.Entry.{Entry}
 use Rattle.tb_chart.specs.declared.cast.Cast.{Cast}
 use Rattle.tb_chart.specs.declared.lines.Lines.{Lines}
@@ -14,12 +14,12 @@ use Rattle.tb_chart.specs.declared.row.Row.{Row}
 use Rattle.tb_chart.specs.declared.row.Seat.{Seat}
 use Rattle.tb_chart.specs.declared.row.Who.{Who}
 use Rattle.tb_chart.specs.declared.row.Who.TheVariants as who
-use Rattle.tb_chart.specs.Helpers.Additions.{Adds, AddsTool, KeepBodies, Puts, Sound, Stay, are_players, is_player}
-use Rattle.tb_chart.specs.Lifelines.{HasBody, HasFirst, HasLines, has_line, has_process, have_lines, is_line_of, is_process, is_tool, is_tool_in, notes_count, place_of, spot_at, spot_behind}
+use Rattle.tb_chart.specs.Helpers.Additions.{Adds, AddsTool, KeepBodies, Placed, Puts, Sound, Stay, are_all, are_players, is_player}
+use Rattle.tb_chart.specs.Lifelines.{HasBody, HasFirst, HasLines, HasOnly, Once, OfTwoTools, has_line, has_process, have_lines, is_line_of, is_process, is_tool, is_tool_in, notes_count, place_of, spot_at, spot_behind}
 use Rattle.tb_chart.specs.Numbers.{numbered}
 use Rattle.tb_chart.specs.Players.{players_of}
 use Rattle.tb_chart.specs.declared.lines.Spot.TheVariants as spot
-use Rattle.tb_chart.proofs.PlaceLemmas.{process_stays, process_there}
+use Rattle.tb_chart.proofs.PlaceLemmas.{placed_push, process_stays, process_there}
 
 -- both ends of a row
 stay_both : (old new : Lines) (ends : Option (Who × Who)) → Stay old new → IsTrue (have_lines old ends) → IsTrue (have_lines new ends)
@@ -50,23 +50,55 @@ pub sound_through : (players : List ℕ) (from to : Who) (old mid new : Lines) �
     → Sound players old → Sound players new
 sound_through players from to old mid new one two sound = two.sound (one.sound sound)
 
+pub only_through : (players : List ℕ) (from to : Who) (old mid new : Lines) → Adds players from old mid → Adds players to mid new
+    → (test : Who → Bool) → IsTrue (are_all test (Some (from, to))) → HasOnly test old → HasOnly test new
+only_through players from to old mid new one two test are only =
+    let parts = and_parts (test from) (test to) are in
+    two.only test parts.1 (one.only test parts.0 only)
+
 -- lifelines of processes that stay as they are
-sound_same : (players : List ℕ) (old new : Lines) → new.processes.items ≡ old.processes.items → Sound players old → Sound players new
-sound_same players old new same sound = record { bodies = subst (λ those. All (HasBody players) those) (sym same) sound.bodies }
+sound_same : (players : List ℕ) (old new : Lines) → new.processes.items ≡ old.processes.items → new.places.items ≡ old.places.items
+    → (AllPairs OfTwoTools old.tools.items → AllPairs OfTwoTools new.tools.items) → Sound players old → Sound players new
+sound_same players old new same places tools sound = record {
+  bodies = subst (λ those. All (HasBody players) those) (sym same) sound.bodies;
+  placed = subst₂ Placed (sym same) (sym places) sound.placed;
+  tools = tools sound.tools;
+}
 
 -- one lifeline more
 sound_push : (players : List ℕ) (number body : ℕ) (line : ProcessLine) (old new : Lines) → numbered players number ≡ Some body
-    → line.number ≡ number → line.body ≡ body → new.processes.items ≡ old.processes.items ++ line ∷ [] → Sound players old → Sound players new
-sound_push players number body line old new player is is_body pushed sound =
+    → Puts number (length old.processes.items) old.places.items new.places.items → line.number ≡ number → line.body ≡ body
+    → new.processes.items ≡ old.processes.items ++ line ∷ [] → new.tools.items ≡ old.tools.items → number ≢ 0
+    → has_process old.processes.items old.places.items number ≡ false → Sound players old → Sound players new
+sound_push players number body line old new player puts is is_body pushed tools some none sound =
     let one : HasBody players line = ap (numbered players) is ∙ player ∙ ap Some (sym is_body) in
     record {
       bodies = subst (λ those. All (HasBody players) those) (sym pushed) (All-push (HasBody players) old.processes.items line sound.bodies one);
+      placed = placed_push number old.processes.items new.processes.items line old.places.items new.places.items puts is pushed some none sound.placed;
+      tools = subst (λ those. AllPairs OfTwoTools those) (sym tools) sound.tools;
     }
 
 -- processes more
 pub sound_goes : (old new : List ℕ) (lines : Lines) → KeepBodies old new → Sound old lines → Sound new lines
 sound_goes old new lines keep sound = record {
   bodies = λ k d within. keep (get_or lines.processes.items k d).number (get_or lines.processes.items k d).body (sound.bodies k d within);
+  placed = sound.placed;
+  tools = sound.tools;
+}
+
+-- no process has two lifelines, since its place is one
+same_place : (lines : Lines) (i j : ℕ) (d : ProcessLine) → Placed lines.processes.items lines.places.items → i < length lines.processes.items
+    → j < length lines.processes.items → (get_or lines.processes.items i d).number ≡ (get_or lines.processes.items j d).number → i ≡ j
+same_place lines i j d placed first second same =
+    same_Some i j (sym (placed i d first) ∙ ap (place_of lines.places.items) same ∙ placed j d second)
+
+pub sound_once : (players : List ℕ) (lines : Lines) → Sound players lines → Once lines
+sound_once players lines sound = record {
+  processes = λ i j d below within. λ same.
+      let first : i < length lines.processes.items = omega (arith, below, within) in
+      let one : i ≡ j = same_place lines i j d sound.placed first within same in
+      omega (arith, below, one);
+  tools = sound.tools;
 }
 
 player_there : (players : List ℕ) (number index : ℕ) → number ≡ index + 1 → index < length players → is_some (numbered players number) ≡ true
@@ -96,17 +128,30 @@ process_stay number line old new (who.Process other) puts is pushed tools notes 
 process_stay number line old new (who.Tool seat) puts is pushed tools notes some has = ap (λ those. list_any (is_tool seat) those) tools ∙ has
 process_stay number line old new who.Notes puts is pushed tools notes some has = notes ∙ has
 
+only_push : (test : Who → Bool) (number : ℕ) (line : ProcessLine) (old new : Lines) → line.number ≡ number
+    → new.processes.items ≡ old.processes.items ++ line ∷ [] → new.tools.items ≡ old.tools.items → new.has_notes ≡ old.has_notes
+    → IsTrue (test (who.Process number)) → HasOnly test old → HasOnly test new
+only_push test number line old new is pushed tools notes it only =
+    let P : ProcessLine → Type 0 = λ (one : ProcessLine). IsTrue (test (who.Process one.number)) in
+    let one : P line = subst (λ n. IsTrue (test (who.Process n))) (sym is) it in
+    record {
+      processes = subst (λ those. All P those) (sym pushed) (All-push P old.processes.items line only.processes one);
+      notes = λ has. only.notes (sym notes ∙ has);
+      tools = subst (λ those. All (λ (line : Seat). IsTrue (test (who.Tool line))) those) (sym tools) only.tools;
+    }
+
 -- a process: its number is not 0, since it is one of the processes
 pub adds_process : (players : List ℕ) (number body : ℕ) (line : ProcessLine) (old new : Lines) → numbered players number ≡ Some body
     → Puts number (length old.processes.items) old.places.items new.places.items → line.number ≡ number → line.body ≡ body
     → new.processes.items ≡ old.processes.items ++ line ∷ [] → new.tools.items ≡ old.tools.items → new.has_notes ≡ old.has_notes
-    → Adds players (who.Process number) old new
-adds_process players number body line old new player puts is is_body pushed tools notes =
+    → has_process old.processes.items old.places.items number ≡ false → Adds players (who.Process number) old new
+adds_process players number body line old new player puts is is_body pushed tools notes none =
     let some : number ≢ 0 = not_zero players number body player in
     record {
       there = λ one. process_there number old.processes.items new.processes.items line old.places.items new.places.items puts is pushed some;
       stay = λ it has. process_stay number line old new it puts is pushed tools notes some has;
-      sound = λ sound. sound_push players number body line old new player is is_body pushed sound;
+      sound = λ sound. sound_push players number body line old new player puts is is_body pushed tools some none sound;
+      only = λ test it only. only_push test number line old new is pushed tools notes it only;
     }
 
 -- there is no such process
@@ -115,11 +160,12 @@ adds_nobody players number lines none = record {
   there = λ one. absurd (false≢true (ap (λ it. is_some it) none ∙ one));
   stay = λ it has. has;
   sound = λ sound. sound;
+  only = λ test it only. only;
 }
 
 -- it is there already
 pub adds_same : (players : List ℕ) (it : Who) (lines : Lines) → IsTrue (has_line lines it) → Adds players it lines lines
-adds_same players it lines has = record { there = λ one. has; stay = λ it has. has; sound = λ sound. sound }
+adds_same players it lines has = record { there = λ one. has; stay = λ it has. has; sound = λ sound. sound; only = λ test it only. only }
 
 tool_stay : (seat : Seat) (old new : Lines) (it : Who) → AddsTool seat old.tools.items new.tools.items → new.processes.items ≡ old.processes.items
     → new.places.items ≡ old.places.items → new.has_notes ≡ old.has_notes → IsTrue (has_line old it) → IsTrue (has_line new it)
@@ -134,7 +180,12 @@ pub adds_tool : (players : List ℕ) (seat : Seat) (old new : Lines) → AddsToo
 adds_tool players seat old new adds processes places notes = record {
   there = λ one. adds.there;
   stay = λ it has. tool_stay seat old new it adds processes places notes has;
-  sound = λ sound. sound_same players old new processes sound;
+  sound = λ sound. sound_same players old new processes places adds.apart sound;
+  only = λ test it only. record {
+    processes = subst (λ those. All (λ (line : ProcessLine). IsTrue (test (who.Process line.number))) those) (sym processes) only.processes;
+    notes = λ has. only.notes (sym notes ∙ has);
+    tools = adds.only (λ line. test (who.Tool line)) it only.tools;
+  };
 }
 
 notes_stay : (old new : Lines) (it : Who) → new ≡ record old { has_notes = true } → IsTrue (has_line old it) → IsTrue (has_line new it)
@@ -146,7 +197,14 @@ pub adds_notes : (players : List ℕ) (old new : Lines) → new ≡ record old {
 adds_notes players old new is = record {
   there = λ one. ap (λ lines. has_line lines who.Notes) is;
   stay = λ it has. notes_stay old new it is has;
-  sound = λ sound. sound_same players old new (ap (λ lines. lines.processes.items) is) sound;
+  sound = λ sound. sound_same players old new (ap (λ lines. lines.processes.items) is) (ap (λ lines. lines.places.items) is)
+      (subst (λ those. AllPairs OfTwoTools those) (sym (ap (λ lines. lines.tools.items) is))) sound;
+  only = λ test it only. record {
+    processes = subst (λ those. All (λ (line : ProcessLine). IsTrue (test (who.Process line.number))) those)
+        (sym (ap (λ lines. lines.processes.items) is)) only.processes;
+    notes = λ has. it;
+    tools = subst (λ those. All (λ (line : Seat). IsTrue (test (who.Tool line))) those) (sym (ap (λ lines. lines.tools.items) is)) only.tools;
+  };
 }
 
 -- The columns of lifelines: that of a process is the place of its line.

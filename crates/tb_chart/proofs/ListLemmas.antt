@@ -2,13 +2,14 @@
 use Rattle.std.proofs.Common.{◌≡◌, ◌≢◌, ◌<◌, ◌++◌, ◌∷◌, [], ℕ, zero, suc, List, length, set, get_or, Bool, true, false, ◌||◌, inl, inr, Some, refl, ap, sym, ◌∙◌, arith}
 use Rattle.std.specs.Prelude.{slice_get}
 use Rattle.std.specs.List.{list_any}
-use Rattle.std.proofs.lemmas.Bool.{or_cases}
+use Rattle.std.proofs.lemmas.Bool.{cases_Bool, false≢true, or_cases}
+use Rattle.std.proofs.lemmas.List.Folds.{list_any_at}
 use Rattle.std.proofs.lemmas.Option.{none-some, same_Some}
 
-or_left : (a b : Bool) → a ≡ true → (a || b) ≡ true
+pub or_left : (a b : Bool) → a ≡ true → (a || b) ≡ true
 or_left a b is = ap (λ c. c || b) is
 
-or_right : (a b : Bool) → b ≡ true → (a || b) ≡ true
+pub or_right : (a b : Bool) → b ≡ true → (a || b) ≡ true
 or_right true b is = refl
 or_right false b is = is
 
@@ -42,6 +43,13 @@ module _ {X : Type 0} (test : X → Bool) where
   none_any (y ∷ ys) none =
       ap (λ b. b || list_any test ys) (none 0 y (omega arith))
       ∙ none_any ys (λ k d within. none (suc k) d (omega (arith, within)))
+
+  -- no element passes
+  pub fails_at : (xs : List X) (k : ℕ) (d : X) → k < length xs → list_any test xs ≡ false → test (get_or xs k d) ≡ false
+  fails_at xs k d within none = elim (cases_Bool (test (get_or xs k d))) [
+    | inl it ↦ absurd (false≢true (sym none ∙ list_any_at test xs k d within it))
+    | inr it ↦ it
+  ]
 
   pub any_set : (xs : List X) (index : ℕ) (old new : X) → slice_get xs index ≡ Some old → (test old ≡ true → test new ≡ true)
       → list_any test xs ≡ true → list_any test (set xs index new) ≡ true

@@ -1,11 +1,13 @@
 -- Lemmas on where the lifelines of processes are.
-use Rattle.std.proofs.Common.{◌≡◌, ◌≢◌, ◌<◌, ◌≤◌, ◌∙◌, ◌++◌, ◌∷◌, [], ℕ, zero, suc, List, length, set, true, inl, inr, Option, Some, None, refl, sym, ap, subst, arith}
+use Rattle.std.proofs.Common.{◌≡◌, ◌≢◌, ◌<◌, ◌≤◌, ◌∙◌, ◌++◌, ◌∷◌, [], ℕ, zero, suc, List, length, set, get_or, true, false, inl, inr, Option, Some, None, refl, sym, ap, subst, arith}
 use Rattle.std.specs.Prelude.{slice_get, option_and_then}
 use Rattle.std.specs.Option.{option_flatten}
-use Rattle.std.proofs.lemmas.Bool.{cases_eq, eq-eqb, false≢true}
-use Rattle.std.proofs.lemmas.Option.{none-some, same_Some}
+use Rattle.std.proofs.lemmas.List.{length_push}
+use Rattle.std.proofs.Math.ListN.{get_or-append}
+use Rattle.std.proofs.lemmas.Bool.{cases_eq, cases_lt, eq-eqb, false≢true}
+use Rattle.std.proofs.lemmas.Option.{none-some, same_Some, slice_get-get_or}
 use Rattle.tb_chart.specs.declared.lines.ProcessLine.{ProcessLine}
-use Rattle.tb_chart.specs.Helpers.Additions.{Puts, SamePlaces}
+use Rattle.tb_chart.specs.Helpers.Additions.{Placed, Puts, SamePlaces}
 use Rattle.tb_chart.specs.Lifelines.{has_process, is_process, place_of}
 use Rattle.tb_chart.specs.Numbers.{index_of}
 use Rattle.tb_chart.proofs.ListLemmas.{get_last, get_other, get_set}
@@ -89,3 +91,46 @@ process_stays number processes now line old new other puts is pushed some has = 
       ∙ stays_at other processes line (place_of new other)
       (ap (λ place. is_process other (option_and_then (λ place. slice_get processes place) place)) (puts.others other apart) ∙ has)
 ]
+
+-- Each lifeline is at the place of its process. One more of a process that had none is so too.
+unless_there : (number index : ℕ) (processes : List ProcessLine) (it : ProcessLine) (places : List (Option ℕ)) → index < length processes
+    → it.number ≡ number → get_or processes index it ≡ it → place_of places it.number ≡ Some index → has_process processes places number ≡ true
+unless_there number index processes it places within is here placed =
+    ap (λ place. is_process number (option_and_then (λ place. slice_get processes place) place)) (ap (place_of places) (sym is) ∙ placed)
+    ∙ ap (is_process number) (slice_get-get_or processes index it within ∙ ap Some here)
+    ∙ eq-eqb it.number number is
+
+placed_old : (number index place : ℕ) (processes : List ProcessLine) (it : ProcessLine) (old new : List (Option ℕ)) → index < length processes
+    → get_or processes index it ≡ it → place_of old it.number ≡ Some index → Puts number place old new → has_process processes old number ≡ false
+    → place_of new it.number ≡ Some index
+placed_old number index place processes it old new within here placed puts none = elim (cases_eq it.number number) [
+  | inl same ↦ absurd (false≢true (sym none ∙ unless_there number index processes it old within same here placed))
+  | inr apart ↦ puts.others it.number apart ∙ placed
+]
+
+same_within : (processes : List ProcessLine) (index : ℕ) (d e : ProcessLine) → index < length processes → get_or processes index d ≡ get_or processes index e
+same_within processes index d e within =
+    same_Some (get_or processes index d) (get_or processes index e)
+    (sym (slice_get-get_or processes index d within) ∙ slice_get-get_or processes index e within)
+
+last_line : (processes : List ProcessLine) (line d : ProcessLine) → get_or (processes ++ line ∷ []) (length processes) d ≡ line
+last_line [] line d = refl
+last_line (it ∷ processes) line d = last_line processes line d
+
+pub placed_push : (number : ℕ) (processes now : List ProcessLine) (line : ProcessLine) (old new : List (Option ℕ))
+    → Puts number (length processes) old new → line.number ≡ number → now ≡ processes ++ line ∷ [] → number ≢ 0
+    → has_process processes old number ≡ false → Placed processes old → Placed now new
+placed_push number processes now line old new puts is pushed some none placed =
+    let all : Placed (processes ++ line ∷ []) new = λ index d within. elim (cases_lt index (length processes)) [
+      | inl before ↦
+          let it = get_or processes index d in
+          let here : get_or (processes ++ line ∷ []) index d ≡ it = get_or-append processes (line ∷ []) d index before in
+          ap (λ (those : ProcessLine). place_of new those.number) here
+          ∙ placed_old number index (length processes) processes it old new before (same_within processes index it d before) (placed index d before) puts none
+      | inr last ↦
+          let at : index ≡ length processes = omega (arith, last, within, length_push processes line) in
+          let here : get_or (processes ++ line ∷ []) index d ≡ line =
+          ap (λ n. get_or (processes ++ line ∷ []) n d) at ∙ last_line processes line d in
+          ap (λ (those : ProcessLine). place_of new those.number) here ∙ ap (place_of new) is ∙ puts.placed some ∙ ap Some (sym at)
+    ] in
+    subst (λ those. Placed those new) (sym pushed) all

@@ -1,6 +1,6 @@
 -- Which lifelines a chart has, and in which column each is: first the processes, then the notes, then the tools.
-use Rattle.std.specs.Prelude.{◌≡◌, ℕ, ◌≤◌, zero, suc, ◌+◌, ◌-◌, ◌==◌, nat_eq, nat_lt, Bool, true, false, not, ◌&&◌, ◌||◌, List, length, slice_get, Option, Some, None, is_some, option_and_then, IsTrue, if◌then◌else◌}
-use Rattle.std.specs.List.{list_any}
+use Rattle.std.specs.Prelude.{◌≡◌, ◌≢◌, ℕ, ◌≤◌, zero, suc, ◌+◌, ◌-◌, ◌==◌, nat_eq, nat_le, nat_lt, Bool, true, false, not, ◌&&◌, ◌||◌, List, length, slice_get, Option, Some, None, is_some, option_and_then, All, IsTrue, if◌then◌else◌}
+use Rattle.std.specs.List.{AllPairs, list_any}
 use Rattle.std.specs.Option.{option_eq, option_flatten}
 use Rattle.tb_chart.specs.declared.lines.Lines.{Lines}
 use Rattle.tb_chart.specs.declared.lines.ProcessLine.{ProcessLine}
@@ -54,6 +54,52 @@ HasFirst many lines = (number : ℕ) → 1 ≤ number → number ≤ many → Is
 abbrev pub HasBody : List ℕ → ProcessLine → Type 0
 HasBody players line = numbered players line.number ≡ Some line.body
 
+-- two lifelines of processes are of two processes
+abbrev pub OfTwoProcesses : ProcessLine → ProcessLine → Type 0
+OfTwoProcesses first second = first.number ≢ second.number
+
+-- Two lifelines of tools are of two tools: neither is that of the other's tool. So a program that has no name yet is alone on its lane.
+abbrev pub OfTwoTools : Seat → Seat → Type 0
+OfTwoTools first second = (is_tool first second ≡ false) × (is_tool second first ≡ false)
+
+-- no process and no tool has two lifelines
+pub record Once (lines : Lines) : Type 0 where
+  pub processes : AllPairs OfTwoProcesses lines.processes.items
+  pub tools : AllPairs OfTwoTools lines.tools.items
+
+-- this is one and the same: the process with one number, the tool on one lane and with one name, or the notes
+abbrev pub is_same : Who → Who → Bool
+is_same (who.Process first) (who.Process second) = first == second
+is_same (who.Process first) (who.Tool second) = false
+is_same (who.Process first) who.Notes = false
+is_same (who.Tool first) (who.Process second) = false
+is_same (who.Tool first) (who.Tool second) = first.lane == second.lane && option_eq nat_eq first.kind second.kind
+is_same (who.Tool first) who.Notes = false
+is_same who.Notes (who.Process second) = false
+is_same who.Notes (who.Tool second) = false
+is_same who.Notes who.Notes = true
+
+-- this one is one of both ends
+abbrev pub is_end : Who → Option (Who × Who) → Bool
+is_end it None = false
+is_end it (Some ends) = is_same it ends.0 || is_same it ends.1
+
+-- a process with a number from 1 to `many`
+abbrev pub is_first : ℕ → Who → Bool
+is_first many (who.Process number) = nat_le 1 number && nat_le number many
+is_first many (who.Tool seat) = false
+is_first many who.Notes = false
+
+-- This one is at an end of a row. Or each process has a lifeline with which the script begins, and it is one of those.
+abbrev pub is_needed : Bool → ℕ → List Row → Who → Bool
+is_needed all many rows it = list_any (λ (row : Row). is_end it row.ends) rows || (all && is_first many it)
+
+-- each lifeline is of one that passes the test
+pub record HasOnly (test : Who → Bool) (lines : Lines) : Type 0 where
+  pub processes : All (λ (line : ProcessLine). IsTrue (test (who.Process line.number))) lines.processes.items
+  pub notes : IsTrue lines.has_notes → IsTrue (test who.Notes)
+  pub tools : All (λ (line : Seat). IsTrue (test (who.Tool line))) lines.tools.items
+
 -- how many lifelines of notes there are
 abbrev pub notes_count : Lines → ℕ
 notes_count lines = if lines.has_notes then 1 else 0
@@ -73,6 +119,12 @@ abbrev pub spot_at : Lines → ℕ → Spot
 spot_at lines column = if nat_lt column (length lines.processes.items) then spot.Process column
     else spot_behind lines.has_notes (column - length lines.processes.items)
 
+-- this one has a number or a name: any but a program that has no name yet
+abbrev pub is_known : Who → Bool
+is_known (who.Process number) = true
+is_known (who.Tool seat) = is_some seat.kind
+is_known who.Notes = true
+
 -- this lifeline is that of this one
 abbrev pub is_line_of : Lines → Who → Spot → Bool
 is_line_of lines (who.Process number) (spot.Process index) = is_process number (slice_get lines.processes.items index)
@@ -84,3 +136,7 @@ is_line_of lines (who.Tool seat) (spot.Tool index) = is_tool_in seat (slice_get 
 is_line_of lines who.Notes (spot.Process index) = false
 is_line_of lines who.Notes spot.Notes = true
 is_line_of lines who.Notes (spot.Tool index) = false
+
+-- each column with a lifeline of this one is this column
+abbrev pub IsOnlyColumn : Lines → Who → ℕ → Type 0
+IsOnlyColumn lines it only = (column : ℕ) → IsTrue (is_line_of lines it (spot_at lines column)) → column ≡ only

@@ -1,12 +1,13 @@
 //! The chart of a log: lifelines, and a row for each entry that it shows.
-ghost use Rattle.std.specs.Prelude.{◌≡◌, ◌++◌, ◌∷◌, [], length, All, IfErr, IfOk, IsTrue, OnOk, map};
-ghost use Rattle.tb_chart.specs.Helpers.Additions.{GoesOn, IsEndFault, IsEntryFault, Sound, Stay, are_players};
+ghost use Rattle.std.specs.Prelude.{◌≡◌, ◌++◌, ◌∷◌, [], length, All, Bool, IfErr, IfOk, IsTrue, OnOk, map};
+ghost use Rattle.tb_chart.specs.Helpers.Additions.{GoesOn, IsEndFault, IsEntryFault, Sound, Stay, StayNeeded, are_all, are_players};
 ghost use Rattle.tb_chart.specs.Ends.{ends_of, fits};
 ghost use Rattle.tb_chart.specs.Figures.{figure};
-ghost use Rattle.tb_chart.specs.Lifelines.{HasBody, HasFirst, HasLines, have_lines};
+ghost use Rattle.tb_chart.specs.Lifelines.{HasBody, HasFirst, HasLines, HasOnly, Once, have_lines, is_needed};
 ghost use Rattle.tb_chart.specs.Named.{NamesTools};
 ghost use Rattle.tb_chart.specs.Players.{players_of};
 ghost use Rattle.tb_chart.specs.Refused.{IsRefused};
+ghost use Rattle.tb_chart.specs.declared.row.Who.{Who};
 ghost use Rattle.tb_chart.specs.Rows.{is_seen, is_shown, row, seen_row, rows_from, rows_of};
 
 use crate::cast::Cast;
@@ -53,6 +54,9 @@ pub fn chart_of<'a>(
         IsTrue span.all → HasFirst (length cast.now.roots.items) chart.lines) }
     ensures bodies { IfOk result (λ chart.
         All (HasBody (players_of cast.now entries.now)) chart.lines.processes.items) }
+    ensures once { IfOk result (λ chart. Once chart.lines) }
+    ensures needed { IfOk result (λ chart. HasOnly
+        (is_needed span.all (length cast.now.roots.items) chart.rows.items) chart.lines) }
     ensures err { IfErr result (IsRefused cast.now entries.now) }
 {
     let mut scene = Scene::new(alloc, cast, commands)?;
@@ -70,6 +74,8 @@ fn root_lines(alloc: Global, scene: &Scene, all: bool) -> Result<Lines, NoMemory
     ensures roots { IfOk result (λ lines.
         IsTrue all → HasFirst (length scene.now.players.items) lines) }
     ensures sound { IfOk result (λ lines. Sound scene.now.players.items lines) }
+    ensures only { IfOk result (λ lines.
+        HasOnly (is_needed all (length scene.now.players.items) []) lines) }
 {
     let mut lines = Lines::new(alloc);
     if all {
@@ -100,6 +106,8 @@ fn add_entry<'a>(
     ensures stay { OnOk result (Stay lines.old lines.new) }
     ensures sound { OnOk result (Sound scene.old.players.items lines.old
         → Sound scene.new.players.items lines.new) }
+    ensures needed { OnOk result
+        (StayNeeded rows.old.items rows.new.items lines.old lines.new) }
     ensures err { IfErr result (IsEntryFault (length scene.old.lanes.items)
         scene.old.cast.now scene.old.players.items number entry.now) }
 {
@@ -148,6 +156,8 @@ fn add_row<'a>(
     ensures stay { OnOk result (Stay lines.old lines.new) }
     ensures sound { OnOk result (Sound scene.now.players.items lines.old
         → Sound scene.now.players.items lines.new) }
+    ensures needed { OnOk result
+        (StayNeeded rows.old.items rows.new.items lines.old lines.new) }
     ensures err { IfErr result (IsEndFault (length scene.now.lanes.items)
         scene.now.players.items number entry.now) }
 {
@@ -185,6 +195,8 @@ fn add_lines(lines: &mut Lines, scene: &Scene, ends: Option<(Who, Who)>) -> Resu
     ensures stay { OnOk result (Stay lines.old lines.new) }
     ensures sound { OnOk result (Sound scene.now.players.items lines.old
         → Sound scene.now.players.items lines.new) }
+    ensures only { OnOk result ((test : Who → Bool) → IsTrue (are_all test ends)
+        → HasOnly test lines.old → HasOnly test lines.new) }
 {
     match ends {
         Some((from, to)) => {

@@ -1,6 +1,10 @@
 //! The rows as they are drawn: ticks with nothing between them are one line.
+ghost use Rattle.std.specs.Prelude.{◌≡◌, ◌+◌, ◌<◌, ◌^◌, ◌++◌, ◌∷◌, [], All, IfNone, IfOk, IfSome, OnOk, length, slice_index_or, slice_set};
+ghost use Rattle.tb_chart.specs.Drawn.{are_ticks, drawn_from, is_tick, is_tick_input, joined, own_line};
+ghost use Rattle.tb_chart.specs.Helpers.Additions.{HasFewTicks, JoinsAt, after_lines};
 
 use crate::chart::Chart;
+use crate::row::Row;
 use std::alloc::Global;
 use tb_log::{Entry, Input};
 use tb_terms::NoMemory;
@@ -17,46 +21,100 @@ pub struct Drawn {
 }
 
 /// Returns what is drawn of a chart.
-pub fn drawn_rows(alloc: Global, chart: &Chart) -> Result<Vec<Drawn>, NoMemory> {
+pub fn drawn_rows(alloc: Global, chart: &Chart) -> Result<Vec<Drawn>, NoMemory>
+    ensures { IfOk result (λ drawn. drawn.items ≡ drawn_from 0 chart.now.rows.items) }
+{
     let mut drawn = Vec::new(alloc);
     for (index, row) in chart.rows.iter().enumerate() {
-        add_drawn(index, row.number, is_tick(row.entry), &mut drawn)?;
+        add_drawn(own_line(index, row), &mut drawn)?;
     }
     Ok(drawn)
 }
 
-fn add_drawn(
-    index: usize,
-    number: u64,
-    is_tick: bool,
-    drawn: &mut Vec<Drawn>,
-) -> Result<(), NoMemory> {
-    if is_tick && joins_ticks(number, drawn) {
-        return Ok(());
-    }
-    drawn.push(Drawn {
+/// The line of a row, if ticks don't join it.
+fn own_line(index: usize, row: &Row) -> Drawn
+    ensures { result ≡ own_line index row.now }
+{
+    Drawn {
         index,
-        ticks: u64::from(is_tick),
-        last: number,
-    })?;
-    Ok(())
-}
-
-/// Adds a tick to the line of ticks before it, if there is one.
-fn joins_ticks(number: u64, drawn: &mut Vec<Drawn>) -> bool {
-    let Some(index) = drawn.len().checked_sub(1) else {
-        return false;
-    };
-    match drawn.get_mut(index) {
-        Some(before) if before.ticks > 0 => {
-            before.ticks = before.ticks.saturating_add(1);
-            before.last = number;
-            true
-        }
-        _ => false,
+        ticks: u64::from(is_tick(row.entry)),
+        last: row.number,
     }
 }
 
-fn is_tick(entry: &Entry) -> bool {
-    matches!(entry, Entry::Fed(Input::Tick, _))
+/// Adds a line. Ticks join the line of ticks before them, if there is one.
+fn add_drawn(line: Drawn, drawn: &mut Vec<Drawn>) -> Result<(), NoMemory>
+    requires few { All (HasFewTicks line.ticks) drawn.old.items }
+    ensures { OnOk result (drawn.new.items ≡ after_lines drawn.old.items line) }
+{
+    match last_ticks(line, drawn.as_slice()) {
+        Some(index) => {
+            join_at(drawn.as_mut_slice(), index, line);
+            Ok(())
+        }
+        None => {
+            drawn.push(line)?;
+            Ok(())
+        }
+    }
+}
+
+/// The index of the last line, if it and this line are of ticks.
+fn last_ticks(line: Drawn, drawn: &[Drawn]) -> Option<usize>
+    ensures some { IfSome result (JoinsAt line drawn.now) }
+    ensures none { IfNone result (after_lines drawn.now line ≡ drawn.now ++ line ∷ []) }
+{
+    let Some(index) = drawn.len().checked_sub(1) else {
+        return None;
+    };
+    if are_ticks(drawn[index], line) {
+        Some(index)
+    } else {
+        None
+    }
+}
+
+/// Joins ticks to the ticks of a line.
+fn join_at(drawn: &mut [Drawn], index: usize, line: Drawn)
+    requires within { index < length drawn.old }
+    requires few { All (HasFewTicks line.ticks) drawn.old }
+    ensures { drawn.new
+        ≡ slice_set drawn.old index (joined (slice_index_or drawn.old index line) line) }
+{
+    drawn[index] = joined(drawn[index], line);
+}
+
+fn joined(first: Drawn, second: Drawn) -> Drawn
+    requires { first.ticks + second.ticks < 2 ^ 64 }
+    ensures { result ≡ joined first second }
+{
+    Drawn {
+        index: first.index,
+        ticks: first.ticks + second.ticks,
+        last: second.last,
+    }
+}
+
+fn are_ticks(first: Drawn, second: Drawn) -> bool
+    ensures { result ≡ are_ticks first second }
+{
+    first.ticks > 0 && second.ticks > 0
+}
+
+fn is_tick(entry: &Entry) -> bool
+    ensures { result ≡ is_tick entry.now }
+{
+    match entry {
+        Entry::Fed(input, _) => is_tick_input(input),
+        Entry::Did(_) | Entry::Quiet | Entry::Gave(_, _) => false,
+    }
+}
+
+fn is_tick_input(input: &Input) -> bool
+    ensures { result ≡ is_tick_input input.now }
+{
+    match input {
+        Input::Tick => true,
+        Input::NoTicks | Input::Line(_, _) | Input::Gone(_) | Input::Cut(_) => false,
+    }
 }

@@ -1,9 +1,10 @@
 //! The lifelines of a chart.
-ghost use Rattle.std.specs.Prelude.{◌≡◌, ◌+◌, ◌≤◌, ℕ, List, length, slice_get, option_copied, IfOk, IfSome, IsTrue, OnOk};
+ghost use Rattle.std.specs.Prelude.{◌≡◌, ◌+◌, ◌≤◌, ℕ, Bool, List, length, slice_get, option_copied, IfNone, IfOk, IfSome, IsTrue, OnOk, false};
 ghost use Rattle.std.specs.List.{list_any};
-ghost use Rattle.tb_chart.specs.Helpers.Additions.{Adds, AddsTool, Puts, SamePlaces, Sound, is_seat, is_seat_in};
-ghost use Rattle.tb_chart.specs.Lifelines.{HasFirst, columns, has_line, has_process, is_line_of, is_process, is_tool, is_tool_in, notes_count, place_of, spot_at, spot_behind};
+ghost use Rattle.tb_chart.specs.Helpers.Additions.{Adds, AddsTool, OnlyPlayers, Puts, SamePlaces, Sound, is_seat, is_seat_in};
+ghost use Rattle.tb_chart.specs.Lifelines.{HasFirst, HasOnly, IsOnlyColumn, Once, columns, has_line, has_process, is_known, is_line_of, is_process, is_tool, is_tool_in, notes_count, place_of, spot_at, spot_behind};
 ghost use Rattle.tb_chart.specs.Numbers.{numbered};
+ghost use Rattle.tb_chart.specs.declared.row.Who.{Who};
 
 use crate::cast::{index_of, numbered};
 use crate::row::{Seat, Who};
@@ -40,7 +41,8 @@ pub struct Lines {
 
 impl Lines {
     pub(crate) fn new(alloc: Global) -> Lines
-        ensures { (players : List ℕ) → Sound players result }
+        ensures sound { (players : List ℕ) → Sound players result }
+        ensures only { (test : Who → Bool) → HasOnly test result }
     {
         Lines {
             processes: Vec::new(alloc),
@@ -59,8 +61,10 @@ impl Lines {
 
     /// Returns the column of a lifeline: first the processes, then the notes, then the tools.
     pub fn column(&self, who: Who) -> usize
-        ensures { IsTrue (has_line self.now who)
+        ensures at { IsTrue (has_line self.now who)
             → IsTrue (is_line_of self.now who (spot_at self.now result)) }
+        ensures only { Once self.now → IsTrue (is_known who) → IsTrue (has_line self.now who)
+            → IsOnlyColumn self.now who result }
     {
         match who {
             Who::Process(number) => self.process_place(number).unwrap_or(0),
@@ -148,6 +152,8 @@ pub(crate) fn add_players(lines: &mut Lines, scene: &Scene) -> Result<(), NoMemo
     ensures there { OnOk result (HasFirst (length scene.now.players.items) lines.new) }
     ensures sound { OnOk result (Sound scene.now.players.items lines.old
         → Sound scene.now.players.items lines.new) }
+    ensures only { OnOk result
+        (OnlyPlayers (length scene.now.players.items) lines.old lines.new) }
 {
     for index in 0..scene.count() {
         lines.add_process(number_at(index)?, scene)?;
@@ -222,7 +228,7 @@ fn set_place(places: &mut [Option<usize>], number: u32, line: usize)
 fn add_tool(tools: &mut Vec<Seat>, seat: Seat) -> Result<(), NoMemory>
     ensures { OnOk result (AddsTool seat tools.old.items tools.new.items) }
 {
-    if find_seat(tools.as_slice(), seat).is_some() {
+    if has_tool(tools.as_slice(), seat) {
         return Ok(());
     }
     let unnamed = Seat {
@@ -256,9 +262,22 @@ fn tool_place(tools: &[Seat], seat: Seat) -> usize
     0
 }
 
-/// The index of the lifeline of this tool.
+/// Whether a lifeline is that of this tool.
+fn has_tool(lines: &[Seat], seat: Seat) -> bool
+    ensures { result ≡ list_any (is_tool seat) lines.now }
+{
+    for line in lines {
+        if is_tool(seat, *line) {
+            return true;
+        }
+    }
+    false
+}
+
+/// The index of the lifeline with this very lane and name.
 fn find_seat(lines: &[Seat], seat: Seat) -> Option<usize>
-    ensures { IfSome result (λ index. IsTrue (is_seat_in seat (slice_get lines.now index))) }
+    ensures some { IfSome result (λ index. IsTrue (is_seat_in seat (slice_get lines.now index))) }
+    ensures none { IfNone result (list_any (is_seat seat) lines.now ≡ false) }
 {
     for (index, line) in lines.iter().enumerate() {
         if is_seat(seat, *line) {

@@ -1,19 +1,23 @@
 -- What calls change as a log goes on: the lifelines, and the processes.
-use Rattle.std.specs.Prelude.{◌≡◌, ◌≢◌, ℕ, ◌==◌, nat_eq, List, length, Bool, true, false, ◌&&◌, Option, Some, None, is_some, All, IsTrue, ⊤}
-use Rattle.std.specs.List.{list_any}
+use Rattle.std.specs.Prelude.{◌≡◌, ◌≢◌, ◌<◌, ◌≤◌, ℕ, ◌==◌, nat_eq, List, [], ◌∷◌, length, slice_index_or, slice_set, ◌+◌, ◌^◌, Bool, true, false, ◌&&◌, Option, Some, None, is_some, All, IsTrue, ⊤, if◌then◌else◌}
+use Rattle.std.specs.List.{AllPairs, list_any}
 use Rattle.std.specs.Option.{option_eq}
 use Rattle.tb_chart.specs.declared.cast.Cast.{Cast}
 use Rattle.tb_chart.specs.declared.fault.ChartFault.{ChartFault}
 use Rattle.tb_chart.specs.declared.fault.ChartFault.TheVariants as fault
 use Rattle.tb_chart.specs.declared.lines.Lines.{Lines}
+use Rattle.tb_chart.specs.declared.lines.ProcessLine.{ProcessLine}
 use Rattle.tb_log.specs.declared.entry.Entry.{Entry}
+use Rattle.tb_chart.specs.declared.row.Row.{Row}
 use Rattle.tb_chart.specs.declared.row.Seat.{Seat}
 use Rattle.tb_chart.specs.declared.scene.Scene.{Scene}
 use Rattle.tb_chart.specs.declared.row.Who.{Who}
 use Rattle.tb_chart.specs.declared.row.Who.TheVariants as who
+use Rattle.tb_chart.specs.declared.drawn.Drawn.{Drawn}
+use Rattle.tb_chart.specs.Drawn.{are_ticks, joined}
 use Rattle.tb_chart.specs.Ends.{ends_of}
 use Rattle.tb_chart.specs.Figures.{figure}
-use Rattle.tb_chart.specs.Lifelines.{HasBody, has_line, is_tool, place_of}
+use Rattle.tb_chart.specs.Lifelines.{HasBody, HasOnly, OfTwoTools, has_line, is_needed, is_tool, place_of}
 use Rattle.tb_chart.specs.Numbers.{numbered}
 use Rattle.tb_chart.specs.Players.{players_after}
 use Rattle.tb_chart.specs.Refused.{IsWrong, LacksEnd}
@@ -46,24 +50,48 @@ pub record Puts (number place : ℕ) (old new : List (Option ℕ)) : Type 0 wher
   pub placed : number ≢ 0 → place_of new number ≡ Some place
   pub others : (other : ℕ) → other ≢ number → place_of new other ≡ place_of old other
 
--- this tool has a lifeline now, and each that had one still has
+-- this tool has a lifeline now, each that had one still has, and none has two
 pub record AddsTool (seat : Seat) (old new : List Seat) : Type 0 where
   pub there : IsTrue (list_any (is_tool seat) new)
   pub stays : (other : Seat) → IsTrue (list_any (is_tool other) old) → IsTrue (list_any (is_tool other) new)
+  pub apart : AllPairs OfTwoTools old → AllPairs OfTwoTools new
+  pub only : (test : Seat → Bool) → IsTrue (test seat) → All (λ line. IsTrue (test line)) old → All (λ line. IsTrue (test line)) new
 
 -- each that had a lifeline still has
 abbrev pub Stay : Lines → Lines → Type 0
 Stay old new = (it : Who) → IsTrue (has_line old it) → IsTrue (has_line new it)
 
--- each lifeline of a process has its definition
+-- each lifeline of a process is at the place of its process
+abbrev pub Placed : List ProcessLine → List (Option ℕ) → Type 0
+Placed processes places = (index : ℕ) (line : ProcessLine) → index < length processes
+    → place_of places (slice_index_or processes index line).number ≡ Some index
+
+-- each lifeline of a process has its definition and its place, and no tool has two
 pub record Sound (players : List ℕ) (lines : Lines) : Type 0 where
   pub bodies : All (HasBody players) lines.processes.items
+  pub placed : Placed lines.processes.items lines.places.items
+  pub tools : AllPairs OfTwoTools lines.tools.items
 
 -- this one has a lifeline now, if it is a process then one of the bus
 pub record Adds (players : List ℕ) (it : Who) (old new : Lines) : Type 0 where
   pub there : IsTrue (is_player players it) → IsTrue (has_line new it)
   pub stay : Stay old new
   pub sound : Sound players old → Sound players new
+  pub only : (test : Who → Bool) → IsTrue (test it) → HasOnly test old → HasOnly test new
+
+-- both ends of a row pass the test
+abbrev pub are_all : (Who → Bool) → Option (Who × Who) → Bool
+are_all test None = true
+are_all test (Some ends) = test ends.0 && test ends.1
+
+-- lifelines that pass the test stay so, if those of processes do that are there
+abbrev pub OnlyPlayers : ℕ → Lines → Lines → Type 0
+OnlyPlayers many old new = (test : Who → Bool) → ((number : ℕ) → 1 ≤ number → number ≤ many → IsTrue (test (who.Process number)))
+    → HasOnly test old → HasOnly test new
+
+-- each lifeline stays needed, also of the rows that are added
+abbrev pub StayNeeded : List Row → List Row → Lines → Lines → Type 0
+StayNeeded before rows old new = (all : Bool) (many : ℕ) → HasOnly (is_needed all many before) old → HasOnly (is_needed all many rows) new
 
 -- the processes, the cast that they are from, and the number of lanes stay
 pub record Keeps (old new : Scene) : Type 0 where
@@ -101,3 +129,18 @@ IsEndFault lanes players number entry fault.NoMemory = ⊤
 abbrev pub IsEntryFault : ℕ → Cast → List ℕ → ℕ → Entry → ChartFault → Type 0
 IsEntryFault lanes cast players number entry (fault.Line named) = (named ≡ number) × IsWrong lanes cast players entry
 IsEntryFault lanes cast players number entry fault.NoMemory = ⊤
+
+-- a line after others: ticks join the ticks before them
+abbrev pub after_lines : List Drawn → Drawn → List Drawn
+after_lines [] line = line ∷ []
+after_lines (before ∷ []) line = if are_ticks before line then joined before line ∷ [] else before ∷ line ∷ []
+after_lines (before ∷ next ∷ lines) line = before ∷ after_lines (next ∷ lines) line
+
+-- so many ticks can be added to a line
+abbrev pub HasFewTicks : ℕ → Drawn → Type 0
+HasFewTicks more line = line.ticks + more < 2 ^ 64
+
+-- a line joins the last one, at this index
+pub record JoinsAt (line : Drawn) (lines : List Drawn) (index : ℕ) : Type 0 where
+  pub within : index < length lines
+  pub joins : after_lines lines line ≡ slice_set lines index (joined (slice_index_or lines index line) line)

@@ -1,6 +1,6 @@
 use Rattle.std.proofs.Common.{◌≡◌, ◌∙◌, ◌+◌, Err, length, refl, rules, arith}
 use Rattle.tb_chart.specs.declared.row.Who.TheVariants as who
-use Rattle.tb_chart.proofs.LineLemmas.{bodies_after}
+use Rattle.tb_chart.proofs.LineLemmas.{bodies_after, sound_once}
 use Rattle.tb_chart.proofs.RefusalLemmas.{refused_by}
 use Rattle.tb_chart.proofs.RowLemmas.{players-more, rows-more}
 use Rattle.tb_chart.proofs.chart.chart_of.Goals as goal
@@ -18,6 +18,7 @@ loop-index-preserved c = record {
   named = c.in_ok-add_entry.ensures.named c.loop-index.invariant.named;
   lines = c.in_ok-add_entry.ensures.lines c.loop-index.invariant.lines;
   roots = λ all number from to. c.in_ok-add_entry.ensures.stay (who.Process number) (c.loop-index.invariant.roots all number from to);
+  needed = c.in_ok-add_entry.ensures.needed c.args.span.all (length c.args.cast.now.roots.items) c.loop-index.invariant.needed;
   sound = c.in_ok-add_entry.ensures.sound c.loop-index.invariant.sound;
 }
 
@@ -27,6 +28,9 @@ returns-in_err-add_entry-clause-err c =
     refused_by c.from_residual-in_err-add_entry.result _ c.args.cast.now c.loop-index.scene.cast.now c.loop-index.scene.players.items
     c.loop-index.index (c.loop-index.index + 1) c.args.entries.now _ c.in_err-add_entry.field-0.0 told c.loop-index-test.true c.index-entries-index.is refl
     c.loop-index.invariant.lanes c.loop-index.invariant.cast c.loop-index.invariant.players c.in_err-add_entry.ensures.err
+
+pub returns-clause-once : goal.returns-clause-once
+returns-clause-once c = sound_once c.loop-index.scene.players.items c.loop-index.lines c.loop-index.invariant.sound
 
 pub returns-clause-bodies : goal.returns-clause-bodies
 returns-clause-bodies c =

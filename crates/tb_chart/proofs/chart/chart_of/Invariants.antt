@@ -1,7 +1,7 @@
 use Rattle.std.proofs.Common.{◌≡◌, ◌+◌, ◌++◌, All, IsTrue, length, map, drop, take}
 use Rattle.tb_log.specs.Shapes.{lane_count}
 use Rattle.tb_chart.specs.Helpers.Additions.{Sound}
-use Rattle.tb_chart.specs.Lifelines.{HasFirst, HasLines}
+use Rattle.tb_chart.specs.Lifelines.{HasFirst, HasLines, HasOnly, is_needed}
 use Rattle.tb_chart.specs.Named.{NamesTools}
 use Rattle.tb_chart.specs.Players.{players_of}
 use Rattle.tb_chart.specs.Rows.{seen_row, rows_from}
@@ -18,5 +18,6 @@ invariant-loop-index l = record {
   named : All (NamesTools l.cast.tools.items) l.rows.items;
   lines : All (HasLines l.lines) l.rows.items;
   roots : IsTrue l.span.all → HasFirst (length l.cast.roots.items) l.lines;
+  needed : HasOnly (is_needed l.span.all (length l.cast.roots.items) l.rows.items) l.lines;
   sound : Sound l.scene.players.items l.lines;
 }

@@ -9,3 +9,4 @@ returns-in_ok-push-in-Some c =
     (c.len.ensures ∙ c.args.self.now.processes.ok.0) c.in_ok-put_place-in-Some.ensures in
     adds_process c.args.scene.now.players.items c.args.number c.in-Some.body (record { number = c.args.number; body = c.in-Some.body })
     c.args.self.now _ (sym c.in-Some.ensures) puts refl refl c.in_ok-push-in-Some.ensures.items refl refl
+    (sym c.has_process.ensures ∙ c.if-has_process.false)
