@@ -4,7 +4,8 @@ use Rattle.std.specs.Prelude.{OnErr}
 use Rattle.std.proofs.lemmas.List.{append-nil, append_assoc, take_all}
 use Rattle.tb_edge.specs.Faults.{Rose}
 use Rattle.tb_edge.specs.FilesHeld.{AsksSome}
-use Rattle.tb_lens.specs.Told.{Asks, CantRead, IsReason}
+use Rattle.tb_lens.specs.Loads.{Asks, CantRead}
+use Rattle.tb_lens.specs.Told.{IsReason}
 use Rattle.tb_lens.specs.declared.status.Trouble.{Trouble}
 use Rattle.tb_lens.specs.declared.status.Trouble.TheVariants as trouble
 

@@ -1,3 +1,4 @@
 pub mod Asking
+pub mod Feedings
 pub mod Reasons
 pub mod Tellings

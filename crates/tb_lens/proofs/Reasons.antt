@@ -1,7 +1,8 @@
 -- Why nothing is told: what a part says of the whole.
 use Rattle.std.proofs.Common.{◌≡◌, ◌∙◌, ℕ, ◌≤◌, ◌-◌, List, [], ◌∷◌, ◌++◌, map, length, take, drop, slice_index_or, Option, refl, ap, sym, subst, arith}
 use Rattle.std.proofs.lemmas.List.{append_assoc, take_all}
-use Rattle.tb_lens.specs.Told.{AtFailure, CantRead, IsReason}
+use Rattle.tb_lens.specs.Loads.{CantRead}
+use Rattle.tb_lens.specs.Told.{AtFailure, IsReason}
 use Rattle.tb_lens.specs.declared.status.Trouble.{Trouble}
 use Rattle.tb_lens.specs.declared.status.Trouble.TheVariants as trouble
 

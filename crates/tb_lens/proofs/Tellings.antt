@@ -4,8 +4,8 @@ use Rattle.std.proofs.lemmas.List.{take_all}
 use Rattle.tb_edge.specs.Sinks.{Writes}
 use Rattle.tb_edge.specs.FilesHeld.{IsOf, IsWithin}
 use Rattle.tb_edge.specs.declared.files.Loaded.TheVariants.{TooLong}
-use Rattle.tb_point.specs.Points.{IsPoint, IsAnswer, TellsFault}
-use Rattle.tb_point.specs.declared.point.Point.{Point}
+use Rattle.tb_fault_place.specs.Points.{IsPoint, IsAnswer, TellsFault}
+use Rattle.tb_fault_place.specs.declared.point.Point.{Point}
 use Rattle.tb_lens.specs.Told.{AtOutcome, IsLoaded, Says, TellsOf, TellsOfAll, accepted, refused, long, long_point}
 use Rattle.tb_lens.specs.declared.status.Status.{Status}
 

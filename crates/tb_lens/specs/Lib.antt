@@ -1,2 +1,4 @@
+pub mod Fed
+pub mod Loads
 pub mod Statuses
 pub mod Told

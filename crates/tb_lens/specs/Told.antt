@@ -1,13 +1,12 @@
 -- What `at` tells of the scripts in files.
-use Rattle.std.specs.Prelude.{◌≡◌, ◌≢◌, ℕ, ◌<◌, ◌≤◌, List, [], ◌∷◌, ◌++◌, length, Option, None, IfSome, Result, Ok, Err}
-use Rattle.tb_edge.specs.Faults.{Rose}
-use Rattle.tb_edge.specs.FilesHeld.{AsksSome}
+use Rattle.std.specs.Prelude.{◌≡◌, ◌≢◌, ℕ, List, [], ◌∷◌, ◌++◌, Option, None}
 use Rattle.tb_edge.specs.Sinks.{Writes, WritesPrefix}
 use Rattle.tb_body.specs.declared.program.Program.{Program}
 use Rattle.tb_script.specs.Findings.{IsFound, Program'}
 use Rattle.tb_script.specs.declared.fault.ScriptFault.TheVariants as fault
-use Rattle.tb_point.specs.Points.{IsPoint, TellsFault}
-use Rattle.tb_point.specs.declared.point.Point.{Point}
+use Rattle.tb_fault_place.specs.Points.{IsPoint, TellsFault}
+use Rattle.tb_fault_place.specs.declared.point.Point.{Point}
+use Rattle.tb_lens.specs.Loads.{CantRead, IsHeld, IsOver}
 use Rattle.tb_lens.specs.declared.status.Status.{Status}
 use Rattle.tb_lens.specs.declared.status.Status.TheVariants.{Fine, Found, Trouble}
 use Rattle.tb_lens.specs.declared.status.Trouble.{Trouble as Reason}
@@ -17,13 +16,11 @@ use Rattle.tb_lens.specs.declared.status.Trouble.TheVariants as trouble
 abbrev pub most_bytes : ℕ
 most_bytes = 1048576
 
--- the bytes that the name holds, where the files tell them, and not too many
 abbrev pub IsLoaded : Option (List ℕ) → List ℕ → Type 0
-IsLoaded told bytes = IfSome told (λ held. bytes ≡ held) × (length bytes ≤ most_bytes)
+IsLoaded told bytes = IsHeld most_bytes told bytes
 
--- the name holds so many bytes, where the files tell them, and these are too many
 abbrev pub IsTooLong : Option (List ℕ) → ℕ → Type 0
-IsTooLong told len = (most_bytes < len) × IfSome told (λ held. len ≡ length held)
+IsTooLong told len = IsOver most_bytes told len
 
 -- the fault of a file with so many bytes, which stands nowhere
 abbrev pub long_point : ℕ → Point
@@ -53,23 +50,6 @@ pub record AtOutcome (held : List ℕ → Option (List ℕ)) (names : List (List
   pub tells : TellsOfAll held names text
   pub says : Says text status
   pub written : Writes old new text
-
--- which names were asked for in a call: all of them, in order, unless it failed before the output
-abbrev pub Asks : List (List ℕ) → Result Status Reason → List (List ℕ) → List (List ℕ) → Type 0
-Asks names (Ok status) old new = new ≡ old ++ names
-Asks names (Err trouble.Out) old new = new ≡ old ++ names
-Asks names (Err _) old new = AsksSome names old new
-
--- The names up to this one were asked for, and nothing else. The last load, that of this name, failed.
-pub record CantRead {S : Type 0} (asked : S → List (List ℕ)) (faults : S → ℕ) (names : List (List ℕ)) (name : List ℕ) (old new : S) : Type 0 where
-  pub start : List (List ℕ)
-  pub others : List (List ℕ)
-  pub among : start ++ name ∷ others ≡ names
-  pub before : S
-  pub asked_before : asked before ≡ asked old ++ start
-  pub never_fell : faults old ≤ faults before
-  pub asked_last : asked new ≡ asked before ++ name ∷ []
-  pub failed : Rose (faults before) (faults new)
 
 -- Why nothing is told: one of the files couldn't be read, or what is told couldn't be written. Memory may run out at any time.
 abbrev pub IsReason : {S : Type 0} → (S → List (List ℕ)) → (S → ℕ) → List (List ℕ) → S → S → Type 0 → Reason → Type 0

@@ -2,14 +2,15 @@
 ghost use Rattle.std.specs.Prelude.{◌≡◌, ℕ, ◌≤◌, List, [], ◌∷◌, ◌++◌, Option, IfOk, IfErr, map};
 ghost use Rattle.tb_edge.specs.Faults.{Rose};
 ghost use Rattle.tb_edge.specs.FilesHeld.{AsksSome};
-ghost use Rattle.tb_point.specs.Points.{IsPoint, TellsFault};
-ghost use Rattle.tb_lens.specs.Told.{Asks, AtFailure, AtOutcome, IsLoaded, IsReason, Says, TellsOf, TellsOfAll, long_point};
+ghost use Rattle.tb_fault_place.specs.Points.{IsPoint, TellsFault};
+ghost use Rattle.tb_lens.specs.Loads.{Asks};
+ghost use Rattle.tb_lens.specs.Told.{AtFailure, AtOutcome, IsLoaded, IsReason, Says, TellsOf, TellsOfAll, long_point};
 
 use crate::status::{Status, Trouble};
 use std::alloc::Global;
 use tb_edge::{Failed, Files, FilesFault, Loaded, Sink};
+use tb_fault_place::{Point, find_fault};
 use tb_hint::message_text;
-use tb_point::{Point, find_fault};
 use tb_script::ScriptFault;
 use tb_terms::NoMemory;
 
@@ -33,6 +34,7 @@ pub fn tell_at<F: Files, O: Sink>(
         (F.asked files.old) (F.asked files.new) }
     ensures reason { IfErr result (IsReason F.asked F.faults (map (λ name. name.now) scripts.now)
         files.old files.new (Rose (O.faults out.old) (O.faults out.new))) }
+    ensures calm { IfOk result (λ status. O.faults out.new ≡ O.faults out.old) }
 {
     let text = tell_all(alloc, scripts, files)?;
     match out.put(text.as_slice()) {

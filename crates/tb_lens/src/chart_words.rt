@@ -4,7 +4,7 @@ use crate::chart::ChartRequest;
 use clap::{Arg, ArgAction, ArgMatches, Command, value_parser};
 use std::alloc::{AllocError, Global};
 use tb_chart::Span;
-use tb_draw::Output;
+use tb_chart_draw::Output;
 
 /// The command `chart`, as `clap` reads it.
 pub(crate) fn chart_command<'a>(alloc: Global) -> Result<Command<'a>, AllocError> {

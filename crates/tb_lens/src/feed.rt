@@ -1,30 +1,96 @@
 //! `feed`: the feed that delivers again what came in.
+ghost use Rattle.std.specs.Prelude.{◌≡◌, ◌∷◌, ◌++◌, [], IfOk, IfErr};
+ghost use Rattle.tb_edge.specs.Faults.{Rose};
+ghost use Rattle.tb_edge.specs.FilesHeld.{AsksSome};
+ghost use Rattle.tb_lens.specs.Fed.{FeedFailure, FeedOutcome, TellsFeed, TellsFeedOf, line_text, most_log_bytes};
+ghost use Rattle.tb_lens.specs.Loads.{Asks, IsReasonOfOne};
 
 use crate::loading::load_log;
-use crate::put::put;
 use crate::status::{Status, Trouble};
 use std::alloc::Global;
-use tb_edge::{Files, Sink};
+use tb_edge::{Failed, Files, Sink};
 use tb_refeed::{RefeedFault, refeed};
+use tb_terms::NoMemory;
 
-/// Writes the feed of a log.
+/// What is written about a log, and the status with which the program ends then.
+#[derive(Drop)]
+struct Telling {
+    text: Vec<u8>,
+    status: Status,
+}
+
+/// Writes the feed of the log in the file of this name. If the file holds no log, the call writes the number of the first
+/// line that isn't one of a log. If the log has a line that is too long for a feed, it writes the number of the first one.
+#[tactic(auto, using(crate::proofs::Feedings::fed, crate::proofs::Feedings::fed_in_part, crate::proofs::Feedings::unloaded_anyhow, crate::proofs::Feedings::unfed, crate::proofs::Feedings::asks_unloaded))]
 pub fn tell_feed<F: Files, O: Sink>(
     alloc: Global,
     log: &str,
     files: &mut F,
     out: &mut O,
-) -> Result<Status, Trouble> {
-    let bytes = load_log(alloc, log, files)?;
-    match refeed(alloc, bytes.as_slice()) {
-        Ok(feed) => put(feed.as_slice(), Status::Fine, out),
-        Err(RefeedFault::Line(number)) => {
-            let text = format!(in alloc; "{log}:{number}: this is no line of a log\n")?;
-            put(text.as_bytes(), Status::Found, out)
-        }
-        Err(RefeedFault::TooLong(number)) => {
-            let text = format!(in alloc; "{log}:{number}: no line of a feed is so long\n")?;
-            put(text.as_bytes(), Status::Found, out)
-        }
-        Err(RefeedFault::NoMemory) => Err(Trouble::NoMemory),
+) -> Result<Status, Trouble>
+    ensures ok { IfOk result (FeedOutcome (F.held files.old log.now) log.now
+        (O.taken out.old) (O.taken out.new)) }
+    ensures err { IfErr result (FeedFailure (F.held files.old log.now) log.now
+        (O.taken out.old) (O.taken out.new)) }
+    ensures asks { Asks (log.now ∷ []) result (F.asked files.old) (F.asked files.new) }
+    ensures reason { IfErr result (IsReasonOfOne most_log_bytes (F.held files.old log.now) log.now
+        (Rose (F.faults files.old) (F.faults files.new))
+        (Rose (O.faults out.old) (O.faults out.new))) }
+    ensures calm { IfOk result (λ status. O.faults out.new ≡ O.faults out.old) }
+{
+    let telling = load_telling(alloc, log, files)?;
+    match out.put(telling.text.as_slice()) {
+        Ok(()) => Ok(telling.status),
+        Err(Failed) => Err(Trouble::Out),
     }
+}
+
+/// What is written about the log in the file of this name.
+#[tactic(auto, using(crate::proofs::Feedings::tells_held, crate::proofs::Asking::some_all))]
+fn load_telling<F: Files>(alloc: Global, log: &str, files: &mut F) -> Result<Telling, Trouble>
+    ensures tells { IfOk result (λ telling. TellsFeedOf (F.held files.old log.now) log.now
+        telling.text.items telling.status) }
+    ensures asks { IfOk result (λ telling. F.asked files.new ≡ F.asked files.old ++ log.now ∷ []) }
+    ensures asks_some { IfErr result (λ trouble. AsksSome (log.now ∷ [])
+        (F.asked files.old) (F.asked files.new)) }
+    ensures reason { IfErr result (IsReasonOfOne most_log_bytes (F.held files.old log.now)
+        log.now (Rose (F.faults files.old) (F.faults files.new)) ⊥) }
+{
+    match load_log(alloc, log, files) {
+        Ok(bytes) => match telling_of(alloc, log, bytes.as_slice()) {
+            Ok(telling) => Ok(telling),
+            Err(NoMemory) => Err(Trouble::NoMemory),
+        },
+        Err(trouble) => Err(trouble),
+    }
+}
+
+/// The feed of the log with these bytes, or the first line that no feed can have.
+fn telling_of(alloc: Global, log: &str, bytes: &[u8]) -> Result<Telling, NoMemory>
+    ensures { IfOk result
+        (λ telling. TellsFeed log.now bytes.now telling.text.items telling.status) }
+{
+    match refeed(alloc, bytes) {
+        Ok(feed) => Ok(Telling {
+            text: feed,
+            status: Status::Fine,
+        }),
+        Err(RefeedFault::Line(number)) => Ok(Telling {
+            text: line_text(alloc, log, number, "this is no line of a log")?,
+            status: Status::Found,
+        }),
+        Err(RefeedFault::TooLong(number)) => Ok(Telling {
+            text: line_text(alloc, log, number, "no line of a feed is so long")?,
+            status: Status::Found,
+        }),
+        Err(RefeedFault::NoMemory) => Err(NoMemory),
+    }
+}
+
+/// The number of a line of a log, and a sentence about it.
+fn line_text(alloc: Global, log: &str, number: u64, sentence: &str) -> Result<Vec<u8>, NoMemory>
+    ensures { IfOk result (λ text. text.items ≡ line_text log.now number sentence.now) }
+{
+    let text = format!(in alloc; "{log}:{number}: {sentence}\n")?;
+    Ok(text.into_bytes())
 }

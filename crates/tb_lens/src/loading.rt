@@ -1,4 +1,8 @@
 //! The files that commands read.
+ghost use Rattle.std.specs.Prelude.{◌≡◌, ◌++◌, ◌∷◌, [], IfOk, IfErr};
+ghost use Rattle.tb_edge.specs.Faults.{Rose};
+ghost use Rattle.tb_edge.specs.FilesHeld.{AsksSome};
+ghost use Rattle.tb_lens.specs.Loads.{IsHeld, IsReasonOfOne};
 
 use crate::at::MOST_BYTES;
 use crate::naming::names_of;
@@ -6,9 +10,9 @@ use crate::status::Trouble;
 use std::alloc::Global;
 use tb_body::Program;
 use tb_edge::{Bytes, Files, FilesFault, Loaded};
-use tb_place::all_places;
-use tb_plain::Names;
+use tb_log_plain::Names;
 use tb_script::{ScriptFault, load};
+use tb_source_map::all_places;
 use tb_terms::{Items, NoMemory, Text, Texts};
 
 /// A longer file of a log is rejected.
@@ -58,20 +62,31 @@ fn loaded(alloc: Global, bytes: &[u8]) -> Result<Loading, ScriptFault> {
 }
 
 /// Reads the log in the file of this name.
-pub(crate) fn load_log<F: Files>(
-    alloc: Global,
-    name: &str,
-    files: &mut F,
-) -> Result<Bytes, Trouble> {
+pub(crate) fn load_log<F: Files>(alloc: Global, name: &str, files: &mut F) -> Result<Bytes, Trouble>
+    ensures held { IfOk result (IsHeld MOST_LOG_BYTES (F.held files.old name.now)) }
+    ensures asks { IfOk result (λ bytes. F.asked files.new ≡ F.asked files.old ++ name.now ∷ []) }
+    ensures asks_some { IfErr result (λ trouble. AsksSome (name.now ∷ [])
+        (F.asked files.old) (F.asked files.new)) }
+    ensures reason { IfErr result (IsReasonOfOne MOST_LOG_BYTES (F.held files.old name.now)
+        name.now (Rose (F.faults files.old) (F.faults files.new)) ⊥) }
+{
     load_bytes(alloc, name, MOST_LOG_BYTES, files)
 }
 
+/// Reads the bytes of the file of this name, if there are at most so many.
 fn load_bytes<F: Files>(
     alloc: Global,
     name: &str,
     most: usize,
     files: &mut F,
-) -> Result<Bytes, Trouble> {
+) -> Result<Bytes, Trouble>
+    ensures held { IfOk result (IsHeld most (F.held files.old name.now)) }
+    ensures asks { IfOk result (λ bytes. F.asked files.new ≡ F.asked files.old ++ name.now ∷ []) }
+    ensures asks_some { IfErr result (λ trouble. AsksSome (name.now ∷ [])
+        (F.asked files.old) (F.asked files.new)) }
+    ensures reason { IfErr result (IsReasonOfOne most (F.held files.old name.now)
+        name.now (Rose (F.faults files.old) (F.faults files.new)) ⊥) }
+{
     match files.load(alloc, name, most) {
         Ok(Loaded::Bytes(bytes)) => Ok(bytes),
         Ok(Loaded::TooLong(_)) => Err(Trouble::TooLong(String::from_str(alloc, name)?)),

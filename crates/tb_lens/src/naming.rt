@@ -1,8 +1,8 @@
 //! The names of a script, with the places of its atoms.
 
 use std::alloc::Global;
-use tb_place::{Mark, Places, ProcessPlace, spot_at};
-use tb_plain::{Named, Names, Spot};
+use tb_log_plain::{Named, Names, Spot};
+use tb_source_map::{Mark, Places, ProcessPlace, spot_at};
 use tb_terms::{Items, NoMemory};
 
 /// The names of a script with these bytes.

@@ -6,7 +6,7 @@ use crate::source::Source;
 use crate::status::{Status, Trouble};
 use std::alloc::Global;
 use tb_edge::{Files, Sink};
-use tb_plain::Plain;
+use tb_log_plain::Plain;
 
 /// Reads a log of a script line by line, and writes each line for people.
 pub fn tell_plain<F: Files, I: Source, O: Sink>(

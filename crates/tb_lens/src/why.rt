@@ -9,12 +9,12 @@ use crate::status::{Status, Trouble};
 use clap::Command;
 use std::alloc::{AllocError, Global};
 use tb_edge::{Files, Sink};
-use tb_plain::Names;
-use tb_tell::{Seen, write_waits};
+use tb_log_plain::Names;
 use tb_terms::Texts;
 use tb_verify::{Verdict, VerifyFault, verify};
 use tb_walk::Walk;
 use tb_why::{Ending, WhyFault, why};
+use tb_why_text::{Seen, write_waits};
 
 /// How many lanes there are.
 const LANES: usize = 16;
@@ -81,6 +81,7 @@ fn put_waits<O: Sink>(
         program: &ending.core.bus().origin.program,
         names,
         standings: ending.standings.as_slice(),
+        bench: &ending.core.bus().bench,
         now: ending.ticks,
         no_ticks: ending.core.bus().marks.no_ticks,
         is_down: ending.core.bus().marks.down,

@@ -1,5 +1,5 @@
 use Rattle.std.proofs.Common.{subst}
-use Rattle.tb_point.specs.Points.{IsAnswer}
+use Rattle.tb_fault_place.specs.Points.{IsAnswer}
 use Rattle.tb_lens.proofs.Tellings.{tells_none}
 use Rattle.tb_lens.proofs.at.tell_bytes.Goals as goal
 
