@@ -96,7 +96,7 @@ written_on old mid new reply s0 s1 flows flows' it adds same w =
       sent = w.on.sent;
       whole = w.on.whole;
       marks = marks_on old w.mid new it (marks_both old mid w.mid same w.on.marks) w.ends.marks;
-      ends = ends_by (FoundFull (HandOut 1) w.mid new) (WriterFull old new (connect ∷ [])) new it (λ f. inl (found_on (HandOut 1) old w.mid new (Fed connect reply ∷ w.on.more) on.adds f)) w.ends.ends;
+      ends = ends_by (FoundFull (HandOut 1) w.mid new) (WriterFull old new (connect ∷ [])) new it (λ f. inl (refl, found_on (HandOut 1) old w.mid new (Fed connect reply ∷ w.on.more) on.adds f)) w.ends.ends;
     }
 
 -- the line was refused

@@ -40,9 +40,9 @@ PipeEnds Refused new end.Full = Refused
 PipeEnds Refused new end.Failed = ⊥
 PipeEnds Refused new end.NoMemory = Unit {0}
 
--- The log had no capacity for the next queued item, or for the connect request of the tool, which is then missing.
+-- The log had no capacity for the next queued item, once the tool has connected, or for the connect request of the tool, which is then missing.
 abbrev pub WriterFull : SeatView → SeatView → List Input → Type 0
-WriterFull old new given = FoundFull (HandOut 1) old new ⊎ ((given ≡ []) × FoundFull (HandIn connect) old new)
+WriterFull old new given = ((given ≡ connect ∷ []) × FoundFull (HandOut 1) old new) ⊎ ((given ≡ []) × FoundFull (HandIn connect) old new)
 
 -- The same for the reader: if it was the next queued item, an input was delivered for each received piece. Or it was the event of the term that was received last, or, once no more pieces come, the disconnect request. These are then missing, and none of its inputs was dropped because the bus had shut down.
 abbrev pub ReaderFull : SeatView → SeatView → List Entry → List Input → List Term → List Term → Bool → Type 0

@@ -154,12 +154,12 @@ module _ (most : ℕ) (begun done last : SeatView) (bus : TableId) (clock_old cl
 writer_refused : (bus : TableId) (begun done last : SeatView) (sent : List Piece) → (w : WritesPipe begun done [] sent end.Full) → CanServe bus begun → IsPartOf begun done last → NoRoom begun done last → WriterRefused last.origin last.seen
 writer_refused bus begun done last sent w can part found = go w.ends
   where
+    write_inputs : inputs last.seen 1 ≡ w.given
+    write_inputs = sym (inputs_own begun.rights 1 can.reads last.seen) ∙ (ap (λ (l : List Entry). inputs l 1) (own_is begun done last w.more part w.goes.adds) ∙ w.goes.given_are)
+
     go : WriterFull begun done w.given → WriterRefused last.origin last.seen
-    go (inl f) = inl (found (HandOut 1) f)
-    go (inr f) = inr (
-      sym (inputs_own begun.rights 1 can.reads last.seen) ∙ (ap (λ (l : List Entry). inputs l 1) (own_is begun done last w.more part w.goes.adds) ∙ (w.goes.given_are ∙ f.0)),
-      found (HandIn connect) f.1,
-    )
+    go (inl f) = inl (write_inputs ∙ f.0, found (HandOut 1) f.1)
+    go (inr f) = inr (write_inputs ∙ f.0, found (HandIn connect) f.1)
 
 -- the right for an input of a lane is that of the lane
 of_lane : (lane : ℕ) (rights : Rights) (it : Input) (reply : Reply) → has rights (In lane) ≡ true → is_of lane it ≡ true → has rights (right_of (Fed it reply)) ≡ true
@@ -210,8 +210,8 @@ module _ (bus others_bus : TableId) (begun done last others_begun others_done ot
   read_all : does last.seen ≡ r.told ++ (r.lost ++ (first.more ++ w.rest))
   read_all = did ∙ (ap (λ (x : List Term). x ++ w.rest) first.is ∙ (append_assoc (r.told ++ r.lost) first.more w.rest ∙ append_assoc r.told r.lost (first.more ++ w.rest)))
 
-  lines : r.given ≡ connect ∷ lines_of r.told false → inputs others_last.seen 1 ≡ connect ∷ lines_of (events others_last.seen) false
-  lines e = read_inputs ∙ (e ∙ ap (λ (ts : List Term). connect ∷ lines_of ts false) (sym read_events))
+  lines : (leaves : Bool) → r.given ≡ connect ∷ lines_of r.told leaves → inputs others_last.seen 1 ≡ connect ∷ lines_of (events others_last.seen) leaves
+  lines leaves e = read_inputs ∙ (e ∙ ap (λ (ts : List Term). connect ∷ lines_of ts leaves) (sym read_events))
 
   next : (t : Term) → r.lost ≡ t ∷ [] → does last.seen ≡ events others_last.seen ++ t ∷ (first.more ++ w.rest)
   next t e = read_all ∙ (ap (λ (x : List Term). r.told ++ (x ++ (first.more ++ w.rest))) e ∙ ap (λ (x : List Term). x ++ t ∷ (first.more ++ w.rest)) (sym read_events))
@@ -225,10 +225,10 @@ module _ (bus others_bus : TableId) (begun done last others_begun others_done ot
   let_in n d = n (subst (HasDropped (is_of 1)) (own_is others_begun others_done others_last r.more others_part r.goes.adds) (own_dropped 1 others_begun.rights others_can.reads others_last.seen d))
 
   by_reader : ReaderFull others_begun others_done r.more r.given r.told r.lost r.last → ReaderRefused last.seen others_last.origin others_last.seen
-  by_reader (inl f) = inl (found (HandOut 1) f.2)
+  by_reader (inl f) = inl (r.last, lines r.last f.1, found (HandOut 1) f.2)
   by_reader (inr (inl f)) = inr (inl (read_inputs ∙ f.0, found (HandIn connect) f.1))
-  by_reader (inr (inr (inl f))) = inr (inr (inl (record { next = f.0; rest = first.more ++ w.rest; is = next f.0 f.1; lines = lines f.3; let_in = let_in f.4; no_room = found (HandIn (event_of f.0)) f.5 })))
-  by_reader (inr (inr (inr f))) = inr (inr (inr (record { all = whole f.0 f.1; lines = lines f.2; let_in = let_in f.3; no_room = found (HandIn disconnect) f.4 })))
+  by_reader (inr (inr (inl f))) = inr (inr (inl (record { next = f.0; rest = first.more ++ w.rest; is = next f.0 f.1; lines = lines false f.3; let_in = let_in f.4; no_room = found (HandIn (event_of f.0)) f.5 })))
+  by_reader (inr (inr (inr f))) = inr (inr (inr (record { all = whole f.0 f.1; lines = lines false f.2; let_in = let_in f.3; no_room = found (HandIn disconnect) f.4 })))
 
   reader_refused : ReaderRefused last.seen others_last.origin others_last.seen
   reader_refused = by_reader r.ends
@@ -286,11 +286,11 @@ bus_full Pipe most lanes lanes' clock_old clock_new Failed origin log f (inr (in
 bus_full Pipe most lanes lanes' clock_old clock_new Failed origin log f (inr (inr (inr (inr s)))) = (MakeStep, s)
 
 writer_full : (origin : Origin) (log : List Entry) → WriterRefused origin log → WasFull origin log
-writer_full origin log (inl r) = (HandOut 1, r)
+writer_full origin log (inl r) = (HandOut 1, r.1)
 writer_full origin log (inr r) = (HandIn connect, r.1)
 
 reader_full : (one : List Entry) (origin : Origin) (log : List Entry) → ReaderRefused one origin log → WasFull origin log
-reader_full one origin log (inl r) = (HandOut 1, r)
+reader_full one origin log (inl r) = (HandOut 1, r.2)
 reader_full one origin log (inr (inl r)) = (HandIn connect, r.1)
 reader_full one origin log (inr (inr (inl r))) = (HandIn (event_of r.next), r.no_room)
 reader_full one origin log (inr (inr (inr r))) = (HandIn disconnect, r.no_room)

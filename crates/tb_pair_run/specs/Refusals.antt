@@ -36,13 +36,17 @@ pub record LeaveRefused (one : List Entry) (origin : Origin) (log : List Entry) 
   pub let_in : HasDropped (is_of 1) log → ⊥
   pub no_room : HadNoRoom (HandIn disconnect) origin log
 
--- of the worker that writes the pipe: what was to be handed out on lane 1 of the first bus, or its one input
+-- of the worker that writes the pipe: what was to be handed out on lane 1 of the first bus after its one input, or this input
 abbrev pub WriterRefused : Origin → List Entry → Type 0
-WriterRefused origin log = HadNoRoom (HandOut 1) origin log ⊎ NameRefused origin log
+WriterRefused origin log = ((inputs log 1 ≡ connect ∷ []) × HadNoRoom (HandOut 1) origin log) ⊎ NameRefused origin log
+
+-- What was to be handed out on lane 1 of the second bus: its tool has named itself, and perhaps left after its events.
+abbrev pub ItemRefused : Origin → List Entry → Type 0
+ItemRefused origin log = (leaves : Bool) × (inputs log 1 ≡ connect ∷ lines_of (events log) leaves) × HadNoRoom (HandOut 1) origin log
 
 -- of the worker that reads the pipe: what was to be handed out on lane 1 of the second bus, or one of its inputs
 abbrev pub ReaderRefused : List Entry → Origin → List Entry → Type 0
-ReaderRefused one origin log = HadNoRoom (HandOut 1) origin log ⊎ (NameRefused origin log ⊎ (EventRefused one origin log ⊎ LeaveRefused one origin log))
+ReaderRefused one origin log = ItemRefused origin log ⊎ (NameRefused origin log ⊎ (EventRefused one origin log ⊎ LeaveRefused one origin log))
 
 -- A tick: the clock gave more than the log has. The log doesn't say that no more come, and no tick was dropped since the bus was down.
 pub record TickRefused (origin : Origin) (log : List Entry) (most : ℕ) (old new : Option ClockView) : Type 0 where

@@ -7,7 +7,7 @@ ghost use Rattle.tb_lock.specs.Rights.{all_rights};
 ghost use Rattle.tb_lock.specs.Seats.{first_seat, most_seats};
 ghost use Rattle.tb_pair_run.specs.Outcomes.{PairRuns};
 ghost use Rattle.tb_pair_run.specs.Views.{pair_seen};
-ghost use Rattle.tb_pair_run.specs.Helpers.Running.{RunsFromTwo, ends_seen};
+ghost use Rattle.tb_pair_run.specs.Helpers.Running.{AreFifteen, RunsFromTwo, ends_seen};
 
 use crate::ends::PairWhy;
 use crate::working::{Bus, Came, Left, run_workers};
@@ -59,8 +59,8 @@ fn run_shared<
 where
     W::Plan: Send,
     W::Taken: Send,
-    requires inlets { (length lanes.inlets.items ≡ 15) × (length others.inlets.items ≡ 15) }
-    requires outlets { (length lanes.outlets.items ≡ 15) × (length others.outlets.items ≡ 15) }
+    requires inlets { AreFifteen lanes.inlets.items others.inlets.items }
+    requires outlets { AreFifteen lanes.outlets.items others.outlets.items }
     requires one { seat ≡ first_seat post.shared seat.origin }
     requires other { others_seat ≡ first_seat others_post.shared others_seat.origin }
     ensures runs { let seen = ends_seen I.Inlet O.Outlet C.Clock P.Crew in
@@ -70,10 +70,8 @@ where
         (seen result.lanes.inlets.items result.lanes.outlets.items
         result.others.inlets.items result.others.outlets.items clock.new crew.new)
         seat.origin others_seat.origin result.core result.others_core result.why }
-    ensures inlets { (length result.lanes.inlets.items ≡ 15)
-        × (length result.others.inlets.items ≡ 15) }
-    ensures outlets { (length result.lanes.outlets.items ≡ 15)
-        × (length result.others.outlets.items ≡ 15) }
+    ensures inlets { AreFifteen result.lanes.inlets.items result.others.inlets.items }
+    ensures outlets { AreFifteen result.lanes.outlets.items result.others.outlets.items }
 {
     let over = AtomicU32::new(0);
     let one = Bus {
@@ -126,8 +124,8 @@ fn run_second<
 where
     W::Plan: Send,
     W::Taken: Send,
-    requires inlets { (length lanes.inlets.items ≡ 15) × (length others.inlets.items ≡ 15) }
-    requires outlets { (length lanes.outlets.items ≡ 15) × (length others.outlets.items ≡ 15) }
+    requires inlets { AreFifteen lanes.inlets.items others.inlets.items }
+    requires outlets { AreFifteen lanes.outlets.items others.outlets.items }
     requires one { seat ≡ first_seat post.shared seat.origin }
     requires log { second.log ≡ [] }
     requires running { second.stopped ≡ false }
@@ -138,10 +136,8 @@ where
         (seen result.lanes.inlets.items result.lanes.outlets.items
         result.others.inlets.items result.others.outlets.items clock.new crew.new)
         seat.origin second.origin result.core result.others_core result.why }
-    ensures inlets { (length result.lanes.inlets.items ≡ 15)
-        × (length result.others.inlets.items ≡ 15) }
-    ensures outlets { (length result.lanes.outlets.items ≡ 15)
-        × (length result.others.outlets.items ≡ 15) }
+    ensures inlets { AreFifteen result.lanes.inlets.items result.others.inlets.items }
+    ensures outlets { AreFifteen result.lanes.outlets.items result.others.outlets.items }
 {
     let alloc = post.alloc;
     match Shared::make(alloc, second) {
@@ -192,8 +188,8 @@ fn run_ends<
 where
     W::Plan: Send,
     W::Taken: Send,
-    requires inlets { (length lanes.inlets.items ≡ 15) × (length others.inlets.items ≡ 15) }
-    requires outlets { (length lanes.outlets.items ≡ 15) × (length others.outlets.items ≡ 15) }
+    requires inlets { AreFifteen lanes.inlets.items others.inlets.items }
+    requires outlets { AreFifteen lanes.outlets.items others.outlets.items }
     requires log { first.log ≡ [] }
     requires other_log { second.log ≡ [] }
     requires running { first.stopped ≡ false }
@@ -205,10 +201,8 @@ where
         (seen result.lanes.inlets.items result.lanes.outlets.items
         result.others.inlets.items result.others.outlets.items clock.new crew.new)
         first.origin second.origin result.core result.others_core result.why }
-    ensures inlets { (length result.lanes.inlets.items ≡ 15)
-        × (length result.others.inlets.items ≡ 15) }
-    ensures outlets { (length result.lanes.outlets.items ≡ 15)
-        × (length result.others.outlets.items ≡ 15) }
+    ensures inlets { AreFifteen result.lanes.inlets.items result.others.inlets.items }
+    ensures outlets { AreFifteen result.lanes.outlets.items result.others.outlets.items }
 {
     match Shared::make(alloc, first) {
         Ok((shared, seat)) => {

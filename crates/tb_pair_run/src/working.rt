@@ -10,7 +10,7 @@ ghost use Rattle.tb_run.specs.Parting.{parted};
 ghost use Rattle.tb_pair.specs.declared.piece.Piece.{Piece};
 ghost use Rattle.tb_pair_run.specs.Helpers.Parts.{lane_rights, pipe_seat_of, tick_seat_of, rest_of};
 ghost use Rattle.tb_pair_run.specs.Helpers.Reasons.{bus_why, no_crew, pair_why};
-ghost use Rattle.tb_pair_run.specs.Helpers.Running.{CanFinish, CanGather, HasCome, ends_seen};
+ghost use Rattle.tb_pair_run.specs.Helpers.Running.{AreFifteen, CanFinish, CanGather, HasCome, ends_seen};
 
 use crate::crewing::{Back, Crowd, Lists, work};
 use crate::ending::{bus_why, no_crew, pair_why};
@@ -74,10 +74,8 @@ pub(crate) fn run_workers<
 where
     W::Plan: Send,
     W::Taken: Send,
-    requires inlets { (length one.lanes.inlets.items ≡ 15)
-        × (length other.lanes.inlets.items ≡ 15) }
-    requires outlets { (length one.lanes.outlets.items ≡ 15)
-        × (length other.lanes.outlets.items ≡ 15) }
+    requires inlets { AreFifteen one.lanes.inlets.items other.lanes.inlets.items }
+    requires outlets { AreFifteen one.lanes.outlets.items other.lanes.outlets.items }
     requires one { one.seat ≡ first_seat one.post.now.shared one.seat.origin }
     requires other { other.seat ≡ first_seat other.post.now.shared other.seat.origin }
     ensures come { let seen = ends_seen I.Inlet O.Outlet C.Clock P.Crew in
@@ -87,10 +85,8 @@ where
         (seen result.one.lanes.inlets.items result.one.lanes.outlets.items
         result.other.lanes.inlets.items result.other.lanes.outlets.items clock.new crew.new)
         one.entry.seat result.one.seat other.entry.seat result.other.seat result.why }
-    ensures inlets { (length result.one.lanes.inlets.items ≡ 15)
-        × (length result.other.lanes.inlets.items ≡ 15) }
-    ensures outlets { (length result.one.lanes.outlets.items ≡ 15)
-        × (length result.other.lanes.outlets.items ≡ 15) }
+    ensures inlets { AreFifteen result.one.lanes.inlets.items result.other.lanes.inlets.items }
+    ensures outlets { AreFifteen result.one.lanes.outlets.items result.other.lanes.outlets.items }
 {
     let Bus { post, seat, lanes } = one;
     let Bus {
@@ -139,10 +135,8 @@ fn run_stocked<
 where
     W::Plan: Send,
     W::Taken: Send,
-    requires inlets { (length one.lanes.inlets.items ≡ 15)
-        × (length other.lanes.inlets.items ≡ 15) }
-    requires outlets { (length one.lanes.outlets.items ≡ 15)
-        × (length other.lanes.outlets.items ≡ 15) }
+    requires inlets { AreFifteen one.lanes.inlets.items other.lanes.inlets.items }
+    requires outlets { AreFifteen one.lanes.outlets.items other.lanes.outlets.items }
     requires one { one.seat ≡ first_seat one.post.now.shared one.seat.origin }
     requires other { other.seat ≡ first_seat other.post.now.shared other.seat.origin }
     ensures come { let seen = ends_seen I.Inlet O.Outlet C.Clock P.Crew in
@@ -152,10 +146,8 @@ where
         (seen result.one.lanes.inlets.items result.one.lanes.outlets.items
         result.other.lanes.inlets.items result.other.lanes.outlets.items clock.new crew.new)
         one.entry.seat result.one.seat other.entry.seat result.other.seat result.why }
-    ensures inlets { (length result.one.lanes.inlets.items ≡ 15)
-        × (length result.other.lanes.inlets.items ≡ 15) }
-    ensures outlets { (length result.one.lanes.outlets.items ≡ 15)
-        × (length result.other.lanes.outlets.items ≡ 15) }
+    ensures inlets { AreFifteen result.one.lanes.inlets.items result.other.lanes.inlets.items }
+    ensures outlets { AreFifteen result.one.lanes.outlets.items result.other.lanes.outlets.items }
 {
     joins_keep_their_own();
     a_bus_that_is_down_stays_down();
@@ -405,10 +397,8 @@ fn settle<'a, W: Walker, I: Inlet, O: Outlet>(
         (map (λ it. it.end) back.entry.crowd.others.items))
         back.entry.ticked.end back.entry.ticked.others_end)
         (λ it. result.why ≡ no_crew it) }
-    ensures inlets { (length result.one.lanes.inlets.items ≡ 15)
-        × (length result.other.lanes.inlets.items ≡ 15) }
-    ensures outlets { (length result.one.lanes.outlets.items ≡ 15)
-        × (length result.other.lanes.outlets.items ≡ 15) }
+    ensures inlets { AreFifteen result.one.lanes.inlets.items result.other.lanes.inlets.items }
+    ensures outlets { AreFifteen result.one.lanes.outlets.items result.other.lanes.outlets.items }
 {
     let Back {
         failed,

@@ -21,6 +21,10 @@ abbrev pub ends_seen : {I T C P : Type 0} → InletTells I → OutletTells T →
 ends_seen inlet outlet clock crew inlets outlets others_inlets others_outlets c p =
     pair_of (views inlet.told inlet.faults outlet.told outlet.faults inlets outlets) (views inlet.told inlet.faults outlet.told outlet.faults others_inlets others_outlets) (clock.told c) (clock.faults c) (crew.faults p)
 
+-- the ends of lanes 2 to 16 of both buses
+abbrev pub AreFifteen : {A B : Type 0} → List A → List B → Type 0
+AreFifteen ends others = (length ends ≡ 15) × (length others ≡ 15)
+
 -- with lane 1 of each bus
 abbrev pub with_first : LaneView → LaneView → PairView → PairView
 with_first lane other view = pair_of (lane ∷ view.lanes) (other ∷ view.others) view.clock view.clock_faults view.crew_faults
