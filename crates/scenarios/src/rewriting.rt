@@ -30,11 +30,7 @@ fn command_text(alloc: Global, command: &Command) -> Result<String, NoMemory> {
             steps,
             events,
         } => {
-            let mut text = format!(in alloc; "sim {}", script.as_str())?;
-            if let Some(feed) = feed {
-                write!(text, ", feed {}", feed.as_str())?;
-            }
-            write_connects(connects, &mut text)?;
+            let mut text = sim_text(alloc, script, feed, connects)?;
             write!(text, ", {steps} steps, {events} entries")?;
             Ok(text)
         }
@@ -63,6 +59,21 @@ fn command_text(alloc: Global, command: &Command) -> Result<String, NoMemory> {
         }
         Command::Ring { n, k } => Ok(format!(in alloc; "ring {n} {k}")?),
     }
+}
+
+/// The part of a simulation's text that names files and commands.
+fn sim_text(
+    alloc: Global,
+    script: &Text,
+    feed: &Option<Text>,
+    connects: &Texts,
+) -> Result<String, NoMemory> {
+    let mut text = format!(in alloc; "sim {}", script.as_str())?;
+    if let Some(feed) = feed {
+        write!(text, ", feed {}", feed.as_str())?;
+    }
+    write_connects(connects, &mut text)?;
+    Ok(text)
 }
 
 fn write_connects(connects: &Texts, text: &mut String) -> Result<(), NoMemory> {

@@ -1,5 +1,5 @@
 //! Lanes on which child programs stand as tools: what they write comes from the inlet, and what is put to the outlet
-//! they read. Nothing is told of what a real child gives or takes.
+//! they read. Nothing is told of what a real child gives or takes. The crate also reads the program's own command line.
 #![tactic(auto)]
 
 mod arrivals;
@@ -9,7 +9,9 @@ mod outlet;
 mod pipes;
 mod ready;
 mod starting;
+mod words;
 
 pub use inlet::ChildInlet;
 pub use outlet::ChildOutlet;
 pub use pipes::{ChildPair, child_lanes, child_pair};
+pub use words::command_words;

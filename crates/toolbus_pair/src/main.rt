@@ -4,10 +4,8 @@
 
 ghost use Rattle.std.specs.Prelude.{vec_len};
 
-use std::io::ErrorKind;
 use std::process::ExitCode;
-use std::{env, io};
-use tb_child::{ChildPair, child_lanes};
+use tb_child::{ChildPair, child_lanes, command_words};
 use tb_edge::{LanePair, RealClock, RealFiles, RealSink, ThreadCrew};
 use tb_pair_top::{PairStatus, pair};
 
@@ -15,7 +13,7 @@ use tb_pair_top::{PairStatus, pair};
 const LANES: usize = 16;
 
 fn main(rt: HostRuntime) -> ExitCode {
-    let Ok(words) = words(&rt) else {
+    let Ok(words) = command_words(&rt) else {
         return ExitCode::from(PairStatus::NoMemory.number());
     };
     let (Ok(pairs), Ok(others)) = (
@@ -68,24 +66,4 @@ fn main(rt: HostRuntime) -> ExitCode {
         &mut crew,
     );
     ExitCode::from(status.number())
-}
-
-/// The words of the command line, without the program's name. Where one isn't UTF-8, a word that is
-/// no string stands for all of them.
-fn words(rt: &HostRuntime) -> io::Result<Vec<String>> {
-    match env::args(rt) {
-        Ok(all) => {
-            let mut words = Vec::new(rt.alloc());
-            for word in all.skip(1) {
-                words.push(word)?;
-            }
-            Ok(words)
-        }
-        Err(fault) if fault.kind() == ErrorKind::InvalidData => {
-            let mut words = Vec::new(rt.alloc());
-            words.push(String::from_str(rt.alloc(), "\0")?)?;
-            Ok(words)
-        }
-        Err(fault) => Err(fault),
-    }
 }
