@@ -1,6 +1,6 @@
 # The commands for developers. hello, quick, build, and test need rt of the Rattle kit. The others need the built program. All but hello,
 # build, test, and install need Python 3. bench and faults also need a C compiler. quick, faults, hostile, and soak need Linux.
-.PHONY: hello quick build test test-tools install uninstall pages order examples kits at lens why installed bench walkers faults hostile soak
+.PHONY: hello quick build test test-tools install uninstall pages order examples kits at lens why installed bench walkers model faults hostile soak
 
 SCRIPT := $(CURDIR)/examples/hello.tb
 PROGRAM := $(CURDIR)/crates/toolbus/out/toolbus
@@ -109,6 +109,10 @@ bench:
 walkers:
 	bench/walkers
 	bench/walkers --verify "$(PROGRAM)"
+
+# Compares simulations, toolbus_lens why, and charts with a small model of the rules, with tools and notes, on random scripts. Some minutes.
+model:
+	tests/model/run "$(PROGRAM)" "$(LENS)"
 
 # Rejects each memory request of the built program in turn, for the table of docs/FAULTS.md. Some minutes.
 faults:
