@@ -35,6 +35,8 @@ STYLES = {
     "Erlang": Style("#a2330a", "9 4", "square"),
     "Go": Style("#0b5d8f", "2 4", "triangle"),
     "D-Bus": Style("#4b2e83", "10 4 2 4", "diamond"),
+    "MQTT": Style("#7a5200", "14 5", "plus"),
+    "NATS": Style("#1b6b3a", "6 3 2 3 2 3", "valley"),
 }
 OTHER = Style("#555555", "4 3", "cross")
 
@@ -110,6 +112,11 @@ def mark(x, y, style):
         return polygon([(x - MARK, y - MARK), (x + MARK, y - MARK), (x + MARK, y + MARK), (x - MARK, y + MARK)], style)
     if style.mark == "triangle":
         return polygon([(x, y - MARK - 1), (x + MARK + 1, y + MARK), (x - MARK - 1, y + MARK)], style)
+    if style.mark == "valley":
+        return polygon([(x, y + MARK + 1), (x + MARK + 1, y - MARK), (x - MARK - 1, y - MARK)], style)
+    if style.mark == "plus":
+        arm = MARK + 1.5
+        return f'<path d="M{x - arm:.1f} {y:.1f}h{2 * arm}M{x:.1f} {y - arm:.1f}v{2 * arm}" stroke="{style.colour}" stroke-width="2"/>'
     if style.mark == "diamond":
         return polygon([(x, y - MARK - 1.5), (x + MARK + 1.5, y), (x, y + MARK + 1.5), (x - MARK - 1.5, y)], style)
     return (f'<path d="M{x - MARK:.1f} {y - MARK:.1f}l{2 * MARK} {2 * MARK}m0 {-2 * MARK}l{-2 * MARK} {2 * MARK}"'

@@ -1,13 +1,5 @@
 /* How many trips a pair makes. */
-#include <stdio.h>
-#include <time.h>
-
-static long long nanoseconds(void)
-{
-    struct timespec now;
-    clock_gettime(CLOCK_MONOTONIC, &now);
-    return now.tv_sec * 1000000000LL + now.tv_nsec;
-}
+#include "rate.h"
 
 /* Makes trips for so many milliseconds. `has_square` asks for the square of a number, and tells whether that came. Appends a line to the
    file: how many trips it made, and in how many nanoseconds. Gives 0, or 1 after an error. */
@@ -17,9 +9,5 @@ static int put_trips(int (*has_square)(void *, long long), void *way, long milli
     for (; now - begun < milliseconds * 1000000LL; now = nanoseconds(), trips++)
         if (!has_square(way, trips % 1000))
             return 1;
-    FILE *file = fopen(path, "a");
-    if (!file)
-        return 1;
-    fprintf(file, "%lld %lld\n", trips, now - begun);
-    return fclose(file) == 0 ? 0 : 1;
+    return put_rate(path, trips, now - begun);
 }
