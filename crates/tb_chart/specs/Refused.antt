@@ -1,4 +1,4 @@
--- Why a log has no chart: one of its lines names a process, a tool, or a lane that isn't there.
+-- Why a log has no chart: one of its lines names a process or a lane that isn't there, or is a step of a tool.
 use Rattle.std.specs.Prelude.{◌≡◌, ◌⊎◌, ℕ, ◌+◌, ◌^◌, ◌<◌, ◌&&◌, ◌++◌, ◌∷◌, nat_le, Bool, false, List, length, Option, Some, None, IsTrue, ⊤}
 use Rattle.std.specs.List.{list_any}
 use Rattle.std.specs.Str.{bytes_eq}

@@ -38,7 +38,7 @@ pub struct Chart<'a> {
 }
 
 /// Returns the chart of the entries in the span. The entries before it only say who is there. A fault names an entry with a
-/// process, a tool, or a lane that isn't there.
+/// process or a lane that isn't there, or a step of a tool. The code rejects a step of a tool only if the tool isn't there.
 pub fn chart_of<'a>(
     alloc: Global,
     cast: &Cast,
