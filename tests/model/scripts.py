@@ -28,6 +28,8 @@ WITH_TOOLS = {
 OFTEN_POSSIBLE = {
     "tau", "snd-note", "no-note", "subscribe", "unsubscribe", "create", "execute", "snd-do", ":=", "printf", "shutdown",
 }
+# Some of these atoms have a delay, so that one side of a message waits for the other.
+MESSAGES = {"snd-msg", "rec-msg"}
 TIMES = ("delay", "timeout", "abs-delay", "abs-timeout")
 OPERATORS = {".": 9, "+": 5, "*": 4, "||": 4, ">>": 3, "if": 2}
 LETTERS = "abc"
@@ -134,7 +136,8 @@ class Maker:
 
     def act(self, word: str) -> Act:
         """An atom with random arguments, and sometimes with times."""
-        times: list[tuple[str, Expr]] = [("delay", 1 + self.below(3))] if self.is_repeated and word in OFTEN_POSSIBLE else []
+        is_late = self.is_repeated and word in OFTEN_POSSIBLE or word in MESSAGES and self.happens(0.2)
+        times: list[tuple[str, Expr]] = [("delay", 1 + self.below(3))] if is_late else []
         while len(times) < 2 and self.happens(0.2):
             times.append((self.random.choice(TIMES), self.below(5) if self.happens(0.8) else Variable("K")))
         return Act(word, tuple(self.args(word)), tuple(times))
