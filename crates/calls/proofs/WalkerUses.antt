@@ -8,12 +8,12 @@ use Rattle.tb_func.specs.Stores.{fresh_slot}
 use Rattle.tb_func.specs.declared.slot.Slot.{Slot}
 use Rattle.tb_match.specs.declared.bind.Bind.{Bind}
 use Rattle.tb_body.specs.declared.atom.Atom.{Atom}
-use Rattle.tb_algebra.specs.Atoms.{act_of, matched_exprs}
-use Rattle.tb_algebra.specs.Binds.{takes_binds}
-use Rattle.tb_algebra.specs.Offers.{Offered}
-use Rattle.tb_algebra.specs.Walks.{Walking, offers_of, accepted_by, fired, sorts_of}
-use Rattle.tb_algebra.proofs.Sorts.{sorts-fresh}
-use Rattle.tb_algebra.proofs.Taken.{binds-taken}
+use Rattle.tb_process_steps.specs.Atoms.{act_of, matched_exprs}
+use Rattle.tb_process_steps.specs.Binds.{takes_binds}
+use Rattle.tb_process_steps.specs.Offers.{Offered}
+use Rattle.tb_process_steps.specs.Walks.{Walking, offers_of, accepted_by, fired, sorts_of}
+use Rattle.tb_process_steps.proofs.Sorts.{sorts-fresh}
+use Rattle.tb_process_steps.proofs.Taken.{binds-taken}
 
 pub bound_taken : (atoms : List Atom) (ts : List Term) (offers : List Offered) (k : ℕ) (given : Option (List Bind)) (binds : List Bind) (x : Offered) → given ≡ option_and_then (accepted_by atoms ts) (slice_get offers k) → given ≡ Some binds → slice_get offers k ≡ Some x → IsTrue (takes_binds x.store binds)
 bound_taken atoms ts offers k given binds x e is here =

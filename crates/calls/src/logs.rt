@@ -4,10 +4,10 @@ use crate::fault::Fault;
 use crate::texts::{one, said};
 use std::alloc::Global;
 use tb_feed::{Feed, FeedFault, read_feed};
-use tb_lane::read_tool_line;
 use tb_log::{Entry, Input, Reply, ToolLine, is_in_shape, write_entry};
 use tb_log_read::{LogFault, Numbered, read_entry, read_log};
 use tb_terms::{NoMemory, write_term, write_terms};
+use tb_tool_line::read_tool_line;
 
 pub(crate) fn answer(
     alloc: Global,

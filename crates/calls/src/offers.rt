@@ -8,11 +8,11 @@ use crate::texts::{
 };
 use crate::walkers::{count_bound, explored, seen_after};
 use std::alloc::Global;
-use tb_algebra::{Rewriter, is_ready};
 use tb_body::{Act, Body, Program};
 use tb_code::{Code, Span, compile};
 use tb_func::{Store, eval, pattern};
 use tb_match::{Binds, copy_binds, match_list, match_term};
+use tb_process_steps::{Rewriter, is_ready};
 use tb_script::{ScriptFault, load};
 use tb_terms::{
     Expr, Exprs, Items, NoMemory, Patterns, Sort, Terms, copy_patterns, has_sort, initial,

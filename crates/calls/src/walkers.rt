@@ -1,14 +1,14 @@
 //! Walkers of any kind, taken through their moves.
 ghost use Rattle.std.specs.Prelude.{◌≡◌, ◌<◌, ◌≤◌, IfOk, IfSome, IsTrue, OnOk, is_some, slice_get, ◌+◌, ◌*◌};
 ghost use Rattle.std.specs.Option.{ForSome};
-ghost use Rattle.tb_algebra.specs.Binds.{takes_binds};
-ghost use Rattle.tb_algebra.specs.Walks.{offers_of};
+ghost use Rattle.tb_process_steps.specs.Binds.{takes_binds};
+ghost use Rattle.tb_process_steps.specs.Walks.{offers_of};
 
 use std::alloc::Global;
-use tb_algebra::Walker;
 use tb_body::Body;
 use tb_func::Store;
 use tb_match::Binds;
+use tb_process_steps::Walker;
 use tb_terms::{Items, NoMemory, Term, Terms, write_terms};
 
 /// How many moves a process makes at most.

@@ -4,10 +4,10 @@ ghost use Rattle.std.specs.Prelude.{◌≡◌, [], false};
 
 use std::alloc::Global;
 use std::fs;
-use tb_algebra::{Rewriter, Walker};
 use tb_body::Program;
 use tb_core::Core;
 use tb_feed::Feed;
+use tb_process_steps::{Rewriter, Walker};
 use tb_script::load;
 use tb_sim::simulate;
 use tb_terms::{Items, NoMemory};

@@ -2,12 +2,12 @@
 
 use crate::case::Case;
 use std::alloc::Global;
-use tb_algebra::Rewriter;
 use tb_body::Program;
 use tb_cli::{Command, read_words};
 use tb_core::Core;
 use tb_feed::{Feed, read_feed};
 use tb_log::write_seen;
+use tb_process_steps::Rewriter;
 use tb_script::load;
 use tb_sim::simulate;
 use tb_terms::{NoMemory, Text, Texts};

@@ -17,9 +17,9 @@ use Rattle.tb_body.specs.declared.program.Root.{Root}
 use Rattle.tb_body.specs.declared.program.Tool.{Tool as ToolKind}
 use Rattle.tb_body.specs.Programs.{have_sorts, starts, is_root_in_range, is_program_in_range}
 use Rattle.tb_notes.specs.Inboxes.{Held, nothing, subscribed, unsubscribed, wants, with_note, without_note}
-use Rattle.tb_algebra.specs.Processes.{Process, fresh}
-use Rattle.tb_algebra.specs.Binds.{with_binds}
-use Rattle.tb_algebra.specs.Offers.{Offered}
+use Rattle.tb_process_steps.specs.Processes.{Process, fresh}
+use Rattle.tb_process_steps.specs.Binds.{with_binds}
+use Rattle.tb_process_steps.specs.Offers.{Offered}
 use Rattle.tb_log.specs.declared.entry.Input.{Input}
 use Rattle.tb_log.specs.declared.entry.Input.TheVariants.{Tick, NoTicks, Line, Gone, Cut}
 use Rattle.tb_log.specs.declared.entry.Reply.TheVariants.{Dropped}

@@ -20,11 +20,11 @@ use Rattle.tb_match.specs.Matches.{match_list}
 use Rattle.tb_body.specs.declared.body.Body.{Body}
 use Rattle.tb_body.specs.declared.program.Tool.{Tool as ToolKind}
 use Rattle.tb_terms.specs.Sizes.{is_within_limits}
-use Rattle.tb_algebra.specs.Atoms.{patterns_of}
-use Rattle.tb_algebra.specs.Binds.{has_slot_sort, takes_bind, takes_binds}
-use Rattle.tb_algebra.specs.Walks.{sorts_of}
-use Rattle.tb_algebra.proofs.Sorts.{sort_at-sorts_of}
-use Rattle.tb_algebra.proofs.Taken.{binds-taken}
+use Rattle.tb_process_steps.specs.Atoms.{patterns_of}
+use Rattle.tb_process_steps.specs.Binds.{has_slot_sort, takes_bind, takes_binds}
+use Rattle.tb_process_steps.specs.Walks.{sorts_of}
+use Rattle.tb_process_steps.proofs.Sorts.{sort_at-sorts_of}
+use Rattle.tb_process_steps.proofs.Taken.{binds-taken}
 use Rattle.tb_log.specs.Shapes.{IsLane}
 use Rattle.tb_tools.specs.declared.stage.Stage.{Stage}
 use Rattle.tb_tools.specs.declared.stage.Stage.TheVariants.{Waiting, Leaving}

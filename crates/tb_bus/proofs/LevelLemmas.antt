@@ -29,11 +29,11 @@ use Rattle.tb_match.specs.Joining.{bound, agreed, with_bind, joined, both}
 use Rattle.tb_match.specs.Matches.{Matching, match_all, match_appl, match_members, binds_if, match_step, match_term, match_list}
 use Rattle.tb_match.proofs.Grouping.{both_steps, agreed_same}
 use Rattle.tb_body.specs.declared.tree.Setting.{Setting}
-use Rattle.tb_algebra.specs.Processes.{Process, At, Seq, Alt, Star, Par, Disrupt, If, When, Let}
-use Rattle.tb_algebra.specs.Offers.{Offered, before, on_the_left, on_the_right, in_wait, offers}
-use Rattle.tb_algebra.specs.Settings.{given_by, well_sorted, start_value, tested, with_settings}
-use Rattle.tb_algebra.specs.Binds.{with_binds}
-use Rattle.tb_algebra.proofs.Offering.{if-all, after-all}
+use Rattle.tb_process_steps.specs.Processes.{Process, At, Seq, Alt, Star, Par, Disrupt, If, When, Let}
+use Rattle.tb_process_steps.specs.Offers.{Offered, before, on_the_left, on_the_right, in_wait, offers}
+use Rattle.tb_process_steps.specs.Settings.{given_by, well_sorted, start_value, tested, with_settings}
+use Rattle.tb_process_steps.specs.Binds.{with_binds}
+use Rattle.tb_process_steps.proofs.Offering.{if-all, after-all}
 use Rattle.tb_bus.specs.Waiting.{IsShallow, IsShallowStore}
 
 -- the term that a limit lets through

@@ -10,10 +10,10 @@ use Rattle.tb_func.specs.declared.slot.Slot.{Slot}
 use Rattle.tb_match.specs.declared.bind.Bind.{Bind}
 use Rattle.tb_body.specs.declared.body.Body.{Body}
 use Rattle.tb_body.specs.declared.program.Root.{Root}
-use Rattle.tb_algebra.specs.Processes.{Process, fresh}
-use Rattle.tb_algebra.specs.Binds.{with_binds}
-use Rattle.tb_algebra.specs.Offers.{Offered}
-use Rattle.tb_algebra.specs.Reached.{Reaches as IsLedTo, entered}
+use Rattle.tb_process_steps.specs.Processes.{Process, fresh}
+use Rattle.tb_process_steps.specs.Binds.{with_binds}
+use Rattle.tb_process_steps.specs.Offers.{Offered}
+use Rattle.tb_process_steps.specs.Reached.{Reaches as IsLedTo, entered}
 use Rattle.tb_notes.specs.Inboxes.{nothing}
 use Rattle.tb_bus.specs.declared.origin.Origin.{Origin}
 use Rattle.tb_bus.specs.Buses.{Bus, Proc, start, opened, opened_one, opening_store, proc_left}

@@ -23,8 +23,8 @@ use Rattle.tb_body.specs.declared.program.Program.{Program}
 use Rattle.tb_body.specs.declared.program.Root.{Root}
 use Rattle.tb_body.specs.InRange.{is_body_in_range}
 use Rattle.tb_body.specs.Programs.{is_program_in_range}
-use Rattle.tb_algebra.specs.Processes.{Process, At, Seq, Alt, fresh}
-use Rattle.tb_algebra.specs.Atoms.{values_together, patterns_of}
+use Rattle.tb_process_steps.specs.Processes.{Process, At, Seq, Alt, fresh}
+use Rattle.tb_process_steps.specs.Atoms.{values_together, patterns_of}
 use Rattle.tb_match.specs.Matches.{match_list}
 use Rattle.tb_notes.specs.Inboxes.{Held, nothing}
 use Rattle.tb_tools.specs.Lanes.{opening}

@@ -26,9 +26,9 @@ use Rattle.tb_body.specs.declared.atom.Atom.{Atom}
 use Rattle.tb_body.specs.declared.atom.Time.{Time}
 use Rattle.tb_body.specs.declared.body.Body.{Body}
 use Rattle.tb_body.specs.declared.tree.Tree.{Tree}
-use Rattle.tb_algebra.specs.Atoms.{act_of, act_in, times_of, is_ready, limited_together, values_together, patterns_of}
-use Rattle.tb_algebra.specs.Binds.{takes_bind}
-use Rattle.tb_algebra.specs.Offers.{Offered}
+use Rattle.tb_process_steps.specs.Atoms.{act_of, act_in, times_of, is_ready, limited_together, values_together, patterns_of}
+use Rattle.tb_process_steps.specs.Binds.{takes_bind}
+use Rattle.tb_process_steps.specs.Offers.{Offered}
 use Rattle.tb_log.specs.Limits.{terms_size}
 use Rattle.tb_log.specs.Shapes.{AreParts}
 use Rattle.tb_bus.specs.Actions.{set_action, print_action, notify_action, take_note_action, no_note_action, subscribe_action, unsubscribe_action, create_action, speak_by, speak_about, shutdown_action, action_in, action_if, action_of}

@@ -2,7 +2,7 @@
 use Rattle.std.proofs.Common.{◌+◌, ◌<◌, ℕ, List, [], ◌∷◌, map}
 use Rattle.std.proofs.lemmas.List.Elements.{All-map, All-weaker}
 use Rattle.tb_body.specs.declared.body.Body.{Body}
-use Rattle.tb_algebra.specs.Reached.{grew_older}
+use Rattle.tb_process_steps.specs.Reached.{grew_older}
 use Rattle.tb_bus.specs.Buses.{Bus, Proc}
 use Rattle.tb_bus.specs.Traces.{aged_proc}
 use Rattle.tb_bus.proofs.OrderLemmas.{Ascend, IsLed, InOrder}

@@ -7,7 +7,7 @@ use Rattle.tb_body.specs.declared.atom.Atom.{Atom}
 use Rattle.tb_body.specs.declared.body.Body.{Body}
 use Rattle.tb_body.specs.declared.program.Program.{Program}
 use Rattle.tb_body.specs.declared.program.Root.{Root}
-use Rattle.tb_algebra.specs.Processes.{Process, fresh}
+use Rattle.tb_process_steps.specs.Processes.{Process, fresh}
 use Rattle.tb_notes.specs.Inboxes.{Held, nothing}
 use Rattle.tb_tools.specs.Lanes.{BenchState, opening}
 use Rattle.tb_bus.specs.declared.origin.Origin.{Origin}

@@ -3,7 +3,7 @@ use Rattle.std.specs.Prelude.{ℕ, ◌==◌, ◌&&◌, List, length, Bool, false
 use Rattle.tb_terms.specs.declared.term.Term.{Term}
 use Rattle.tb_body.specs.declared.body.Body.{Body}
 use Rattle.tb_body.specs.Programs.{have_sorts}
-use Rattle.tb_algebra.specs.Binds.{has_slot_sort}
+use Rattle.tb_process_steps.specs.Binds.{has_slot_sort}
 
 -- the values have the sorts of the body's formals
 abbrev pub fits_formals : Option Body → List Term → Bool

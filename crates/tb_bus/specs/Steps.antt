@@ -5,8 +5,8 @@ use Rattle.tb_terms.specs.declared.term.Term.{Term}
 use Rattle.tb_terms.specs.declared.term.Term.TheVariants.{Appl}
 use Rattle.tb_match.specs.declared.bind.Bind.{Bind}
 use Rattle.tb_match.specs.Matches.{match_list}
-use Rattle.tb_algebra.specs.Binds.{with_binds}
-use Rattle.tb_algebra.specs.Offers.{Offered, offers}
+use Rattle.tb_process_steps.specs.Binds.{with_binds}
+use Rattle.tb_process_steps.specs.Offers.{Offered, offers}
 use Rattle.tb_bus.specs.Buses.{Bus, Proc, atoms_of, proc_left}
 use Rattle.tb_bus.specs.Actions.{action_of}
 use Rattle.tb_bus.specs.Effects.{Effect, effect_of, changed, went_down}

@@ -3,7 +3,7 @@ use Rattle.std.specs.Prelude.{◌≡◌, ℕ, ◌+◌, map, List, [], ◌∷◌,
 use Rattle.std.specs.List.{list_any}
 use Rattle.std.specs.Str.{bytes_eq}
 use Rattle.tb_terms.specs.Same.{is_same}
-use Rattle.tb_algebra.specs.Processes.{aged}
+use Rattle.tb_process_steps.specs.Processes.{aged}
 use Rattle.tb_log.specs.Shapes.{IsInputInShape, IsLane}
 use Rattle.tb_body.specs.declared.program.Tool.{Tool}
 use Rattle.tb_tools.specs.Acts.{handed_out}

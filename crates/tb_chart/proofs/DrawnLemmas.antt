@@ -5,9 +5,10 @@ use Rattle.std.proofs.lemmas.Bool.{lt-ltb, ltb-true}
 use Rattle.std.proofs.Math.Seq.{take-length}
 use Rattle.std.proofs.lemmas.List.{length-take-le, take_more}
 use Rattle.std.proofs.lemmas.List.Elements.{All-cons, All-nil}
+use Rattle.tb_log.specs.Lanes.{is_tick}
 use Rattle.tb_chart.specs.declared.drawn.Drawn.{Drawn}
 use Rattle.tb_chart.specs.declared.row.Row.{Row}
-use Rattle.tb_chart.specs.Drawn.{are_ticks, before_lines, drawn_from, is_tick, joined, own_line}
+use Rattle.tb_chart.specs.Drawn.{are_ticks, before_lines, drawn_from, joined, own_line}
 use Rattle.tb_chart.specs.Helpers.Additions.{HasFewTicks, after_lines}
 
 -- the last line joins, or not

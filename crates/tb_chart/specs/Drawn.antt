@@ -1,25 +1,8 @@
 -- The lines that are drawn of a chart, in the order of its rows: each row is one, and ticks with no other row between them are one.
-use Rattle.std.specs.Prelude.{ℕ, ◌+◌, nat_lt, Bool, true, false, ◌&&◌, List, [], ◌∷◌, if◌then◌else◌}
-use Rattle.tb_log.specs.declared.entry.Input.{Input}
-use Rattle.tb_log.specs.declared.entry.Input.TheVariants as input
-use Rattle.tb_log.specs.declared.entry.Entry.{Entry}
-use Rattle.tb_log.specs.declared.entry.Entry.TheVariants.{Did, Quiet, Fed, Gave}
+use Rattle.std.specs.Prelude.{ℕ, ◌+◌, nat_lt, Bool, ◌&&◌, List, [], ◌∷◌, if◌then◌else◌}
+use Rattle.tb_log.specs.Lanes.{is_tick}
 use Rattle.tb_chart.specs.declared.drawn.Drawn.{Drawn}
 use Rattle.tb_chart.specs.declared.row.Row.{Row}
-
-abbrev pub is_tick_input : Input → Bool
-is_tick_input input.Tick = true
-is_tick_input input.NoTicks = false
-is_tick_input (input.Line lane line) = false
-is_tick_input (input.Gone lane) = false
-is_tick_input (input.Cut lane) = false
-
--- an entry is a tick
-abbrev pub is_tick : Entry → Bool
-is_tick (Did label) = false
-is_tick Quiet = false
-is_tick (Fed input reply) = is_tick_input input
-is_tick (Gave lane out) = false
 
 -- the row at an index, as a line of its own
 abbrev pub own_line : ℕ → Row → Drawn

@@ -1,6 +1,7 @@
 //! The rows as they are drawn: ticks with no other row between them share one line.
 ghost use Rattle.std.specs.Prelude.{◌≡◌, ◌+◌, ◌<◌, ◌^◌, ◌++◌, ◌∷◌, [], All, IfNone, IfOk, IfSome, OnOk, length, slice_index_or, slice_set};
-ghost use Rattle.tb_chart.specs.Drawn.{are_ticks, drawn_from, is_tick, is_tick_input, joined, own_line};
+ghost use Rattle.tb_log.specs.Lanes.{is_tick, is_tick_input};
+ghost use Rattle.tb_chart.specs.Drawn.{are_ticks, drawn_from, joined, own_line};
 ghost use Rattle.tb_chart.specs.Helpers.Additions.{HasFewTicks, JoinsAt, after_lines};
 
 use crate::chart::Chart;

@@ -5,7 +5,7 @@ use Rattle.std.proofs.lemmas.Option.{slice_get-map}
 use Rattle.tb_terms.specs.declared.expr.Expr.{Expr}
 use Rattle.tb_body.specs.declared.atom.Atom.{Atom}
 use Rattle.tb_body.specs.declared.tree.Setting.{Setting}
-use Rattle.tb_algebra.specs.Processes.{Process, At, Seq, Alt, Star, Par, Disrupt, If, When, Let}
+use Rattle.tb_process_steps.specs.Processes.{Process, At, Seq, Alt, Star, Par, Disrupt, If, When, Let}
 use Rattle.tb_code.specs.Entries.{AreLists, Grows, HasList, all_led, entries_of, entry, followed, gate, in_span, led, list_of, outset}
 use Rattle.tb_code.specs.Helpers.Blanks.{blank}
 use Rattle.tb_code.specs.Positions.{Begins, HasParts, IsOne, IsTwo, IsUntil, IsWait, is_wait, op_at, part, positions, root, size}

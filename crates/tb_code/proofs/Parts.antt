@@ -1,7 +1,7 @@
 -- What stands at each position of a term, and of which parts it is built.
 use Rattle.std.proofs.Common.{◌≡◌, ℕ, zero, suc, ◌+◌, ◌-◌, ◌<◌, ◌≤◌, Bool, true, false, nat_lt, List, [], ◌∷◌, ◌++◌, length, slice_get, Option, Some, None, IfSome, refl, ap, sym, subst, ◌∙◌, arith, ◌⊎◌, inl, inr}
 use Rattle.std.proofs.lemmas.Bool.{ltb-true, lt-ltb}
-use Rattle.tb_algebra.specs.Processes.{Process, At, Seq, Alt, Star, Par, Disrupt, If, When, Let}
+use Rattle.tb_process_steps.specs.Processes.{Process, At, Seq, Alt, Star, Par, Disrupt, If, When, Let}
 use Rattle.tb_code.specs.Positions.{size, table, positions, node, part, of_two, op_in, op_at, is_wait, root, Begins, IsTwo, IsUntil, IsWait, IsOne, HasParts}
 use Rattle.tb_code.specs.declared.node.Node.{Node}
 use Rattle.tb_code.specs.declared.node.Op.{Op}

@@ -2,8 +2,8 @@
 use Rattle.std.specs.Prelude.{◌≡◌, ◌<◌, ◌≤◌, ℕ, suc, ◌+◌, Bool, true, false, List, [], ◌∷◌, ◌++◌, length, map, take, drop, slice_get, Some}
 use Rattle.tb_body.specs.declared.atom.Atom.{Atom}
 use Rattle.tb_body.specs.declared.atom.Time.{Time}
-use Rattle.tb_algebra.specs.Atoms.{times_of}
-use Rattle.tb_algebra.specs.Processes.{Process, At, Seq, Alt, Star, Par, Disrupt, If, When, Let}
+use Rattle.tb_process_steps.specs.Atoms.{times_of}
+use Rattle.tb_process_steps.specs.Processes.{Process, At, Seq, Alt, Star, Par, Disrupt, If, When, Let}
 use Rattle.tb_code.specs.Positions.{size, part, op_at, root}
 use Rattle.tb_code.specs.declared.behind.Behind.{Behind}
 use Rattle.tb_code.specs.declared.behind.Behind.TheVariants as behind

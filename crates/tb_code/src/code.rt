@@ -3,7 +3,7 @@ ghost use Rattle.std.specs.Prelude.{◌≡◌, ◌++◌, ◌∷◌, [], ◌-◌,
 ghost use Rattle.std.specs.Coded.{codes, coded_list};
 ghost use Rattle.std.specs.Option.{option_copied};
 ghost use Rattle.tb_code.specs.contracts.node.Node as node_row;
-ghost use Rattle.tb_algebra.specs.Processes.{fresh, Disrupt};
+ghost use Rattle.tb_process_steps.specs.Processes.{fresh, Disrupt};
 ghost use Rattle.std.proofs.Props.{props};
 ghost use Rattle.tb_code.specs.Entries.{AreLists, list_of};
 ghost use Rattle.tb_code.specs.Positions.{HasParts, op_at, positions, size, table, node};

@@ -1,7 +1,7 @@
 //! The lists of what may come next at each position of a code, as far as they are kept.
 ghost use Rattle.std.specs.Prelude.{◌≡◌, ◌<◌, ◌≤◌, ◌+◌, ◌++◌, ◌∷◌, [], List, Some, IfOk, IfSome, OnOk, length, map, slice_get};
-ghost use Rattle.tb_algebra.specs.Atoms.{times_of};
-ghost use Rattle.tb_algebra.specs.Processes.{fresh};
+ghost use Rattle.tb_process_steps.specs.Atoms.{times_of};
+ghost use Rattle.tb_process_steps.specs.Processes.{fresh};
 ghost use Rattle.tb_code.specs.Entries.{AreLists, Grows, HasList, all_led, gate, in_span, is_timed, led, list_of, what_by};
 ghost use Rattle.tb_code.specs.Helpers.Blanks.{blank};
 ghost use Rattle.tb_code.specs.Positions.{positions};

@@ -8,12 +8,12 @@ use Rattle.std.specs.List.{All}
 use Rattle.std.specs.Global.{Vec}
 use Rattle.tb_match.specs.declared.bind.Bind.{Bind}
 use Rattle.tb_func.specs.declared.slot.Slot.{Slot}
-use Rattle.tb_algebra.specs.Processes.{Process}
-use Rattle.tb_algebra.specs.Binds.{with_binds, takes_binds}
-use Rattle.tb_algebra.specs.Offers.{Offered}
-use Rattle.tb_algebra.specs.Walks.{Walking, is_end, fired, sorts_of}
-use Rattle.tb_algebra.specs.WalkerViews.{View}
-use Rattle.tb_algebra.proofs.Sorts.{sorts-with_binds}
+use Rattle.tb_process_steps.specs.Processes.{Process}
+use Rattle.tb_process_steps.specs.Binds.{with_binds, takes_binds}
+use Rattle.tb_process_steps.specs.Offers.{Offered}
+use Rattle.tb_process_steps.specs.Walks.{Walking, is_end, fired, sorts_of}
+use Rattle.tb_process_steps.specs.WalkerViews.{View}
+use Rattle.tb_process_steps.proofs.Sorts.{sorts-with_binds}
 use Rattle.tb_notes.specs.Inboxes.{Contents}
 use Rattle.tb_index.specs.Indexes.{IndexState, IsCleared}
 use Rattle.tb_bus.specs.Buses.{Bus, Proc, proc_left}

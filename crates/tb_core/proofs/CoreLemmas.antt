@@ -1,6 +1,6 @@
 -- What the fields of a core say of its bus, and what each call logs.
 use Rattle.std.proofs.Common.{◌≡◌, ◌≤◌, ◌+◌, ℕ, List, [], ◌∷◌, ◌++◌, length, refl, ap, sym, ◌∙◌, subst, arith, Some, Bool, true, false, not, nat_le, if◌then◌else◌, length-append}
-use Rattle.tb_algebra.specs.WalkerViews.{View}
+use Rattle.tb_process_steps.specs.WalkerViews.{View}
 use Rattle.std.proofs.lemmas.Bool.{and_parts, leb-true}
 use Rattle.tb_log.specs.Limits.{entry_size, has_room, log_size, most_size}
 use Rattle.tb_log.specs.Logs.{LogState}

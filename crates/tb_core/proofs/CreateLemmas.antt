@@ -7,7 +7,7 @@ use Rattle.std.proofs.lemmas.Bool.{lt-ltb}
 use Rattle.std.proofs.lemmas.List.{map-append}
 use Rattle.std.proofs.lemmas.List.Elements.{All-head, All-push, All-same, All-tail, Contains-append_left, Contains-push, All-weaker}
 use Rattle.tb_terms.specs.declared.term.Term.{Term}
-use Rattle.tb_algebra.specs.WalkerViews.{View}
+use Rattle.tb_process_steps.specs.WalkerViews.{View}
 use Rattle.tb_index.specs.Indexes.{HasRoom, IndexState}
 use Rattle.tb_bus.specs.Buses.{Bus, Proc, opened_one}
 use Rattle.tb_bus.specs.Effects.{creation}

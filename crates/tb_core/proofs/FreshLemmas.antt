@@ -20,12 +20,12 @@ use Rattle.tb_body.specs.declared.tree.Tree.{Tree}
 use Rattle.tb_body.specs.Acts.{is_act_in_body, is_atom_in_body}
 use Rattle.tb_body.specs.Exprs.{is_value}
 use Rattle.tb_body.specs.InRange.{is_body_in_range}
-use Rattle.tb_algebra.specs.Processes.{Process}
-use Rattle.tb_algebra.specs.Atoms.{act_in, act_of, times_of, is_ready, patterns_of, values_together}
-use Rattle.tb_algebra.specs.Binds.{takes_bind, takes_binds}
-use Rattle.tb_algebra.specs.Offers.{Offered, offers}
-use Rattle.tb_algebra.specs.Walks.{Walking, offers_of, is_end}
-use Rattle.tb_algebra.specs.WalkerViews.{View}
+use Rattle.tb_process_steps.specs.Processes.{Process}
+use Rattle.tb_process_steps.specs.Atoms.{act_in, act_of, times_of, is_ready, patterns_of, values_together}
+use Rattle.tb_process_steps.specs.Binds.{takes_bind, takes_binds}
+use Rattle.tb_process_steps.specs.Offers.{Offered, offers}
+use Rattle.tb_process_steps.specs.Walks.{Walking, offers_of, is_end}
+use Rattle.tb_process_steps.specs.WalkerViews.{View}
 use Rattle.tb_bus.specs.Actions.{set_action, print_action, notify_action, take_note_action, no_note_action, subscribe_action, unsubscribe_action, create_action, speak_by, shutdown_action, action_in, action_if, action_of}
 use Rattle.tb_search.specs.Candidates.{row_of, rows_of, row_at, ready_one, readies}
 use Rattle.tb_search.specs.Views.{ready_at, offer_at, offer_of, no_ready, no_offer, Receives}

@@ -6,7 +6,7 @@ use Rattle.std.proofs.lemmas.Bool.{eqb-true, false_from_ne_true}
 use Rattle.std.proofs.lemmas.Option.{slice_get-map, none-some, same_Some}
 use Rattle.std.proofs.Math.ListN.{get_or-map}
 use Rattle.tb_terms.specs.declared.term.Term.{Term}
-use Rattle.tb_algebra.specs.WalkerViews.{View}
+use Rattle.tb_process_steps.specs.WalkerViews.{View}
 use Rattle.tb_notes.specs.Inboxes.{Held, nothing, wants, with_note}
 use Rattle.tb_bus.specs.Buses.{Bus, Proc}
 use Rattle.tb_bus.specs.Effects.{Change, Effect, Nothing, changed, given, with_inbox}

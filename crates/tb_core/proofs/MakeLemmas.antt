@@ -13,11 +13,11 @@ use Rattle.tb_func.specs.Stores.{sort_at}
 use Rattle.tb_match.specs.declared.bind.Bind.{Bind}
 use Rattle.tb_match.specs.Matches.{match_list}
 use Rattle.tb_body.specs.declared.body.Body.{Body}
-use Rattle.tb_algebra.specs.Binds.{has_slot_sort, takes_bind, takes_binds}
-use Rattle.tb_algebra.specs.Offers.{Offered}
-use Rattle.tb_algebra.specs.Walks.{sorts_of}
-use Rattle.tb_algebra.specs.WalkerViews.{View}
-use Rattle.tb_algebra.proofs.Sorts.{offer_at-keeps, sort_at-sorts_of}
+use Rattle.tb_process_steps.specs.Binds.{has_slot_sort, takes_bind, takes_binds}
+use Rattle.tb_process_steps.specs.Offers.{Offered}
+use Rattle.tb_process_steps.specs.Walks.{sorts_of}
+use Rattle.tb_process_steps.specs.WalkerViews.{View}
+use Rattle.tb_process_steps.proofs.Sorts.{offer_at-keeps, sort_at-sorts_of}
 use Rattle.tb_notes.specs.Inboxes.{Held, oldest_match}
 use Rattle.tb_notes.specs.Oldest.{IsOldest, NoneMatches}
 use Rattle.tb_notes.specs.declared.queue.Found.{Found}

@@ -22,7 +22,7 @@ use Rattle.tb_func.specs.Values.{all_of}
 use Rattle.tb_match.specs.Matches.{is_plain, plain_step, are_plain}
 use Rattle.tb_body.specs.Exprs.{Positions, positions_of, positions_step, is_test}
 use Rattle.tb_body.specs.Acts.{some_and_all}
-use Rattle.tb_algebra.specs.Atoms.{patterns_of}
+use Rattle.tb_process_steps.specs.Atoms.{patterns_of}
 
 abbrev Plain : Pattern → Type 0
 Plain p = is_plain p ≡ true

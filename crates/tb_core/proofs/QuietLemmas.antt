@@ -2,7 +2,7 @@
 use Rattle.std.proofs.Common.{◌≡◌, ◌-◌, ℕ, List, [], ◌∷◌, length, sym, subst, ◌∙◌, arith, Option, Some, None, Bool, false, IsTrue, codes}
 use Rattle.std.proofs.lemmas.List.{length-set}
 use Rattle.tb_terms.specs.declared.term.Term.{Term}
-use Rattle.tb_algebra.specs.WalkerViews.{View}
+use Rattle.tb_process_steps.specs.WalkerViews.{View}
 use Rattle.tb_log.specs.Shapes.{IsLane}
 use Rattle.tb_log.specs.declared.entry.Out.{Out}
 use Rattle.tb_log.specs.declared.entry.ToolLine.TheVariants.{Value, Event, Bad}

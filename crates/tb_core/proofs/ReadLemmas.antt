@@ -1,6 +1,6 @@
 -- What stands at an index of a sound bus: one of the living, its plan and its process.
 use Rattle.std.proofs.Common.{◌≡◌, ℕ, ◌<◌, length, ap, ◌∙◌, Some, slice_get, get_or}
-use Rattle.tb_algebra.specs.WalkerViews.{View}
+use Rattle.tb_process_steps.specs.WalkerViews.{View}
 use Rattle.tb_search.specs.Candidates.{row_at, row_of, rows_of, no_row}
 use Rattle.tb_search.specs.Views.{proc_at, no_proc}
 use Rattle.tb_search.specs.declared.living.Living.{Living}

@@ -9,7 +9,7 @@ use Rattle.tb_index.specs.Indexes.{IndexState, is_awake, is_receiver, receives}
 use Rattle.tb_index.specs.Marks.{wide}
 use Rattle.tb_index.specs.declared.mark.Mark.{Mark}
 use Rattle.tb_body.specs.declared.body.Body.{Body}
-use Rattle.tb_algebra.specs.WalkerViews.{View}
+use Rattle.tb_process_steps.specs.WalkerViews.{View}
 use Rattle.tb_tools.specs.Lanes.{BenchState, Tool}
 use Rattle.tb_bus.specs.Exchanges.{Setting}
 use Rattle.tb_bus.specs.declared.action.Action.{Action}

@@ -2,8 +2,8 @@
 use Rattle.std.proofs.Common.{◌≡◌, ◌<◌, ℕ, List, [], ◌∷◌, length, map, refl, ap, sym, subst, ◌∙◌, true, get_or}
 use Rattle.std.proofs.lemmas.List.Elements.{All-head, All-tail}
 use Rattle.tb_body.specs.declared.body.Body.{Body}
-use Rattle.tb_algebra.specs.Offers.{offers}
-use Rattle.tb_algebra.specs.WalkerViews.{View}
+use Rattle.tb_process_steps.specs.Offers.{offers}
+use Rattle.tb_process_steps.specs.WalkerViews.{View}
 use Rattle.tb_search.specs.Candidates.{readies, row_of, rows_of}
 use Rattle.tb_search.specs.Views.{AreRowsOf, IsRowOf, IsSearchedFor}
 use Rattle.tb_search.specs.declared.living.Living.{Living}

@@ -6,7 +6,7 @@ use Rattle.std.specs.List.{All}
 use Rattle.std.proofs.Math.Seq.{map-set_same}
 use Rattle.std.proofs.lemmas.Option.{get_or_from_slice_get, same_Some}
 use Rattle.std.proofs.lemmas.List.Elements.{All-set, All-weaker}
-use Rattle.tb_algebra.specs.WalkerViews.{View}
+use Rattle.tb_process_steps.specs.WalkerViews.{View}
 use Rattle.tb_index.specs.Indexes.{IndexState, IsTurned}
 use Rattle.tb_index.specs.declared.mark.Marks.{Marks as KeptMarks}
 use Rattle.tb_bus.specs.Buses.{Bus, Proc}

@@ -12,13 +12,13 @@ use Rattle.tb_func.specs.declared.slot.Slot.{Slot}
 use Rattle.tb_body.specs.declared.act.Act.{Act}
 use Rattle.tb_body.specs.declared.atom.Atom.{Atom}
 use Rattle.tb_body.specs.declared.body.Body.{Body}
-use Rattle.tb_algebra.specs.Ageing.{AreAged}
-use Rattle.tb_algebra.specs.Atoms.{act_of, is_ready, times_of}
-use Rattle.tb_algebra.specs.Offers.{Offered}
-use Rattle.tb_algebra.specs.Processes.{Process, aged}
-use Rattle.tb_algebra.specs.Walks.{Walking, is_end, offers_of, sorts_of, ticked}
-use Rattle.tb_algebra.specs.WalkerViews.{View}
-use Rattle.tb_algebra.proofs.AgedOffers.{is_end-ticked, offers_of-age, ready-aged}
+use Rattle.tb_process_steps.specs.Ageing.{AreAged}
+use Rattle.tb_process_steps.specs.Atoms.{act_of, is_ready, times_of}
+use Rattle.tb_process_steps.specs.Offers.{Offered}
+use Rattle.tb_process_steps.specs.Processes.{Process, aged}
+use Rattle.tb_process_steps.specs.Walks.{Walking, is_end, offers_of, sorts_of, ticked}
+use Rattle.tb_process_steps.specs.WalkerViews.{View}
+use Rattle.tb_process_steps.proofs.AgedOffers.{is_end-ticked, offers_of-age, ready-aged}
 use Rattle.tb_index.specs.Indexes.{IndexState}
 use Rattle.tb_bus.specs.Buses.{Bus, Proc}
 use Rattle.tb_bus.specs.Actions.{action_if, action_of}

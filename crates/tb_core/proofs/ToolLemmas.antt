@@ -4,7 +4,7 @@ use Rattle.std.specs.List.{list_all}
 use Rattle.tb_terms.specs.declared.term.Term.{Term}
 use Rattle.tb_notes.specs.Inboxes.{oldest_match}
 use Rattle.tb_notes.specs.declared.queue.Found.{Found}
-use Rattle.tb_algebra.specs.Offers.{Offered}
+use Rattle.tb_process_steps.specs.Offers.{Offered}
 use Rattle.tb_log.specs.declared.entry.Entry.{Entry}
 use Rattle.tb_log.specs.declared.entry.Input.{Input}
 use Rattle.tb_log.specs.declared.entry.Input.TheVariants.{Tick, NoTicks, Line, Gone, Cut}

@@ -2,7 +2,7 @@
 
 ghost use Rattle.std.specs.Prelude.{◌≡◌, ℕ, ◌<◌, ◌≤◌, ◌+◌, ◌≢◌, [], length, Contains, IfOk, OnOk, slice_get};
 ghost use Rattle.tb_search.specs.Views.{own_in, sent_in, ready_at, offer_of};
-ghost use Rattle.tb_algebra.specs.Offers.{Offered};
+ghost use Rattle.tb_process_steps.specs.Offers.{Offered};
 ghost use Rattle.tb_search.specs.Candidates.{row_at, rows_of};
 ghost use Rattle.tb_core.specs.Helpers.LiveBuses.{procs_in, IsSound, IsStaleAt, StandsAs, Leaves, CanAdvance, IsAdvanced, AreAdvanced, IsKept};
 ghost use Rattle.tb_living.specs.Lives.{AreFresh};
@@ -10,11 +10,11 @@ ghost use Rattle.tb_living.specs.Lives.{AreFresh};
 use crate::bus::LiveBus;
 use std::alloc::Global;
 use std::mem::swap;
-use tb_algebra::Walker;
 use tb_bus::{Action, OwnAction};
 use tb_living::go_on;
 use tb_log::Place;
 use tb_match::Binds;
+use tb_process_steps::Walker;
 use tb_search::Ready;
 use tb_terms::{Items, NoMemory, Terms};
 

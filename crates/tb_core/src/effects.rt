@@ -18,7 +18,6 @@ ghost use Rattle.tb_living.specs.Spoken.{CanSpeak, IsDone, around};
 use crate::acting::{created, kind_alone, printed, shut_down};
 use crate::bus::LiveBus;
 use std::alloc::Global;
-use tb_algebra::Walker;
 use tb_bus::{Exchange, OwnAction, ToolAction};
 use tb_index::Mark;
 use tb_living::{
@@ -26,6 +25,7 @@ use tb_living::{
 };
 use tb_log::LabelKind;
 use tb_notes::Found;
+use tb_process_steps::Walker;
 use tb_search::Finding;
 use tb_terms::{Items, NoMemory, Term, Terms};
 

@@ -6,11 +6,11 @@ use crate::comparing::{
     is_alone, is_end, own_kind, same_kind, same_out, same_place, shows_exchange,
 };
 use std::alloc::Global;
-use tb_algebra::Walker;
 use tb_bus::{Action, OwnAction};
 use tb_living::is_declared;
 use tb_log::{Input, Label, LabelKind, Out, Place, Reply, Why};
 use tb_match::Binds;
+use tb_process_steps::Walker;
 use tb_search::{Candidate, Finding, candidate_at};
 use tb_terms::{NoMemory, Term, same_all};
 

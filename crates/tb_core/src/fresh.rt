@@ -10,9 +10,9 @@ ghost use Rattle.tb_living.specs.Lives.{AreFresh, IsFreshOr};
 
 use crate::bus::LiveBus;
 use std::alloc::Global;
-use tb_algebra::Walker;
 use tb_index::Mark;
 use tb_living::{Buffers, TOOL_MARK, look, point_of, turn, update};
+use tb_process_steps::Walker;
 use tb_search::{all_rest, place_of};
 use tb_terms::NoMemory;
 
@@ -190,6 +190,7 @@ impl<W: Walker> LiveBus<W> {
     }
 
     /// Looks at all processes that have to be looked at.
+    #[inline(always)]
     fn look_anew(&mut self, alloc: Global, buffers: &mut Buffers) -> Result<(), NoMemory>
         requires { IsSound W.view self.old }
         ensures same { StandsAs W.view self.old self.new }

@@ -1,7 +1,7 @@
 //! Receives inputs, and takes what is to be handed out.
 
 ghost use Rattle.std.specs.Prelude.{◌≡◌, ◌<◌, ◌≤◌, ◌+◌, Bool, IfOk, IsSome, OnOk, OnErr, Some, false, map};
-ghost use Rattle.tb_algebra.specs.Walks.{most_ticks};
+ghost use Rattle.tb_process_steps.specs.Walks.{most_ticks};
 ghost use Rattle.tb_log.specs.Shapes.{IsInputInShape, IsLane};
 ghost use Rattle.tb_tools.specs.Lanes.{most_tools};
 ghost use Rattle.tb_tools.specs.Finding.{next_out};
@@ -12,9 +12,9 @@ ghost use Rattle.tb_core.specs.Helpers.LiveBuses.{bus_of, procs_in, IsSound, Sta
 
 use crate::bus::LiveBus;
 use std::alloc::Global;
-use tb_algebra::Walker;
 use tb_living::{hand_out, is_declared, tick_all};
 use tb_log::{Input, Reply, ToolLine, Why};
+use tb_process_steps::Walker;
 use tb_terms::NoMemory;
 use tb_tools::Handout;
 

@@ -20,13 +20,13 @@ use crate::bus::LiveBus;
 use crate::comparing::same_reply;
 use std::alloc::Global;
 use std::marker::Model;
-use tb_algebra::Walker;
 use tb_body::Program;
 use tb_bus::Origin;
 use tb_living::Buffers;
 use tb_log::{
     Entry, Input, Label, Log, Out, Reply, Seen, input_size, is_in_shape, is_lane, out_size,
 };
+use tb_process_steps::Walker;
 use tb_search::Candidate;
 use tb_terms::{Items, NoMemory, Text, Texts};
 use tb_tools::{Handout, LaneState};

@@ -1,7 +1,7 @@
 //! Finds the first of all moves, makes a move, and logs it.
 
 ghost use Rattle.std.specs.Prelude.{◌≡◌, ◌<◌, ◌≤◌, ◌+◌, length, vec_len, vec_capacity, Contains, IfOk, IfSome, OnOk, OnErr, true, false, option_map};
-ghost use Rattle.tb_algebra.specs.Offers.{Offered};
+ghost use Rattle.tb_process_steps.specs.Offers.{Offered};
 ghost use Rattle.tb_tools.specs.Lanes.{most_tools};
 ghost use Rattle.tb_bus.specs.Steps.{moves, apply, label_of, nowhere, first};
 ghost use Rattle.tb_search.specs.Candidates.{row_at, rows_of};
@@ -13,11 +13,11 @@ use crate::acting::{NOWHERE, end_label, finish_reason, halt_reason, kind_alone, 
 use crate::advancing::Begun;
 use crate::bus::LiveBus;
 use std::alloc::Global;
-use tb_algebra::Walker;
 use tb_bus::{Action, OwnAction};
 use tb_living::{Buffers, Done};
 use tb_log::{Label, LabelKind, Log, Place};
 use tb_match::Binds;
+use tb_process_steps::Walker;
 use tb_search::{Candidate, Finding, Partner, Received, first_candidate};
 use tb_terms::NoMemory;
 

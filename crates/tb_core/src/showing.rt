@@ -10,9 +10,9 @@ ghost use Rattle.tb_core.specs.Helpers.LiveBuses.{scene_in, move_in, IsSound};
 ghost use Rattle.tb_living.specs.Lives.{AreFresh};
 
 use crate::bus::LiveBus;
-use tb_algebra::Walker;
 use tb_bus::{Action, OwnAction};
 use tb_living::seen_size;
+use tb_process_steps::Walker;
 use tb_search::{Candidate, Finding};
 use tb_terms::{size, total_size};
 

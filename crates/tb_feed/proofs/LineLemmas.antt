@@ -8,8 +8,8 @@ use Rattle.tb_log.specs.declared.entry.ToolLine.{ToolLine}
 use Rattle.tb_log.specs.declared.entry.Input.{Input}
 use Rattle.tb_log.specs.declared.entry.Input.TheVariants.{Tick, NoTicks, Gone, Cut}
 use Rattle.tb_log.specs.declared.entry.Input.TheVariants as input_of
-use Rattle.tb_lane.specs.ToolLines.{IsToolLine}
-use Rattle.tb_lane.proofs.Lines.{lines-same, line-in_shape}
+use Rattle.tb_tool_line.specs.ToolLines.{IsToolLine}
+use Rattle.tb_tool_line.proofs.Lines.{lines-same, line-in_shape}
 use Rattle.tb_feed.specs.Feeds.{MayBeFed, Says}
 use Rattle.tb_feed.specs.Helpers.OneLine.{IsSaid, IsNumberOf, lacks_blank}
 use Rattle.tb_feed.proofs.LaneNumbers.{lane_digits}

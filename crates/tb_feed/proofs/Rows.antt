@@ -10,8 +10,8 @@ use Rattle.tb_log.specs.declared.entry.ToolLine.TheVariants.{Disconnect, Bad}
 use Rattle.tb_read.specs.declared.fault.TermFault.TheVariants as fault
 use Rattle.tb_read.specs.Spelling.{Reads}
 use Rattle.tb_read.proofs.Written.{written_reads}
-use Rattle.tb_lane.specs.ToolLines.{line_of, IsToolLine}
-use Rattle.tb_lane.proofs.Lines.{read-line, faulty-line}
+use Rattle.tb_tool_line.specs.ToolLines.{line_of, IsToolLine}
+use Rattle.tb_tool_line.proofs.Lines.{read-line, faulty-line}
 use Rattle.tb_feed.specs.Feeds.{lines_of, IsFeedOf, IsFirstBad}
 use Rattle.tb_feed.specs.Helpers.OneLine.{IsSaid, IsNumberOf}
 use Rattle.tb_feed.proofs.LaneNumbers.{no-one, no-two, no-number}

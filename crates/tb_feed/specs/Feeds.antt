@@ -6,7 +6,7 @@ use Rattle.tb_log.specs.Shapes.{IsLane, IsInputInShape}
 use Rattle.tb_log.specs.declared.entry.Input.{Input}
 use Rattle.tb_log.specs.declared.entry.Input.TheVariants.{Tick, NoTicks, Gone, Cut}
 use Rattle.tb_log.specs.declared.entry.Input.TheVariants as input_of
-use Rattle.tb_lane.specs.ToolLines.{IsToolLine}
+use Rattle.tb_tool_line.specs.ToolLines.{IsToolLine}
 use Rattle.tb_feed.specs.declared.fault.FeedFault.{FeedFault}
 use Rattle.tb_feed.specs.declared.fault.FeedFault.TheVariants.{Line, TooLong, NoMemory}
 

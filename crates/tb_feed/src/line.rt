@@ -5,9 +5,9 @@ ghost use Rattle.std.specs.Option.{MatchOption};
 ghost use Rattle.tb_feed.specs.Helpers.OneLine.{IsSaid, IsNumberOf, lacks_blank};
 
 use std::alloc::Global;
-use tb_lane::read_tool_line;
 use tb_log::Input;
 use tb_terms::NoMemory;
+use tb_tool_line::read_tool_line;
 
 /// The input that a line says, where it says one.
 pub(crate) fn input_of(alloc: Global, line: &[u8]) -> Result<Option<Input>, NoMemory>

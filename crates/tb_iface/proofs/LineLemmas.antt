@@ -24,9 +24,9 @@ use Rattle.tb_match.specs.declared.bind.Bind.{Bind}
 use Rattle.tb_body.specs.declared.act.Act.{Act}
 use Rattle.tb_body.specs.declared.act.Act.TheVariants.{Delta, Tau, SndMsg, RecMsg, SndNote, RecNote, NoNote, Subscribe, Unsubscribe, Create, Set, Printf, Execute, RecConnect, RecDisconnectAny, RecDisconnect, SndEval, RecValue, SndDo, RecEvent, SndAckEvent, SndTerminate, Shutdown}
 use Rattle.tb_body.specs.declared.program.Tool.{Tool as ToolKind}
-use Rattle.tb_algebra.specs.Atoms.{limited_together, values_together, patterns_of}
-use Rattle.tb_algebra.specs.Binds.{takes_bind}
-use Rattle.tb_algebra.specs.Walks.{sorts_of}
+use Rattle.tb_process_steps.specs.Atoms.{limited_together, values_together, patterns_of}
+use Rattle.tb_process_steps.specs.Binds.{takes_bind}
+use Rattle.tb_process_steps.specs.Walks.{sorts_of}
 use Rattle.tb_log.specs.declared.entry.LabelKind.TheVariants as kind
 use Rattle.tb_tools.specs.Lanes.{tool_term}
 use Rattle.tb_bus.specs.Actions.{set_action, print_action, notify_action, take_note_action, no_note_action, subscribe_action, unsubscribe_action, create_action, speak_by, shutdown_action, action_in}

@@ -27,8 +27,8 @@ use Rattle.tb_func.specs.Stores.{are_well_sorted, is_well_sorted, sort_at, value
 use Rattle.tb_func.specs.Values.{all_of, value_of, value_step}
 use Rattle.tb_func.proofs.FittingLemmas.{value-fits}
 use Rattle.tb_match.specs.Matches.{match_list, match_term}
-use Rattle.tb_algebra.specs.Atoms.{patterns_of}
-use Rattle.tb_algebra.specs.Walks.{sorts_of}
+use Rattle.tb_process_steps.specs.Atoms.{patterns_of}
+use Rattle.tb_process_steps.specs.Walks.{sorts_of}
 use Rattle.tb_iface.specs.Outlines.{outline, outline_step, may_be, may_be_in, may_be_sort, slot_sort}
 use Rattle.tb_iface.proofs.MatchLemmas.{then-some, map-some, cons-some, list-match, fixed-is, hole-has, result-has, fixed-plain, hole-plain, both-plain, Within, AreWithin, none-within, cons-within, appl-within, list-within, fixed-all}
 pub use Rattle.tb_iface.proofs.MatchLemmas.{line-match}

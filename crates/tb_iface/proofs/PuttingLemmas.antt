@@ -26,7 +26,7 @@ use Rattle.tb_bus.specs.declared.action.OwnAction.TheVariants as own
 use Rattle.tb_bus.specs.declared.action.ToolAction.{ToolAction}
 use Rattle.tb_bus.specs.declared.action.ToolAction.TheVariants as tool
 use Rattle.tb_bus.specs.declared.exchange.Exchange.{Exchange}
-use Rattle.tb_algebra.specs.Offers.{Offered}
+use Rattle.tb_process_steps.specs.Offers.{Offered}
 use Rattle.tb_bus.specs.Buses.{Bus, Proc}
 use Rattle.tb_bus.specs.Exchanges.{Setting, kind_name, kind_command, plain_on, lane_if, lane_of, received_on, exchange_for, kind_of, terms_seen, bench_after}
 use Rattle.tb_bus.specs.Effects.{Nothing, PutsNote, Effect, changed, effect_of, own_effect, speaking, setting_of, creation, may_create, taking, takes_note}

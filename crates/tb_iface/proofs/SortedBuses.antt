@@ -12,11 +12,11 @@ use Rattle.tb_match.specs.declared.bind.Bind.{Bind}
 use Rattle.tb_body.specs.declared.body.Body.{Body}
 use Rattle.tb_body.specs.declared.program.Program.{Program}
 use Rattle.tb_notes.specs.Inboxes.{Held, subscribed, unsubscribed, wants, with_note, without_note}
-use Rattle.tb_algebra.specs.Processes.{Process}
-use Rattle.tb_algebra.specs.Binds.{with_binds, takes_binds}
-use Rattle.tb_algebra.specs.Offers.{Offered}
-use Rattle.tb_algebra.specs.Walks.{sorts_of}
-use Rattle.tb_algebra.proofs.Sorts.{binds-keep, offer-keeps}
+use Rattle.tb_process_steps.specs.Processes.{Process}
+use Rattle.tb_process_steps.specs.Binds.{with_binds, takes_binds}
+use Rattle.tb_process_steps.specs.Offers.{Offered}
+use Rattle.tb_process_steps.specs.Walks.{sorts_of}
+use Rattle.tb_process_steps.proofs.Sorts.{binds-keep, offer-keeps}
 use Rattle.tb_log.specs.declared.entry.Input.{Input}
 use Rattle.tb_log.specs.declared.entry.Input.TheVariants.{Tick, NoTicks, Line, Gone, Cut}
 use Rattle.tb_log.specs.declared.entry.Reply.TheVariants.{Dropped}

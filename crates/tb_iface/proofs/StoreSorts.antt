@@ -17,10 +17,10 @@ use Rattle.tb_body.specs.declared.body.Body.{Body}
 use Rattle.tb_body.specs.declared.program.Root.{Root}
 use Rattle.tb_body.specs.declared.program.Tool.{Tool as ToolKind}
 use Rattle.tb_body.specs.Programs.{have_sorts, starts, is_root_in_range, is_program_in_range}
-use Rattle.tb_algebra.specs.Binds.{has_slot_sort}
-use Rattle.tb_algebra.specs.Processes.{fresh}
-use Rattle.tb_algebra.specs.Walks.{sorts_of}
-use Rattle.tb_algebra.proofs.Sorts.{Keeps, sorts-with_value, well_sorted-with_value, sorts-fresh, sort_at-sorts_of}
+use Rattle.tb_process_steps.specs.Binds.{has_slot_sort}
+use Rattle.tb_process_steps.specs.Processes.{fresh}
+use Rattle.tb_process_steps.specs.Walks.{sorts_of}
+use Rattle.tb_process_steps.proofs.Sorts.{Keeps, sorts-with_value, well_sorted-with_value, sorts-fresh, sort_at-sorts_of}
 use Rattle.tb_notes.specs.Inboxes.{nothing}
 use Rattle.tb_bus.specs.Buses.{Proc, with_values, opening_store, opened_one, opened}
 use Rattle.tb_bus.specs.Slots.{fits_formals}

@@ -15,10 +15,10 @@ use Rattle.tb_match.specs.Matches.{match_list}
 use Rattle.tb_body.specs.declared.act.Act.{Act}
 use Rattle.tb_body.specs.declared.act.Act.TheVariants.{Delta, Tau, SndMsg, RecMsg, SndNote, RecNote, NoNote, Subscribe, Unsubscribe, Create, Set, Printf, Execute, RecConnect, RecDisconnectAny, RecDisconnect, SndEval, RecValue, SndDo, RecEvent, SndAckEvent, SndTerminate, Shutdown}
 use Rattle.tb_body.specs.declared.body.Body.{Body}
-use Rattle.tb_algebra.specs.Atoms.{act_of, times_of, is_ready, values_together, patterns_of}
-use Rattle.tb_algebra.specs.Binds.{has_slot_sort, takes_bind, takes_binds}
-use Rattle.tb_algebra.specs.Offers.{Offered}
-use Rattle.tb_algebra.proofs.Sorts.{sort_at-sorts_of}
+use Rattle.tb_process_steps.specs.Atoms.{act_of, times_of, is_ready, values_together, patterns_of}
+use Rattle.tb_process_steps.specs.Binds.{has_slot_sort, takes_bind, takes_binds}
+use Rattle.tb_process_steps.specs.Offers.{Offered}
+use Rattle.tb_process_steps.proofs.Sorts.{sort_at-sorts_of}
 use Rattle.tb_notes.specs.Inboxes.{Held, oldest_match}
 use Rattle.tb_notes.specs.Oldest.{IsOldest, NoneMatches}
 use Rattle.tb_notes.specs.declared.queue.Found.{Found}

@@ -5,7 +5,7 @@ ghost use Rattle.std.specs.Prelude.{◌≡◌, ℕ, List, Some, IsTrue, Contains
 ghost use Rattle.tb_terms.specs.declared.term.Term.{Term};
 ghost use Rattle.tb_func.specs.Stores.{are_well_sorted};
 ghost use Rattle.tb_body.specs.declared.body.Body.{Body};
-ghost use Rattle.tb_algebra.specs.Walks.{sorts_of};
+ghost use Rattle.tb_process_steps.specs.Walks.{sorts_of};
 ghost use Rattle.tb_log.specs.declared.entry.Entry.{Entry};
 ghost use Rattle.tb_bus.specs.declared.origin.Origin.{Origin};
 ghost use Rattle.tb_bus.specs.Buses.{Bus, Proc, start};

@@ -202,6 +202,7 @@ fn quiet_one(
 }
 
 /// What is received under the mark, or under that of as many, is no longer active, where nobody sends it.
+#[inline(always)]
 fn quiet_sent(active: &mut Vec<Mark>, sending: &Pairs, counts: &Counts, mark: Mark)
     requires { AreCountedIf counts.now.opened sending.now counts.now.pairs }
     ensures { SentAreKept active.old.items active.new.items sending.now }

@@ -164,6 +164,7 @@ impl Index {
     }
 
     /// The first process at or behind one that receives what is sent under the mark.
+    #[inline(always)]
     pub fn next_receiver(&self, mark: Mark, from: u32) -> Option<u32>
         ensures { IsNext (is_receiver self.now mark) from result }
     {

@@ -7,14 +7,14 @@ use Rattle.std.proofs.lemmas.List.{take_all, take_more, length-take-le, length-m
 use Rattle.std.proofs.lemmas.List.Elements.{All-more}
 use Rattle.tb_terms.specs.declared.sort.Sort.{Sort}
 use Rattle.tb_body.specs.declared.atom.Atom.{Atom}
-use Rattle.tb_algebra.specs.declared.offer.Offer.{Offer}
+use Rattle.tb_process_steps.specs.declared.offer.Offer.{Offer}
 use Rattle.tb_terms.specs.declared.expr.Expr.{Expr}
 use Rattle.tb_body.specs.declared.act.Act.{Act}
 use Rattle.tb_body.specs.declared.act.Act.TheVariants.{SndMsg, RecMsg}
-use Rattle.tb_algebra.specs.Atoms.{act_of, matched_exprs, patterns_of, sent_exprs, times_of, values_together}
-use Rattle.tb_algebra.specs.Offers.{Offered}
-use Rattle.tb_algebra.specs.Walks.{Walking, offers_of, patterns_by, seen, seen_offers, sent_by, sorts_of}
-use Rattle.tb_algebra.proofs.Sorts.{offer_at-keeps}
+use Rattle.tb_process_steps.specs.Atoms.{act_of, matched_exprs, patterns_of, sent_exprs, times_of, values_together}
+use Rattle.tb_process_steps.specs.Offers.{Offered}
+use Rattle.tb_process_steps.specs.Walks.{Walking, offers_of, patterns_by, seen, seen_offers, sent_by, sorts_of}
+use Rattle.tb_process_steps.proofs.Sorts.{offer_at-keeps}
 use Rattle.tb_bus.specs.declared.action.Action.{Action}
 use Rattle.tb_bus.specs.declared.action.Action.TheVariants as action
 use Rattle.tb_bus.specs.Actions.{action_in, action_of}

@@ -17,10 +17,10 @@ use Rattle.tb_body.specs.declared.body.Body.{Body}
 use Rattle.tb_body.specs.declared.program.Root.{Root}
 use Rattle.tb_body.specs.declared.program.Tool.{Tool}
 use Rattle.tb_body.specs.Programs.{have_sorts, is_body_in_program, starts, is_root_in_range, is_program_in_range}
-use Rattle.tb_algebra.specs.Processes.{fresh}
-use Rattle.tb_algebra.specs.Walks.{Walking, entering, sorts_of, is_end}
-use Rattle.tb_algebra.specs.WalkerViews.{View}
-use Rattle.tb_algebra.proofs.Sorts.{sorts-fresh, sorts-with_value, sort_at-sorts_of}
+use Rattle.tb_process_steps.specs.Processes.{fresh}
+use Rattle.tb_process_steps.specs.Walks.{Walking, entering, sorts_of, is_end}
+use Rattle.tb_process_steps.specs.WalkerViews.{View}
+use Rattle.tb_process_steps.proofs.Sorts.{sorts-fresh, sorts-with_value, sort_at-sorts_of}
 use Rattle.tb_notes.specs.Inboxes.{Held}
 use Rattle.tb_bus.specs.Buses.{Proc, with_values, opening_store, opened_one, opened}
 use Rattle.tb_bus.specs.Slots.{fits_formals}

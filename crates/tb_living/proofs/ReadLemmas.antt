@@ -2,7 +2,7 @@
 use Rattle.std.proofs.Common.{◌≡◌, ℕ, ◌<◌, zero, suc, List, [], ◌∷◌, length, map, refl, ap, sym, subst, ◌∙◌, arith, Option, Some, None, true, slice_get, get_or, option_map, Result, Ok, Err, OnOk, OnErr}
 use Rattle.std.proofs.lemmas.Option.{get_or_from_slice_get, slice_get-get_or, slice_get_within, slice_get-map}
 use Rattle.tb_body.specs.declared.body.Body.{Body}
-use Rattle.tb_algebra.specs.WalkerViews.{View}
+use Rattle.tb_process_steps.specs.WalkerViews.{View}
 use Rattle.tb_bus.specs.Buses.{atoms_of, atoms_in}
 use Rattle.tb_search.specs.Candidates.{ascend, row_of, rows_of}
 use Rattle.tb_search.specs.declared.living.Living.{Living}

@@ -4,7 +4,7 @@ use Rattle.std.specs.Bool.{⊤}
 use Rattle.std.specs.List.{All}
 use Rattle.std.proofs.lemmas.Option.{slice_get-get_or}
 use Rattle.std.proofs.lemmas.List.{drop_all, take_all}
-use Rattle.tb_algebra.specs.WalkerViews.{View}
+use Rattle.tb_process_steps.specs.WalkerViews.{View}
 use Rattle.tb_search.specs.declared.living.Living.{Living}
 use Rattle.tb_living.specs.Ticking.{AreTicked, CanTick, IsTicked}
 use Rattle.tb_living.proofs.ReadLemmas.{all-there}

@@ -5,11 +5,11 @@ use Rattle.std.specs.List.Sorted.{IsPartitionPoint}
 use Rattle.tb_body.specs.declared.atom.Atom.{Atom}
 use Rattle.tb_body.specs.declared.body.Body.{Body}
 use Rattle.tb_func.specs.declared.slot.Slot.{Slot}
-use Rattle.tb_algebra.specs.Atoms.{times_of}
-use Rattle.tb_algebra.specs.Offers.{Offered}
-use Rattle.tb_algebra.specs.Processes.{Process, At}
-use Rattle.tb_algebra.specs.Walks.{Walking, entering, offers_of, sorts_of, is_end}
-use Rattle.tb_algebra.specs.WalkerViews.{View}
+use Rattle.tb_process_steps.specs.Atoms.{times_of}
+use Rattle.tb_process_steps.specs.Offers.{Offered}
+use Rattle.tb_process_steps.specs.Processes.{Process, At}
+use Rattle.tb_process_steps.specs.Walks.{Walking, entering, offers_of, sorts_of, is_end}
+use Rattle.tb_process_steps.specs.WalkerViews.{View}
 use Rattle.tb_notes.specs.Inboxes.{nothing}
 use Rattle.tb_bus.specs.Buses.{Proc}
 use Rattle.tb_search.specs.Candidates.{readies}

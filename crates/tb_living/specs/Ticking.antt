@@ -1,7 +1,7 @@
 -- What a tick does to the living of the code, whatever their walkers are.
 use Rattle.std.specs.Prelude.{◌≡◌, ◌<◌, ◌&&◌, List, [], ◌∷◌, not, Some, slice_get, ⊤}
-use Rattle.tb_algebra.specs.Walks.{most_ticks, ticked}
-use Rattle.tb_algebra.specs.WalkerViews.{View}
+use Rattle.tb_process_steps.specs.Walks.{most_ticks, ticked}
+use Rattle.tb_process_steps.specs.WalkerViews.{View}
 use Rattle.tb_search.specs.declared.living.Living.{Living}
 
 -- one that goes by this plan has seen so few ticks that one more may pass

@@ -3,10 +3,10 @@ ghost use Rattle.std.specs.Prelude.{◌≡◌, ◌<◌, ◌++◌, ◌∷◌, ℕ
 ghost use Rattle.std.specs.List.{All};
 ghost use Rattle.std.specs.Option.{ForSome};
 ghost use Rattle.tb_func.specs.declared.slot.Slot.{Slot};
-ghost use Rattle.tb_algebra.specs.Atoms.{act_of, times_of};
-ghost use Rattle.tb_algebra.specs.Binds.{takes_binds};
-ghost use Rattle.tb_algebra.specs.Offers.{Offered};
-ghost use Rattle.tb_algebra.specs.Walks.{fired, is_end, offers_of, seen, seen_offers, sorts_of};
+ghost use Rattle.tb_process_steps.specs.Atoms.{act_of, times_of};
+ghost use Rattle.tb_process_steps.specs.Binds.{takes_binds};
+ghost use Rattle.tb_process_steps.specs.Offers.{Offered};
+ghost use Rattle.tb_process_steps.specs.Walks.{fired, is_end, offers_of, seen, seen_offers, sorts_of};
 ghost use Rattle.tb_func.specs.Printing.{printf_of};
 ghost use Rattle.tb_bus.specs.Actions.{action_in, action_of, create_action, print_action, set_action, shutdown_action, speak_about};
 ghost use Rattle.tb_search.specs.Candidates.{ascend, ready_one, readies, rows_of};
@@ -15,11 +15,11 @@ ghost use Rattle.tb_living.specs.Lives.{IsFreshFor, IsLiveOn, IsTimeless, IsWher
 
 use crate::buffers::Buffers;
 use std::alloc::Global;
-use tb_algebra::{Offer, Walker};
 use tb_body::{Act, Atom, Body};
 use tb_bus::{Action, OwnAction, ToolAction};
 use tb_func::printf_text;
 use tb_match::{Bind, Binds};
+use tb_process_steps::{Offer, Walker};
 use tb_search::{Apart, Living, Ready, has_slot_sort};
 use tb_terms::{Items, NoMemory, Patterns, Sorts, Terms};
 

@@ -10,10 +10,10 @@ ghost use Rattle.tb_living.specs.Lives.{Begins, IsBelow, IsLive, procs_of};
 
 use crate::indexing::no_marks;
 use std::alloc::Global;
-use tb_algebra::Walker;
 use tb_body::{Body, Program};
 use tb_func::Store;
 use tb_notes::Inbox;
+use tb_process_steps::Walker;
 use tb_search::{Apart, Living};
 use tb_terms::{Items, NoMemory, Terms, copy_terms};
 

@@ -2,7 +2,7 @@
 ghost use Rattle.std.specs.List.{All};
 ghost use Rattle.tb_living.specs.Ticking.{AreTicked, CanTick, HasTicked, IsBefore};
 
-use tb_algebra::Walker;
+use tb_process_steps::Walker;
 use tb_search::{Apart, Living};
 use tb_terms::Items;
 

@@ -3,7 +3,7 @@ use denote.Param.Send.{IsSend, IsSync, sendable, view_send, view_sync}
 use denote.Param.SendFields.{declared_send, declared_sync, variants_send}
 use denote.RattleType.{RattleType}
 use Rattle.std.proofs.Crossing.{crosses, send as global_send}
-use Rattle.tb_algebra.specs.declared.walker.Walker.{Ghosts}
+use Rattle.tb_process_steps.specs.declared.walker.Walker.{Ghosts}
 use Rattle.std.proofs.option.Option.TheSendSync.{the_send as option_send}
 use Rattle.std.specs.contracts.option.Option as option
 use Rattle.atomic_table.proofs.owned.Table.TheSendSync.{the_sync as table_sync}
@@ -34,10 +34,10 @@ use Rattle.tb_living.specs.contracts.buffers.Buffers as buffers
 use Rattle.tb_core.specs.contracts.machine.Core as core
 use Rattle.tb_core.specs.contracts.bus.LiveBus as live_bus
 use Rattle.tb_core.specs.contracts.machine.Core.TheInside as core_inside
-use Rattle.tb_algebra.specs.contracts.fired.Left as left
-use Rattle.tb_algebra.specs.contracts.plan.Plan as plan
-use Rattle.tb_algebra.specs.contracts.rewriter.Rewriter as rewriter
-use Rattle.tb_algebra.specs.contracts.rewriter.RewriterWalker.TheImpl.{ghosts}
+use Rattle.tb_process_steps.specs.contracts.fired.Left as left
+use Rattle.tb_process_steps.specs.contracts.plan.Plan as plan
+use Rattle.tb_process_steps.specs.contracts.rewriter.Rewriter as rewriter
+use Rattle.tb_process_steps.specs.contracts.rewriter.RewriterWalker.TheImpl.{ghosts}
 use Rattle.tb_tools.specs.contracts.handout.Handout as handout
 use Rattle.tb_tools.specs.contracts.handout.KeptOut as kept_out
 use Rattle.tb_tools.specs.contracts.events.Events as events
@@ -49,7 +49,7 @@ use Rattle.tb_tools.specs.contracts.lane.LaneRow as lane
 use Rattle.tb_tools.specs.contracts.bench.Bench as bench
 use Rattle.tb_notes.specs.contracts.inbox.Inbox as inbox
 use Rattle.tb_index.proofs.index.Index.TheSendSync.{the_send as index_send}
-use Rattle.tb_algebra.proofs.SendLemmas.{number_send, byte_send, term_row, term_send, terms_send, texts_send, pattern_send, patterns_send, binds_send, program_send, rewriter_send, plan_send}
+use Rattle.tb_process_steps.proofs.SendLemmas.{number_send, byte_send, term_row, term_send, terms_send, texts_send, pattern_send, patterns_send, binds_send, program_send, rewriter_send, plan_send}
 
 origin_send : IsSend origin.the_row
 origin_send = declared_send origin.the_type (program_send, (texts_send, (number_send, tt)))

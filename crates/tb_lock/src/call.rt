@@ -2,9 +2,9 @@
 ghost use Rattle.tb_lock.specs.Calls.{IsCallInShape};
 ghost use Rattle.tb_lock.specs.Helpers.Plays.{Answers};
 
-use tb_algebra::Walker;
 use tb_core::{Core, CoreFault, Stepped, TakeOut};
 use tb_log::{Input, Reply};
+use tb_process_steps::Walker;
 
 /// A call that a seat makes in its turn.
 pub(crate) trait CoreCall<W: Walker> {

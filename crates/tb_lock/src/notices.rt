@@ -2,8 +2,8 @@
 ghost use Rattle.tb_lock.specs.Calls.{AreOuts};
 
 use std::sync::atomic::{AtomicU32, Ordering};
-use tb_algebra::Walker;
 use tb_core::Core;
+use tb_process_steps::Walker;
 
 /// A bit for each lane, from 1 to 16.
 #[derive(Drop)]

@@ -3,8 +3,8 @@ use crate::rights::Rights;
 use crate::seat::View;
 use atomic_table::{Join, Play, Split, TableRule};
 use std::marker::{Brand, PhantomData};
-use tb_algebra::Walker;
 use tb_core::Core;
+use tb_process_steps::Walker;
 
 /// The rule that every step keeps. Its key is the core of the bus.
 pub struct BusRule;

@@ -8,7 +8,7 @@ ghost use Rattle.tb_lock.specs.Helpers.Plays.{IsBoard};
 use crate::board::{Board, Holder, TICKET};
 use crate::plays::{HandsOn, Look, Part, Unite};
 use crate::rights::Rights;
-use tb_algebra::Walker;
+use tb_process_steps::Walker;
 
 /// Splits a seat in two.
 pub(crate) fn part<W: Walker, H: HandsOn>(

@@ -19,10 +19,10 @@ use std::alloc::Global;
 use std::marker::{Brand, Model};
 use std::mem::replace;
 use std::sync::Wait;
-use tb_algebra::Walker;
 use tb_bells::Gate;
 use tb_core::{Core, CoreFault, Stepped, TakeOut};
 use tb_log::{Entries, Input, Reply, piece};
+use tb_process_steps::Walker;
 use tb_terms::NoMemory;
 use tb_tools::LaneState;
 

@@ -9,8 +9,8 @@ use crate::board::{Board, CORE, Holder, SERVING, TICKET};
 use crate::plays::{Draw, Note, Open, Pass, Read, Stop};
 use std::sync::Wait;
 use std::thread::yield_now;
-use tb_algebra::Walker;
 use tb_core::Core;
+use tb_process_steps::Walker;
 
 /// Opens the first turn of a new bus: puts the core into its slot.
 pub(crate) fn open<W: Walker>(board: &Board<W>, holder: &mut Holder<W>, core: Core<W>)

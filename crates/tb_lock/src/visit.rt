@@ -9,8 +9,8 @@ use crate::seat::Seat;
 use crate::shared::Shared;
 use std::marker::Model;
 use std::sync::{MutexGuard, Wait};
-use tb_algebra::Walker;
 use tb_core::{CoreFault, Stepped};
+use tb_process_steps::Walker;
 
 /// A visit inside the gate of a bus, for several successive turns. Until the visit is dropped, no other thread enters the gate. So
 /// each ticket of the visitor is served at once. Calls of the bus itself enter the gate too: such a call never returns within a

@@ -3,10 +3,10 @@ ghost use Rattle.std.specs.Prelude.{◌≡◌, ◌+◌, [], length, IsTrue, true
 
 use std::sync::Wait;
 use std::thread::{Threads, join};
-use tb_algebra::{Rewriter, Walker};
 use tb_core::Stepped;
 use tb_lock::{Seat, Shared};
 use tb_log::Input;
+use tb_process_steps::{Rewriter, Walker};
 
 /// A bus over rewriters.
 pub(crate) type Bus = Shared<Rewriter>;

@@ -5,8 +5,8 @@ use denote.Ref.{NamedLft}
 use denote.RattleType.{RattleType}
 use Rattle.std.proofs.Crossing.{crosses}
 use Rattle.rtrb.proofs.end.End.TheSendSync.{the_send as end_send}
-use Rattle.tb_algebra.specs.declared.walker.Walker.{Ghosts}
-use Rattle.tb_algebra.proofs.SendLemmas.{term_send}
+use Rattle.tb_process_steps.specs.declared.walker.Walker.{Ghosts}
+use Rattle.tb_process_steps.proofs.SendLemmas.{term_send}
 use Rattle.tb_run.specs.contracts.post.Post as post
 use Rattle.tb_run.proofs.SendLemmas.{seat_send, bells_sync, post_sync}
 use Rattle.tb_pair.specs.contracts.piece.Told as told

@@ -10,9 +10,9 @@ use crate::reader::pipe_reader;
 use crate::writer::pipe_writer;
 use std::sync::Wait;
 use std::thread::Threads;
-use tb_algebra::Walker;
 use tb_edge::{Crew, CrewFault, Job};
 use tb_lock::Seat;
+use tb_process_steps::Walker;
 use tb_run::{Post, WorkEnd};
 
 /// The worker that writes the pipe, as a job.

@@ -12,10 +12,10 @@ use crate::piece::Piece;
 use crate::pipe::{LANE, PipeOut};
 use crate::settle::{hand_over, name_itself};
 use std::sync::Wait;
-use tb_algebra::Walker;
 use tb_bells::Sleeper;
 use tb_core::TakeOut;
 use tb_lock::{Seat, calls_add_their_own};
+use tb_process_steps::Walker;
 use tb_run::{Post, WorkEnd, refused, stop};
 
 /// Names the tool of lane 1 `pipe`, and delivers each received term as an event of this tool. If nothing more comes, the worker

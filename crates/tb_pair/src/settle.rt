@@ -8,9 +8,9 @@ ghost use Rattle.tb_pair.specs.Helpers.Settling.{Settles, settled};
 
 use crate::lines::connect_input;
 use std::sync::Wait;
-use tb_algebra::Walker;
 use tb_lock::Seat;
 use tb_log::Input;
+use tb_process_steps::Walker;
 use tb_run::{Post, WorkEnd, hand, stop};
 
 /// Delivers an input. Returns whether the bus hasn't shut down, or why the worker ends.

@@ -6,10 +6,10 @@ ghost use Rattle.tb_pair.specs.Ticking.{CanTick, TicksPair};
 ghost use Rattle.tb_pair.specs.Helpers.Ticking.{Ticked, TickedMore, TickedAll, TicksOne, NoTick, SaysSo};
 
 use std::sync::Wait;
-use tb_algebra::Walker;
 use tb_edge::{Beat, Clock};
 use tb_lock::Seat;
 use tb_log::Input;
+use tb_process_steps::Walker;
 use tb_run::{Post, WorkEnd, hand};
 
 /// One of two buses that receive the ticks of one clock.

@@ -11,12 +11,12 @@ use crate::piece::Piece;
 use crate::pipe::{LANE, PipeIn};
 use crate::settle::name_itself;
 use std::sync::Wait;
-use tb_algebra::Walker;
 use tb_bells::Bells;
 use tb_bus::entries_are_in_shape;
 use tb_core::TakeOut;
 use tb_lock::{Seat, calls_add_their_own};
 use tb_log::Out;
+use tb_process_steps::Walker;
 use tb_run::{Post, WorkEnd, refused, wait_for_call};
 
 /// Names the tool of lane 1 `pipe`, and sends the term of each `rec-do` line of this tool through the pipe. The worker ends if the

@@ -9,7 +9,7 @@ use Rattle.tb_edge.specs.Ends.{InletView, ClockView, and_given, and_taken, and_t
 use Rattle.tb_edge.specs.Faults.{Rose}
 use Rattle.tb_edge.specs.declared.given.Given.{Given}
 use Rattle.tb_edge.specs.declared.given.Taken.{Taken}
-use Rattle.tb_lane.specs.Sending.{taken_of}
+use Rattle.tb_tool_line.specs.Sending.{taken_of}
 use Rattle.tb_log.specs.Lanes.{inputs, sent, ticks, is_tick_input}
 use Rattle.tb_log.specs.Limits.{entry_size, log_size, most_size}
 use Rattle.tb_log.specs.declared.entry.Input.{Input}

@@ -4,7 +4,7 @@ use denote.Param.SendFields.{declared_send}
 use denote.Ref.{NamedLft}
 use denote.RattleType.{RattleType}
 use Rattle.std.proofs.Crossing.{crosses}
-use Rattle.tb_algebra.specs.declared.walker.Walker.{Ghosts}
+use Rattle.tb_process_steps.specs.declared.walker.Walker.{Ghosts}
 use Rattle.tb_run.specs.contracts.post.Post as post
 use Rattle.tb_run.proofs.SendLemmas.{seat_send, post_sync}
 use Rattle.tb_pair.specs.contracts.ticker.TickedBus as ticked_bus

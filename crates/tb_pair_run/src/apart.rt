@@ -3,8 +3,8 @@ ghost use Rattle.std.specs.Prelude.{◌≡◌, ◌≤◌, ◌+◌, ◌++◌, [],
 ghost use Rattle.tb_pair_run.specs.Helpers.Teams.{AreOthers, IsTeam, jobs_of, others_of};
 
 use std::vec::IntoIter;
-use tb_algebra::Walker;
 use tb_pair::{PairJob, PipeReading, PipeWriting};
+use tb_process_steps::Walker;
 
 /// How many workers of lanes 2 to 16 a bus has, with its stepper.
 pub(crate) const WORKERS: usize = 31;

@@ -14,10 +14,10 @@ use crate::idle::Idle;
 use crate::lent::LentTicking;
 use std::sync::Wait;
 use std::thread::Threads;
-use tb_algebra::Walker;
 use tb_edge::{Clock, Crew, CrewFault, Inlet, Outlet};
 use tb_lock::Seat;
 use tb_pair::{PairJob, PipeReading, PipeWriting, TickedBus, beside};
+use tb_process_steps::Walker;
 use tb_run::{RunWhy, WorkEnd, Worker, taken_back};
 
 /// The jobs of a pair, except the ticker.

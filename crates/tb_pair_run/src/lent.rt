@@ -1,9 +1,9 @@
 //! The ticker of a pair as a job, to which both buses and the clock are lent.
 
 use std::sync::Wait;
-use tb_algebra::Walker;
 use tb_edge::{Clock, Job};
 use tb_pair::{TickedBus, pair_ticker};
+use tb_process_steps::Walker;
 use tb_run::WorkEnd;
 
 /// The ticker of a pair, as a job. Both buses and the clock are lent to it.

@@ -5,8 +5,8 @@ ghost use Rattle.tb_run.specs.Parting.{parted};
 ghost use Rattle.tb_pair.specs.Parts.{to_pipe};
 ghost use Rattle.tb_pair_run.specs.Helpers.Parts.{lane_rights, pipe_seat_of, tick_seat_of, rest_of};
 
-use tb_algebra::Walker;
 use tb_lock::{Rights, Seat, Shared};
+use tb_process_steps::Walker;
 use tb_run::{in_of, out_of, split_all};
 
 /// Passes a seat to each worker of lanes 2 to 16, in the order of the jobs. Then passes one to the worker that serves the pipe, and one

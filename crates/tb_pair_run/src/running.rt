@@ -16,11 +16,11 @@ use std::mem;
 use std::sync::Wait;
 use std::sync::atomic::AtomicU32;
 use std::thread::Threads;
-use tb_algebra::Walker;
 use tb_core::Core;
 use tb_edge::{Clock, Crew, Inlet, LanePair, Outlet};
 use tb_lock::{Seat, Shared};
 use tb_log::show_proper_log;
+use tb_process_steps::Walker;
 use tb_run::{AnyInlet, AnyOutlet, Boxes, Lanes, Post, make_boxes, pair_lanes, part_lanes};
 
 /// How many workers a bus has, except the ticker that both share: those of lanes 2 to 16, the stepper, and the pipe's.

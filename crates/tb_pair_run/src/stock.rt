@@ -5,8 +5,8 @@ ghost use Rattle.rtrb.specs.Ring.{IsPair, received, sent};
 use crate::apart::WORKERS;
 use rtrb::{Consumer, Producer, RingBuffer};
 use std::alloc::Global;
-use tb_algebra::Walker;
 use tb_pair::{PairJob, Piece};
+use tb_process_steps::Walker;
 use tb_run::{Room, Worker, make_room};
 use tb_terms::NoMemory;
 

@@ -9,9 +9,9 @@ ghost use Rattle.tb_run.specs.Parting.{parted};
 ghost use Rattle.tb_pair_run.specs.Helpers.Parts.{lane_rights, pipe_seat_of, tick_seat_of, rest_of};
 
 use crate::parts::hand_out;
-use tb_algebra::Walker;
 use tb_edge::{Inlet, Outlet};
 use tb_lock::{Seat, Shared};
+use tb_process_steps::Walker;
 use tb_run::{Ended, Lanes, Post, Room, WorkEnd, Worker, begin_all, gather, with_others, works_of};
 
 /// The values that a bus keeps while its workers work.

@@ -21,12 +21,12 @@ use rtrb::{Consumer, Producer};
 use std::sync::Wait;
 use std::sync::atomic::AtomicU32;
 use std::thread::Threads;
-use tb_algebra::Walker;
 use tb_bus::a_bus_that_is_down_stays_down;
 use tb_core::a_full_log_is_at_its_limit;
 use tb_edge::{Clock, Crew, Inlet, Outlet};
 use tb_lock::{Seat, joins_keep_their_own};
 use tb_pair::{Piece, PipeIn, PipeOut, PipeReading, PipeWriting, TickedBus, ends_meet};
+use tb_process_steps::Walker;
 use tb_run::{Lanes, Post, RunWhy, WorkEnd, Worker};
 
 /// One of the two buses, before its workers begin.

@@ -24,8 +24,8 @@ use Rattle.tb_log.specs.declared.entry.ToolLine.TheVariants as tool
 use Rattle.tb_read.specs.declared.fault.TermFault.TheVariants as fault
 use Rattle.tb_read.specs.Spelling.{Reads}
 use Rattle.tb_read.proofs.Written.{written_reads}
-use Rattle.tb_lane.specs.ToolLines.{IsToolLine, are_within, connect_line, event_line, line_by_layer, line_by_name, name_line, named_line, value_line}
-use Rattle.tb_lane.proofs.Lines.{faulty-line, read-line}
+use Rattle.tb_tool_line.specs.ToolLines.{IsToolLine, are_within, connect_line, event_line, line_by_layer, line_by_name, name_line, named_line, value_line}
+use Rattle.tb_tool_line.proofs.Lines.{faulty-line, read-line}
 use Rattle.tb_feed.specs.Feeds.{Says}
 use Rattle.tb_log.specs.declared.entry.Entry.TheVariants.{Fed}
 use Rattle.tb_log.specs.declared.entry.Reply.TheVariants.{Took}

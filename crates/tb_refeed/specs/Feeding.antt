@@ -1,7 +1,7 @@
 -- Which inputs came in by a log, the text of their feed, and where a line of a tool is too long for a feed.
 use Rattle.std.specs.Prelude.{◌≡◌, ℕ, ◌-◌, ◌<◌, ◌≤◌, List, [], ◌∷◌, ◌++◌, length, slice_get, Option, Some, None}
 use Rattle.std.specs.List.{filter_map, flat_map}
-use Rattle.tb_lane.specs.ToolLines.{most_line_bytes}
+use Rattle.tb_tool_line.specs.ToolLines.{most_line_bytes}
 use Rattle.tb_log.specs.LogText.{input_words, log_text, tool_line_words}
 use Rattle.tb_log.specs.declared.entry.Input.{Input}
 use Rattle.tb_log.specs.declared.entry.Input.TheVariants as input

@@ -6,9 +6,9 @@ use Rattle.tb_func.specs.declared.slot.Slot.{Slot}
 use Rattle.tb_match.specs.declared.bind.Bind.{Bind}
 use Rattle.tb_body.specs.declared.body.Body.{Body}
 use Rattle.tb_body.specs.declared.program.Program.{Program}
-use Rattle.tb_algebra.specs.Processes.{At, Seq}
-use Rattle.tb_algebra.specs.Offers.{Offered, offers, offers_if, offers_after, before}
-use Rattle.tb_algebra.specs.Settings.{tested}
+use Rattle.tb_process_steps.specs.Processes.{At, Seq}
+use Rattle.tb_process_steps.specs.Offers.{Offered, offers, offers_if, offers_after, before}
+use Rattle.tb_process_steps.specs.Settings.{tested}
 use Rattle.tb_bus.specs.declared.action.Action.{Action}
 use Rattle.tb_bus.specs.declared.action.Action.TheVariants as action
 use Rattle.tb_bus.specs.declared.action.OwnAction.TheVariants as own

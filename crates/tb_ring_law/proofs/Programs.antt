@@ -12,7 +12,7 @@ use Rattle.tb_body.specs.Acts.{is_atom_in_body}
 use Rattle.tb_body.specs.Exprs.{is_value}
 use Rattle.tb_body.specs.InRange.{is_body_in_range, is_tree_in_range, ascends_by_one, tree_step}
 use Rattle.tb_body.specs.Trees.{tree_atoms, tree_levels, atoms_step, levels_step}
-use Rattle.tb_algebra.specs.Processes.{Process, fresh, fresh_step}
+use Rattle.tb_process_steps.specs.Processes.{Process, fresh, fresh_step}
 use Rattle.tb_expand.proofs.TreeFolds.{fold-At, fold-Seq, fold-Star, fold-IfElse, fold-Let}
 use Rattle.tb_ring_law.specs.Helpers.Bodies.{setting, first_test, node_tree, node_atoms, node_sorts, first_tree, first_atoms, int_sorts}
 use Rattle.tb_ring_law.specs.Helpers.Buses.{node_waits, first_begins_with}

@@ -4,8 +4,8 @@ use Rattle.std.specs.List.{flat_map}
 use Rattle.std.proofs.lemmas.Bool.{le-ltb, lt-ltb, le-leb, ne_eqb, eq-eqb}
 use Rattle.std.proofs.lemmas.List.{append-nil}
 use Rattle.tb_body.specs.declared.program.Program.{Program}
-use Rattle.tb_algebra.specs.Processes.{Process}
-use Rattle.tb_algebra.specs.Offers.{Offered}
+use Rattle.tb_process_steps.specs.Processes.{Process}
+use Rattle.tb_process_steps.specs.Offers.{Offered}
 use Rattle.tb_func.specs.declared.slot.Slot.{Slot}
 use Rattle.tb_bus.specs.Buses.{Proc, proc_left}
 use Rattle.tb_bus.specs.Steps.{Move, Handshake, Step, steps, step_of, label_of, moves, moves_of_all, moves_of, moves_or_halt, in_turn, handshakes, handshakes_with, advance}

@@ -28,8 +28,8 @@ use Rattle.tb_func.specs.Numbers.{arithmetic, order}
 use Rattle.tb_func.specs.Stores.{value_at}
 use Rattle.tb_func.specs.Values.{value_of, value_step, all_of}
 use Rattle.tb_match.specs.Matches.{match_list, match_term}
-use Rattle.tb_algebra.specs.Atoms.{limited_together, values_together, patterns_of}
-use Rattle.tb_algebra.specs.Settings.{with_settings, tested}
+use Rattle.tb_process_steps.specs.Atoms.{limited_together, values_together, patterns_of}
+use Rattle.tb_process_steps.specs.Settings.{with_settings, tested}
 use Rattle.tb_terms.proofs.SameLemmas.{is_same-refl, is_same-sound}
 use Rattle.tb_ring_law.specs.Helpers.Buses.{node_store, first_store}
 use Rattle.tb_ring_law.specs.Helpers.Bodies.{number, worth, setting, one_more, node_receives, node_sends, first_test, first_begins, first_receives, first_sends, done}

@@ -5,8 +5,8 @@ use Rattle.std.proofs.lemmas.Bool.{le-ltb, ne_eqb, eq-eqb}
 use Rattle.std.proofs.lemmas.Grind.{flat_map-append}
 use Rattle.tb_match.specs.declared.bind.Bind.{Bind}
 use Rattle.tb_body.specs.declared.program.Program.{Program}
-use Rattle.tb_algebra.specs.Offers.{Offered}
-use Rattle.tb_algebra.specs.Binds.{with_binds}
+use Rattle.tb_process_steps.specs.Offers.{Offered}
+use Rattle.tb_process_steps.specs.Binds.{with_binds}
 use Rattle.tb_bus.specs.Buses.{Proc, proc_left}
 use Rattle.tb_bus.specs.Steps.{Move, advance, handshakes_with}
 use Rattle.tb_ring_law.specs.Helpers.Buses.{bus_of, Waits, AllWait}

@@ -14,9 +14,9 @@ use Rattle.tb_read.specs.declared.fault.TermFault.TheVariants as fault
 use Rattle.tb_read.specs.Tokens.{appl_tokens}
 use Rattle.tb_read.specs.Spelling.{Reads}
 use Rattle.tb_read.proofs.Written.{written_reads}
-use Rattle.tb_lane.specs.ToolLines.{line_of, IsToolLine}
-use Rattle.tb_lane.specs.Sending.{taken_of}
-use Rattle.tb_lane.proofs.Lines.{read-line, faulty-line}
+use Rattle.tb_tool_line.specs.ToolLines.{line_of, IsToolLine}
+use Rattle.tb_tool_line.specs.Sending.{taken_of}
+use Rattle.tb_tool_line.proofs.Lines.{read-line, faulty-line}
 use Rattle.tb_body.specs.declared.tree.Tree.{the_lemmas as tree_lemmas}
 use Rattle.tb_body.specs.declared.tree.Tree.TheVariants as tree
 use Rattle.tb_body.specs.declared.act.Act.TheVariants as act
@@ -25,8 +25,8 @@ use Rattle.tb_body.specs.declared.body.Body.{Body}
 use Rattle.tb_body.specs.declared.program.Tool.{Tool}
 use Rattle.tb_body.specs.InRange.{is_body_in_range}
 use Rattle.tb_body.specs.Programs.{is_program_in_range}
-use Rattle.tb_algebra.specs.Processes.{Process, At, Seq, Let, fresh}
-use Rattle.tb_algebra.specs.Settings.{with_settings}
+use Rattle.tb_process_steps.specs.Processes.{Process, At, Seq, Let, fresh}
+use Rattle.tb_process_steps.specs.Settings.{with_settings}
 use Rattle.tb_notes.specs.Inboxes.{nothing}
 use Rattle.tb_tools.specs.Lanes.{Lane, unused, new_tool}
 use Rattle.tb_tools.specs.declared.stage.Stage.TheVariants as stage

@@ -15,7 +15,7 @@ use Rattle.tb_terms.specs.declared.sort.Sort.TheVariants as sort
 use Rattle.tb_terms.specs.Sizes.{is_within_limits}
 use Rattle.tb_terms.specs.Sorts.{has_sort, initial_value}
 use Rattle.tb_terms.specs.Texts.{term_text}
-use Rattle.tb_lane.specs.Sending.{taken_of}
+use Rattle.tb_tool_line.specs.Sending.{taken_of}
 use Rattle.tb_body.specs.declared.tree.Tree.{Tree, the_lemmas as tree_lemmas}
 use Rattle.tb_body.specs.declared.tree.Tree.TheVariants as tree
 use Rattle.tb_body.specs.declared.act.Act.TheVariants as act
@@ -24,9 +24,9 @@ use Rattle.tb_body.specs.declared.body.Body.{Body}
 use Rattle.tb_body.specs.declared.program.Tool.{Tool}
 use Rattle.tb_body.specs.InRange.{is_body_in_range}
 use Rattle.tb_body.specs.Programs.{is_program_in_range}
-use Rattle.tb_algebra.specs.Processes.{Process, At, Seq, Let, fresh}
-use Rattle.tb_algebra.specs.Atoms.{values_together}
-use Rattle.tb_algebra.specs.Settings.{with_settings}
+use Rattle.tb_process_steps.specs.Processes.{Process, At, Seq, Let, fresh}
+use Rattle.tb_process_steps.specs.Atoms.{values_together}
+use Rattle.tb_process_steps.specs.Settings.{with_settings}
 use Rattle.tb_notes.specs.Inboxes.{nothing}
 use Rattle.tb_tools.specs.Lanes.{Lane, unused, new_tool}
 use Rattle.tb_tools.specs.declared.stage.Stage.TheVariants as stage

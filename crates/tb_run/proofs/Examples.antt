@@ -35,7 +35,7 @@ use Rattle.tb_bus.proofs.TraceLemmas.{after-first, legal-first, legal-quiet, leg
 use Rattle.tb_edge.specs.declared.given.Given.{Given}
 use Rattle.tb_edge.specs.declared.given.Taken.{Taken}
 use Rattle.tb_edge.specs.Ends.{InletView, ClockView}
-use Rattle.tb_lane.specs.Sending.{taken_of}
+use Rattle.tb_tool_line.specs.Sending.{taken_of}
 use Rattle.tb_log.specs.Lanes.{inputs, sent}
 use Rattle.tb_core.specs.Cores.{CoreState, says_quiet}
 use Rattle.tb_lock.specs.Histories.{IsSparse}

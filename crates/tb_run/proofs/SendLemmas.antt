@@ -5,7 +5,7 @@ use denote.Ref.{NamedLft}
 use denote.RattleType.{RattleType}
 use Rattle.std.proofs.Crossing.{crosses, sync as global_sync}
 use Rattle.atomic_table.proofs.badge.Badge.TheSendSync.{the_send as badge_send}
-use Rattle.tb_algebra.specs.declared.walker.Walker.{Ghosts}
+use Rattle.tb_process_steps.specs.declared.walker.Walker.{Ghosts}
 use Rattle.tb_bells.specs.contracts.bell.Bell as bell
 use Rattle.tb_bells.specs.contracts.bells.Bells as bells
 use Rattle.tb_lock.specs.contracts.seat.Seat as seat

@@ -16,9 +16,9 @@ use Rattle.tb_terms.specs.Sorts.{has_sort, initial_value}
 use Rattle.tb_terms.specs.Texts.{term_text}
 use Rattle.tb_read.specs.Spelling.{Reads}
 use Rattle.tb_read.proofs.Written.{written_reads}
-use Rattle.tb_lane.specs.ToolLines.{line_of, IsToolLine}
-use Rattle.tb_lane.specs.Sending.{taken_of}
-use Rattle.tb_lane.proofs.Lines.{read-line, lines-same}
+use Rattle.tb_tool_line.specs.ToolLines.{line_of, IsToolLine}
+use Rattle.tb_tool_line.specs.Sending.{taken_of}
+use Rattle.tb_tool_line.proofs.Lines.{read-line, lines-same}
 use Rattle.tb_func.specs.declared.slot.Slot.{Slot}
 use Rattle.tb_body.specs.declared.tree.Tree.{Tree, the_lemmas as tree_lemmas}
 use Rattle.tb_body.specs.declared.tree.Tree.TheVariants as tree
@@ -29,13 +29,13 @@ use Rattle.tb_body.specs.declared.body.Body.{Body}
 use Rattle.tb_body.specs.declared.program.Tool.{Tool}
 use Rattle.tb_body.specs.InRange.{is_body_in_range}
 use Rattle.tb_body.specs.Programs.{is_program_in_range}
-use Rattle.tb_algebra.specs.Processes.{Process, At, Seq, Let, fresh}
-use Rattle.tb_algebra.specs.Atoms.{values_together, patterns_of}
+use Rattle.tb_process_steps.specs.Processes.{Process, At, Seq, Let, fresh}
+use Rattle.tb_process_steps.specs.Atoms.{values_together, patterns_of}
 use Rattle.tb_match.specs.Matches.{match_list, match_term}
 use Rattle.tb_terms.specs.declared.pattern.Pattern.{the_lemmas as pattern_lemmas}
 use Rattle.tb_terms.specs.declared.pattern.Pattern.TheVariants as pattern
 use Rattle.std.proofs.lemmas.Bool.{false_from_ne_true}
-use Rattle.tb_algebra.specs.Settings.{with_settings}
+use Rattle.tb_process_steps.specs.Settings.{with_settings}
 use Rattle.tb_notes.specs.Inboxes.{nothing}
 use Rattle.tb_tools.specs.Lanes.{Lane, unused, new_tool}
 use Rattle.tb_tools.specs.declared.stage.Stage.TheVariants as stage

@@ -13,8 +13,8 @@ use Rattle.tb_log.specs.declared.entry.Entry.{Entry}
 use Rattle.tb_log.specs.declared.entry.Entry.TheVariants.{Did, Quiet, Fed, Gave}
 use Rattle.tb_log.specs.Lanes.{sent, cuts, is_cut_off}
 use Rattle.tb_log.specs.Shapes.{InShape, IsOutInShape}
-use Rattle.tb_lane.specs.Sending.{taken_of}
-use Rattle.tb_lane.specs.declared.send.SendFault.{SendFault}
+use Rattle.tb_tool_line.specs.Sending.{taken_of}
+use Rattle.tb_tool_line.specs.declared.send.SendFault.{SendFault}
 use Rattle.tb_bus.specs.Buses.{Bus, start}
 use Rattle.tb_bus.specs.Traces.{IsTrace, replay}
 use Rattle.tb_bus.specs.declared.origin.Origin.{Origin}

@@ -19,7 +19,7 @@ use Rattle.tb_tools.specs.Finding.{next_out}
 use Rattle.tb_bus.specs.Commands.{largest_command}
 use Rattle.tb_core.specs.Cores.{CoreState}
 use Rattle.tb_core.specs.Full.{IsAtLimit}
-use Rattle.tb_lane.specs.Sending.{taken_of}
+use Rattle.tb_tool_line.specs.Sending.{taken_of}
 use Rattle.tb_lock.specs.Histories.{IsSparse}
 use Rattle.tb_run.specs.Dropping.{HasDropped}
 use Rattle.tb_run.specs.Clocks.{ClockRan, ClockStopped}

@@ -3,7 +3,7 @@ use Rattle.std.specs.Prelude.{◌≡◌, ◌+◌, ◌⊎◌, ℕ, Bool, true, fa
 use Rattle.tb_edge.specs.Faults.{Rose}
 use Rattle.tb_edge.specs.Ends.{ClockView, and_given, and_taken, and_ticked}
 use Rattle.tb_edge.specs.declared.given.Given.{Given}
-use Rattle.tb_lane.specs.Sending.{taken_of}
+use Rattle.tb_tool_line.specs.Sending.{taken_of}
 use Rattle.tb_log.specs.declared.entry.Input.{Input}
 use Rattle.tb_log.specs.declared.entry.Input.TheVariants.{Tick, NoTicks, Cut}
 use Rattle.tb_log.specs.declared.entry.Out.{Out}

@@ -19,8 +19,8 @@ use Rattle.tb_log.specs.Lanes.{inputs, given_on, sent, cuts, is_cut_off}
 use Rattle.tb_bus.specs.Buses.{Bus, start}
 use Rattle.tb_bus.specs.Traces.{replay}
 use Rattle.tb_tools.specs.Finding.{next_out}
-use Rattle.tb_lane.specs.ToolLines.{IsToolLine}
-use Rattle.tb_lane.specs.Sending.{taken_of}
+use Rattle.tb_tool_line.specs.ToolLines.{IsToolLine}
+use Rattle.tb_tool_line.specs.Sending.{taken_of}
 use Rattle.tb_core.specs.Cores.{HandIn, MakeStep, HandOut}
 use Rattle.tb_lock.specs.Seats.{SeatView}
 use Rattle.tb_run.specs.declared.ends.WorkEnd.{WorkEnd}

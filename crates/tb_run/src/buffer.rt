@@ -1,10 +1,10 @@
 //! A buffer with capacity for any line that is sent.
 ghost use Rattle.std.specs.Prelude.{◌≤◌, vec_capacity};
-ghost use Rattle.tb_lane.specs.Sending.{most_line_text};
+ghost use Rattle.tb_tool_line.specs.Sending.{most_line_text};
 
 use std::alloc::Global;
-use tb_lane::MOST_LINE_TEXT;
 use tb_terms::NoMemory;
+use tb_tool_line::MOST_LINE_TEXT;
 
 /// A buffer with capacity for the text of any line that is sent.
 #[derive(Drop)]

@@ -9,10 +9,10 @@ ghost use Rattle.tb_run.specs.Helpers.Working.{end_of};
 use crate::ends::WorkEnd;
 use crate::post::{Post, lane_of};
 use std::sync::Wait;
-use tb_algebra::Walker;
 use tb_core::CoreFault;
 use tb_lock::{Seat, calls_add_their_own};
 use tb_log::{Input, Reply, Why};
+use tb_process_steps::Walker;
 
 /// Delivers an input, and wakes those for whom it may leave something to do. Returns why the worker ends, if it ends: the bus has shut
 /// down, or the call was rejected. After a rejected call, the worker has stopped the bus, unless the bus was stopped before.

@@ -10,11 +10,11 @@ use crate::ends::LogEnd;
 use crate::handing::stop;
 use crate::post::Post;
 use std::sync::Wait;
-use tb_algebra::Walker;
 use tb_bells::{Bells, Sleeper};
 use tb_edge::{Job, Sink};
 use tb_lock::{Seat, calls_add_their_own};
 use tb_log::Entry;
+use tb_process_steps::Walker;
 use tb_write::{LogFault, LogWriter};
 
 /// The number of entries that are read in one turn.

@@ -7,8 +7,8 @@ ghost use Rattle.tb_run.specs.Moving.{works_of, readers, writers, inlets_of, out
 use crate::lanes::{AnyInlet, AnyOutlet, Lanes};
 use crate::room::Ended;
 use crate::worker::{Work, Worker};
-use tb_algebra::Walker;
 use tb_edge::{Inlet, LanePair, Outlet};
+use tb_process_steps::Walker;
 
 /// Moves the ends out of the pairs, to the end of the lists.
 pub fn part_lanes(pairs: Vec<LanePair>, lanes: &mut Lanes<AnyInlet, AnyOutlet>)

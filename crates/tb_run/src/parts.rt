@@ -6,8 +6,8 @@ ghost use Rattle.tb_run.specs.Parting.{left_after, parted};
 ghost use Rattle.tb_run.specs.Parts.{job_rights, in_of, out_of};
 
 use crate::seats::split_all;
-use tb_algebra::Walker;
 use tb_lock::{Rights, Seat, Shared};
+use tb_process_steps::Walker;
 
 /// Passes a seat to each worker, in the order of the jobs. Then passes one to the tick worker, and one without rights to the job that
 /// writes the log.

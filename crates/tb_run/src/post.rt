@@ -3,10 +3,10 @@ ghost use Rattle.std.specs.Prelude.{◌≡◌};
 
 use std::alloc::Global;
 use std::sync::atomic::{AtomicU32, Ordering};
-use tb_algebra::Walker;
 use tb_bells::{Bells, Sleeper};
 use tb_lock::Shared;
 use tb_log::{Input, Out};
+use tb_process_steps::Walker;
 
 /// Holds the parts that all workers of one bus share.
 #[derive(Drop)]

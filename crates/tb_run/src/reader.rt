@@ -9,11 +9,11 @@ use crate::ends::WorkEnd;
 use crate::handing::{hand, stop};
 use crate::post::Post;
 use std::sync::Wait;
-use tb_algebra::Walker;
 use tb_edge::{Got, Inlet};
-use tb_lane::read_tool_line;
 use tb_lock::Seat;
 use tb_log::{Input, ToolLine};
+use tb_process_steps::Walker;
+use tb_tool_line::read_tool_line;
 
 /// Delivers all items of an inlet, until the inlet is over or the bus has shut down. A failure of the inlet is the end of its tool.
 /// `line` is for the lines.

@@ -20,11 +20,11 @@ use std::alloc::Global;
 use std::mem;
 use std::sync::Wait;
 use std::thread::Threads;
-use tb_algebra::Walker;
 use tb_core::{Core, a_full_log_is_at_its_limit};
 use tb_edge::{Clock, Crew, Inlet, LanePair, Outlet, Sink};
 use tb_lock::{Seat, Shared};
 use tb_log::{Log, show_proper_log};
+use tb_process_steps::Walker;
 use tb_write::{LogFault, LogWriter};
 
 /// Runs a bus over the two ends of sixteen lanes, which it returns.

@@ -4,8 +4,8 @@ ghost use Rattle.std.specs.List.{All};
 ghost use Rattle.tb_run.specs.Joining.{JoinsAll};
 ghost use Rattle.tb_run.specs.Parting.{CanPart, parted, left_after};
 
-use tb_algebra::Walker;
 use tb_lock::{Rights, Seat, Shared};
+use tb_process_steps::Walker;
 
 /// Joins all seats to one, in order. All are seats of the same bus.
 pub fn join_all<W: Walker>(shared: &Shared<W>, seat: &mut Seat, others: Vec<Seat>)

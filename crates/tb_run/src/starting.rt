@@ -8,9 +8,9 @@ use crate::buffer::Buffer;
 use crate::ends::WorkEnd;
 use crate::post::Post;
 use crate::worker::{Work, Worker};
-use tb_algebra::Walker;
 use tb_edge::{Inlet, Outlet};
 use tb_lock::Seat;
+use tb_process_steps::Walker;
 
 /// Makes a worker for each work, with the seat at the same place and a buffer.
 pub fn begin_all<'a, W: Walker, I: Inlet, O: Outlet>(

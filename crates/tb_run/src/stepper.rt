@@ -11,10 +11,10 @@ use crate::ends::WorkEnd;
 use crate::handing::refused;
 use crate::post::Post;
 use std::sync::Wait;
-use tb_algebra::Walker;
 use tb_bells::Sleeper;
 use tb_core::{CoreFault, Stepped};
 use tb_lock::{Seat, calls_add_their_own};
+use tb_process_steps::Walker;
 
 /// The largest number of turns that the stepper takes before it wakes the others.
 const BURST: u32 = 8;

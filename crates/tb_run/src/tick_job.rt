@@ -3,9 +3,9 @@ use crate::ends::WorkEnd;
 use crate::post::Post;
 use crate::ticker::tick_worker;
 use std::sync::Wait;
-use tb_algebra::Walker;
 use tb_edge::{Clock, Job};
 use tb_lock::Seat;
+use tb_process_steps::Walker;
 
 /// The tick worker. Its clock is lent. So the worker isn't a job of the list, but is lent itself.
 #[derive(Drop)]

@@ -9,10 +9,10 @@ use crate::ends::WorkEnd;
 use crate::handing::hand;
 use crate::post::Post;
 use std::sync::Wait;
-use tb_algebra::Walker;
 use tb_edge::{Beat, Clock};
 use tb_lock::Seat;
 use tb_log::Input;
+use tb_process_steps::Walker;
 
 /// Delivers the ticks of a clock, at most `ticks` of them, and then reports that no more come.
 pub fn tick_worker<W: Walker, R: Wait, C: Clock>(

@@ -8,9 +8,9 @@ use crate::reader::read_lane;
 use crate::stepper::step_worker;
 use crate::writer::write_lane;
 use std::sync::Wait;
-use tb_algebra::Walker;
 use tb_edge::{Inlet, Job, Outlet};
 use tb_lock::Seat;
+use tb_process_steps::Walker;
 
 /// The work of a worker.
 #[derive(Drop)]

@@ -31,10 +31,10 @@ use crate::worker::Worker;
 use std::mem;
 use std::sync::Wait;
 use std::thread::Threads;
-use tb_algebra::Walker;
 use tb_bus::a_bus_that_is_down_stays_down;
 use tb_edge::{Clock, Crew, CrewFault, Inlet, Outlet, Sink};
 use tb_lock::{Seat, Shared, joins_keep_their_own};
+use tb_process_steps::Walker;
 use tb_write::LogWriter;
 
 /// The workers of a run, with their seats.

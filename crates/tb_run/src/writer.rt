@@ -1,7 +1,7 @@
 //! The worker that writes the items of a lane to its outlet.
 ghost use Rattle.std.specs.Prelude.{◌≡◌, ◌≤◌, true, None, MatchOption, OnOk, OnErr, vec_capacity};
 ghost use Rattle.tb_log.specs.Shapes.{IsLane};
-ghost use Rattle.tb_lane.specs.Sending.{most_line_text};
+ghost use Rattle.tb_tool_line.specs.Sending.{most_line_text};
 ghost use Rattle.tb_lock.specs.Rights.{Out as Outs, has};
 ghost use Rattle.tb_run.specs.Workers.{WritesLane};
 ghost use Rattle.tb_run.specs.Helpers.Working.{Writes, CutsOff, going_on};
@@ -10,14 +10,14 @@ use crate::ends::WorkEnd;
 use crate::handing::{hand, refused};
 use crate::post::Post;
 use std::sync::Wait;
-use tb_algebra::Walker;
 use tb_bells::Sleeper;
 use tb_bus::entries_are_in_shape;
 use tb_core::TakeOut;
 use tb_edge::Outlet;
-use tb_lane::{SendFault, send_out};
 use tb_lock::{Seat, calls_add_their_own};
 use tb_log::Input;
+use tb_process_steps::Walker;
+use tb_tool_line::{SendFault, send_out};
 
 /// Writes all items that are sent on a lane to its outlet, until the bus has shut down and nothing is left. Then it closes the outlet.
 /// If the outlet fails to take an item, the worker reports the item as cut off before it takes the next.

@@ -10,7 +10,7 @@ use Rattle.tb_match.specs.declared.bind.Bind.{Bind}
 use Rattle.tb_match.specs.Matches.{match_list}
 use Rattle.tb_body.specs.declared.atom.Atom.{Atom}
 use Rattle.tb_body.specs.declared.body.Body.{Body}
-use Rattle.tb_algebra.specs.Offers.{Offered, offers}
+use Rattle.tb_process_steps.specs.Offers.{Offered, offers}
 use Rattle.tb_bus.specs.Buses.{Bus, Proc, atoms_of}
 use Rattle.tb_bus.specs.Actions.{action_of}
 use Rattle.tb_bus.specs.Steps.{Move, Handshake, Halt, handshake_if, handshake_of, handshakes_with, handshakes, own_if, moves_by, moves_of, moves_of_all, moves, moves_while_up, moves_or_halt, first}

@@ -5,7 +5,7 @@ use Rattle.tb_terms.specs.declared.term.Term.{Term}
 use Rattle.tb_match.specs.declared.bind.Bind.{Bind}
 use Rattle.tb_match.specs.Matches.{match_list}
 use Rattle.tb_body.specs.declared.atom.Atom.{Atom}
-use Rattle.tb_algebra.specs.Offers.{Offered}
+use Rattle.tb_process_steps.specs.Offers.{Offered}
 use Rattle.tb_body.specs.declared.body.Body.{Body}
 use Rattle.tb_notes.specs.Inboxes.{Held, nothing, wants, oldest_match}
 use Rattle.tb_bus.specs.Actions.{action_of}

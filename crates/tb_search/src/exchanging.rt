@@ -21,10 +21,13 @@ use tb_terms::{Items, Name, NoMemory, Patterns, Term, Terms, is_within_limits};
 use tb_tools::{Bench, Stage};
 
 /// A process that may speak with tools: its body among those of a program, and the lanes on which the tools stand.
-#[derive(Drop)]
-pub(crate) struct Speaker<'a> {
+#[derive(Clone, Copy)]
+pub struct Speaker<'a> {
+    /// Where the body and the kinds of tools are.
     pub program: &'a Program,
+    /// The lanes.
     pub bench: &'a Bench,
+    /// The number of the body.
     pub body: u32,
 }
 
@@ -211,7 +214,7 @@ fn received_on(alloc: Global, bench: &Bench, lane: u8, event: &Terms) -> Option<
     }
 }
 
-/// A copy of the terms behind the first one, which names the tool.
+/// Copies the terms after the first one, which names the tool.
 pub fn behind(alloc: Global, terms: &Terms) -> Result<Terms, NoMemory>
     ensures { IfOk result (λ event. event ≡ behind terms.now) }
 {
@@ -272,7 +275,7 @@ fn starting(
     }
 }
 
-/// The term of the next tool, where it has this name.
+/// Returns the term of the next tool, if it has this name.
 pub fn next_term(alloc: Global, bench: &Bench, name: &Name) -> Result<Term, NoMemory>
     ensures { IfOk result (λ tool. tool ≡ tool_term name.now bench.now.next_tool) }
 {

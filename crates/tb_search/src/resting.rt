@@ -88,8 +88,9 @@ fn rests<W>(
     }
 }
 
-/// Whether so does each action that a process is ready for: it may sleep until another process, a note or a tool
-/// wakes it.
+/// Returns whether no action that a process is ready for can happen now. Then the process may sleep until another process, a note, or
+/// a tool wakes it.
+#[inline(always)]
 pub fn all_rest<W>(
     alloc: Global,
     program: &Program,

@@ -1,14 +1,14 @@
 //! The checks that values have the sorts of formals and slots.
 ghost use Rattle.std.specs.Prelude.{◌≡◌, slice_get};
 ghost use Rattle.tb_body.specs.Programs.{have_sorts};
-ghost use Rattle.tb_algebra.specs.Binds.{has_slot_sort};
+ghost use Rattle.tb_process_steps.specs.Binds.{has_slot_sort};
 ghost use Rattle.tb_bus.specs.Slots.{fits_formals, fits_slot};
 
 use sqlite_items::at;
 use tb_body::Body;
 use tb_terms::{Sort, Term, has_sort};
 
-/// Whether the body has that many formals, and the values have their sorts; `false` where there is no such body.
+/// Returns whether the body has that many formals and the values have their sorts. If there is no such body, returns `false`.
 pub fn fits_formals(bodies: &[Body], process: u32, actuals: &[Term]) -> bool
     ensures { result ≡ fits_formals (slice_get bodies.now process) actuals.now }
 {
@@ -37,7 +37,7 @@ fn have_sorts(sorts: &[Sort], terms: &[Term]) -> bool
     true
 }
 
-/// Whether a slot of a body takes the value; `false` where there is no such body or slot.
+/// Returns whether a slot of a body takes the value. If there is no such body or slot, returns `false`.
 pub fn fits_slot(bodies: &[Body], process: u32, slot: u32, value: &Term) -> bool
     ensures { result ≡ fits_slot (slice_get bodies.now process) slot value.now }
 {
@@ -47,7 +47,7 @@ pub fn fits_slot(bodies: &[Body], process: u32, slot: u32, value: &Term) -> bool
     }
 }
 
-/// Whether there is such a slot, and the value has its sort.
+/// Returns whether there is such a slot and the value has its sort.
 pub fn has_slot_sort(sorts: &[Sort], slot: u32, value: &Term) -> bool
     ensures { result ≡ has_slot_sort (slice_get sorts.now slot) value.now }
 {

@@ -15,7 +15,7 @@ use Rattle.tb_body.specs.declared.body.Body.{Body}
 use Rattle.tb_body.specs.declared.program.Program.{Program}
 use Rattle.tb_body.specs.InRange.{is_body_in_range}
 use Rattle.tb_body.specs.Programs.{is_program_in_range}
-use Rattle.tb_algebra.specs.Processes.{Process, At, Seq, Alt, Par, fresh}
+use Rattle.tb_process_steps.specs.Processes.{Process, At, Seq, Alt, Par, fresh}
 use Rattle.tb_tools.specs.Lanes.{opening}
 use Rattle.tb_bus.specs.declared.origin.Origin.{Origin}
 use Rattle.tb_bus.specs.Buses.{Bus, Proc, start}

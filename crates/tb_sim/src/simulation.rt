@@ -9,10 +9,10 @@ ghost use Rattle.tb_sim.specs.Simulation.{IsSim, IsSimPrefix, limits_of, sim_sta
 ghost use Rattle.tb_sim.specs.Helpers.Turns.{HandsIn, HandsInNext, HandsOut, Goes, IsWithin, LeftWithin};
 
 use crate::ends::{Progress, SimEnd, Turned};
-use tb_algebra::Walker;
 use tb_core::{Core, CoreFault, Stepped, TakeOut};
 use tb_feed::Feed;
 use tb_log::Input;
+use tb_process_steps::Walker;
 use tb_terms::NoMemory;
 
 /// Returns whether the limit of steps is reached, though a step is possible.

@@ -10,10 +10,10 @@ ghost use Rattle.tb_verify.specs.Helpers.Followed.{FollowsLine, IsCrowdedLine, S
 use crate::verdict::{Verdict, VerifyFault};
 use std::alloc::Global;
 use std::mem::forget;
-use tb_algebra::Walker;
 use tb_body::Program;
 use tb_core::{Core, CoreFault};
 use tb_log_read::{LineBuffers, LogFault, read_line, split_line};
+use tb_process_steps::Walker;
 use tb_terms::Texts;
 
 /// How many entries a log has at most.

@@ -3,11 +3,11 @@ use Rattle.std.proofs.Common.{◌≡◌, ℕ, suc, ◌+◌, ◌-◌, ◌<◌, �
 use Rattle.std.specs.Prelude.{⊤}
 use Rattle.std.proofs.lemmas.List.{append-nil}
 use Rattle.tb_func.specs.declared.slot.Slot.{Slot}
-use Rattle.tb_algebra.specs.Processes.{Process, At, Seq, Alt, Star, Par, Disrupt, If, When, Let}
-use Rattle.tb_algebra.specs.Offers.{Offered, offers, followed, left_of, right_of, until as in_wait_of, before, on_the_left, on_the_right, in_wait}
-use Rattle.tb_algebra.specs.Helpers.Runnings.{waited}
-use Rattle.tb_algebra.specs.Walks.{offers_of_term}
-use Rattle.tb_algebra.proofs.SelectedLemmas.{with_left}
+use Rattle.tb_process_steps.specs.Processes.{Process, At, Seq, Alt, Star, Par, Disrupt, If, When, Let}
+use Rattle.tb_process_steps.specs.Offers.{Offered, offers, followed, left_of, right_of, until as in_wait_of, before, on_the_left, on_the_right, in_wait}
+use Rattle.tb_process_steps.specs.Helpers.Runnings.{waited}
+use Rattle.tb_process_steps.specs.Walks.{offers_of_term}
+use Rattle.tb_process_steps.proofs.SelectedLemmas.{with_left}
 use Rattle.tb_code.specs.Positions.{size, table, part, positions, node, op_at, root}
 use Rattle.tb_code.specs.declared.node.Node.{Node}
 use Rattle.tb_code.specs.declared.node.Op.TheVariants as op

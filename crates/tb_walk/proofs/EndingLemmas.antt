@@ -2,7 +2,7 @@
 use Rattle.std.proofs.Common.{◌≡◌, ℕ, zero, suc, ◌+◌, ◌<◌, Bool, true, false, ◌&&◌, ◌||◌, not, ◌≤◌, take, remove, set, List, [], ◌∷◌, ◌++◌, drop, length, slice_get, get_or, Option, Some, None, IfSome, refl, ap, sym, subst, ◌∙◌, arith}
 use Rattle.std.specs.Option.{option_to_list}
 use Rattle.std.proofs.lemmas.Option.{slice_get-get_or}
-use Rattle.tb_algebra.specs.Processes.{Process}
+use Rattle.tb_process_steps.specs.Processes.{Process}
 use Rattle.tb_code.specs.Positions.{positions, op_at, is_wait, Begins}
 use Rattle.tb_code.specs.declared.node.Node.{Node}
 use Rattle.tb_code.specs.declared.node.Op.{Op}

@@ -1,7 +1,7 @@
 -- What is left of a term is what its row is read as.
 use Rattle.std.proofs.Common.{◌≡◌, ℕ, suc, ◌+◌, ◌-◌, ◌<◌, ◌≤◌, List, [], ◌∷◌, ◌++◌, Option, Some, None, refl, ◌∙◌, arith, inl, inr}
-use Rattle.tb_algebra.specs.Processes.{Process, At, Seq, Alt, Star, Par, Disrupt, If, When, Let}
-use Rattle.tb_algebra.specs.Helpers.Runnings.{waited}
+use Rattle.tb_process_steps.specs.Processes.{Process, At, Seq, Alt, Star, Par, Disrupt, If, When, Let}
+use Rattle.tb_process_steps.specs.Helpers.Runnings.{waited}
 use Rattle.tb_code.specs.Positions.{size}
 use Rattle.tb_code.proofs.Parts.{some_size}
 use Rattle.tb_walk.specs.Lefts.{entered_at, beside, left}

@@ -8,9 +8,9 @@ use Rattle.tb_func.specs.declared.slot.Slot.{Slot}
 use Rattle.tb_body.specs.declared.atom.Atom.{Atom}
 use Rattle.tb_body.specs.declared.atom.Time.{Time}
 use Rattle.tb_body.specs.declared.tree.Setting.{Setting}
-use Rattle.tb_algebra.specs.Atoms.{is_ready, times_of}
-use Rattle.tb_algebra.specs.Processes.{Process, At, Seq, Alt, Star, Par, Disrupt, If, When, Let}
-use Rattle.tb_algebra.specs.Settings.{tested, with_settings}
+use Rattle.tb_process_steps.specs.Atoms.{is_ready, times_of}
+use Rattle.tb_process_steps.specs.Processes.{Process, At, Seq, Alt, Star, Par, Disrupt, If, When, Let}
+use Rattle.tb_process_steps.specs.Settings.{tested, with_settings}
 use Rattle.tb_code.specs.Entries.{all_led, entries_of, entry, followed, gate, is_timed, led, list_of, outset, what_by}
 use Rattle.tb_code.specs.Positions.{size, part, table, op_at, root, is_wait, Begins, IsTwo, IsUntil, IsWait, IsOne}
 use Rattle.tb_code.proofs.EntryLemmas.{followed-ended, outset_begins}

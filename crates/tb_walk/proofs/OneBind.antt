@@ -8,7 +8,7 @@ use Rattle.tb_terms.specs.Sorts.{has_sort}
 use Rattle.tb_func.specs.declared.slot.Slot.{Slot}
 use Rattle.tb_func.specs.Stores.{sort_at}
 use Rattle.tb_match.specs.declared.bind.Bind.{Bind}
-use Rattle.tb_algebra.specs.Binds.{has_slot_sort, takes_bind, takes_binds}
+use Rattle.tb_process_steps.specs.Binds.{has_slot_sort, takes_bind, takes_binds}
 
 pub only : (rest : List Bind) (bind : Bind) (binds : List Bind) → binds ≡ rest ++ bind ∷ [] → length binds ≡ 1 → binds ≡ bind ∷ []
 only [] bind binds e h = e

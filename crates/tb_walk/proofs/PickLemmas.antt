@@ -2,11 +2,11 @@
 use Rattle.std.proofs.Common.{◌≡◌, ℕ, suc, ◌+◌, ◌-◌, ◌≤◌, List, [], ◌∷◌, map, take, length, slice_get, Option, Some, None, refl, subst, ◌∙◌, arith, ◌⊎◌, inl, inr}
 use Rattle.tb_func.specs.declared.slot.Slot.{Slot}
 use Rattle.tb_body.specs.declared.atom.Atom.{Atom}
-use Rattle.tb_algebra.specs.Helpers.Selections.{selected}
-use Rattle.tb_algebra.specs.Offers.{offers}
-use Rattle.tb_algebra.specs.Processes.{Process}
-use Rattle.tb_algebra.specs.Reached.{IsNew}
-use Rattle.tb_algebra.specs.Helpers.OfferViews.{offer_views}
+use Rattle.tb_process_steps.specs.Helpers.Selections.{selected}
+use Rattle.tb_process_steps.specs.Offers.{offers}
+use Rattle.tb_process_steps.specs.Processes.{Process}
+use Rattle.tb_process_steps.specs.Reached.{IsNew}
+use Rattle.tb_process_steps.specs.Helpers.OfferViews.{offer_views}
 use Rattle.tb_code.specs.Positions.{part}
 use Rattle.tb_code.specs.Entries.{followed}
 use Rattle.tb_code.specs.declared.behind.Behind.{Behind}

@@ -3,12 +3,12 @@ use Rattle.std.proofs.Common.{◌≡◌, ℕ, suc, ◌+◌, ◌-◌, ◌<◌, �
 use Rattle.std.proofs.lemmas.List.{append-nil}
 use Rattle.tb_func.specs.declared.slot.Slot.{Slot}
 use Rattle.tb_body.specs.declared.atom.Atom.{Atom}
-use Rattle.tb_algebra.specs.Processes.{Process, Seq, Alt, Star, Par, Disrupt, If, When, Let}
-use Rattle.tb_algebra.specs.Offers.{offers, before, on_the_left, on_the_right, in_wait}
-use Rattle.tb_algebra.specs.Helpers.Runnings.{waited}
-use Rattle.tb_algebra.specs.Helpers.OfferViews.{OfferView, offer_view, offer_views}
-use Rattle.tb_algebra.specs.Walks.{offers_of_term}
-use Rattle.tb_algebra.proofs.OfferViewLemmas.{offer_views-Seq, offer_views-Par, offer_views-Disrupt}
+use Rattle.tb_process_steps.specs.Processes.{Process, Seq, Alt, Star, Par, Disrupt, If, When, Let}
+use Rattle.tb_process_steps.specs.Offers.{offers, before, on_the_left, on_the_right, in_wait}
+use Rattle.tb_process_steps.specs.Helpers.Runnings.{waited}
+use Rattle.tb_process_steps.specs.Helpers.OfferViews.{OfferView, offer_view, offer_views}
+use Rattle.tb_process_steps.specs.Walks.{offers_of_term}
+use Rattle.tb_process_steps.proofs.OfferViewLemmas.{offer_views-Seq, offer_views-Par, offer_views-Disrupt}
 use Rattle.tb_code.specs.Positions.{size, table, positions, node, op_in, op_at}
 use Rattle.tb_code.specs.declared.node.Node.{Node}
 use Rattle.tb_code.specs.declared.node.Op.TheVariants as op

@@ -4,7 +4,7 @@ use denote.Param.SendFields.{declared_send}
 use Rattle.std.proofs.Crossing.{crosses}
 use Rattle.sqlite_items.proofs.boxed.Boxed.TheSendSync.{the_send as boxed_send}
 use Rattle.sqlite_items.proofs.items.Items.TheSendSync.{the_send as items_send}
-use Rattle.tb_algebra.proofs.SendLemmas.{expr_row, setting_send, body_send, store_send}
+use Rattle.tb_process_steps.proofs.SendLemmas.{expr_row, setting_send, body_send, store_send}
 use Rattle.tb_code.specs.contracts.node.Node as node
 use Rattle.tb_code.specs.contracts.code.Code as code
 use Rattle.tb_code.specs.contracts.entry.Entry as entry

@@ -3,12 +3,12 @@ use Rattle.std.proofs.Common.{◌≡◌, ℕ, zero, suc, ◌<◌, true, List, []
 use Rattle.std.specs.Option.{ForSome}
 use Rattle.std.proofs.lemmas.Option.{slice_get-get_or, slice_get_within}
 use Rattle.tb_func.specs.declared.slot.Slot.{Slot}
-use Rattle.tb_algebra.specs.Helpers.Selections.{On}
-use Rattle.tb_algebra.specs.Processes.{Process, fresh}
-use Rattle.tb_algebra.specs.Helpers.OfferViews.{or_own}
-use Rattle.tb_algebra.specs.Offers.{Offered}
-use Rattle.tb_algebra.specs.Walks.{offers_of}
-use Rattle.tb_algebra.proofs.RewriterLemmas.{hit_is}
+use Rattle.tb_process_steps.specs.Helpers.Selections.{On}
+use Rattle.tb_process_steps.specs.Processes.{Process, fresh}
+use Rattle.tb_process_steps.specs.Helpers.OfferViews.{or_own}
+use Rattle.tb_process_steps.specs.Offers.{Offered}
+use Rattle.tb_process_steps.specs.Walks.{offers_of}
+use Rattle.tb_process_steps.proofs.RewriterLemmas.{hit_is}
 use Rattle.tb_code.specs.Positions.{size, part, positions, node, root}
 use Rattle.tb_code.specs.declared.code.Code.{Code}
 use Rattle.tb_code.specs.declared.node.Node.{Node}

@@ -4,16 +4,16 @@ use Rattle.std.proofs.lemmas.List.{map-append}
 use Rattle.tb_terms.specs.declared.expr.Expr.{Expr}
 use Rattle.tb_func.specs.declared.slot.Slot.{Slot}
 use Rattle.tb_body.specs.declared.atom.Atom.{Atom}
-use Rattle.tb_algebra.specs.Helpers.Selections.{Selected, On, selected_at, selected_with, or_past}
-use Rattle.tb_algebra.specs.Offers.{Offered, offers, before, on_the_left, on_the_right, in_wait, until as in_wait_of, offers_if, offers_after, followed, left_of, right_of}
-use Rattle.tb_algebra.specs.Processes.{Process, At, Seq, Alt, Star, Par, Disrupt, If, When, Let}
-use Rattle.tb_algebra.specs.Reached.{IsNew}
-use Rattle.tb_algebra.specs.Helpers.Runnings.{waited}
-use Rattle.tb_algebra.specs.Settings.{tested, with_settings}
-use Rattle.tb_algebra.specs.Helpers.OfferViews.{OfferView, offer_view, offer_views}
-use Rattle.tb_algebra.proofs.EntryLemmas.{waited-At, waited-Seq, waited-Alt, waited-Par, waited-Disrupt, waited-When, waited-If, waited-Let, star-offers}
-use Rattle.tb_algebra.proofs.SelectedLemmas.{at-append, at-map, with_left, then as followed_by, beside, along}
-use Rattle.tb_algebra.proofs.OfferViewLemmas.{offer_views-Seq, offer_views-Alt, offer_views-Par, offer_views-Disrupt}
+use Rattle.tb_process_steps.specs.Helpers.Selections.{Selected, On, selected_at, selected_with, or_past}
+use Rattle.tb_process_steps.specs.Offers.{Offered, offers, before, on_the_left, on_the_right, in_wait, until as in_wait_of, offers_if, offers_after, followed, left_of, right_of}
+use Rattle.tb_process_steps.specs.Processes.{Process, At, Seq, Alt, Star, Par, Disrupt, If, When, Let}
+use Rattle.tb_process_steps.specs.Reached.{IsNew}
+use Rattle.tb_process_steps.specs.Helpers.Runnings.{waited}
+use Rattle.tb_process_steps.specs.Settings.{tested, with_settings}
+use Rattle.tb_process_steps.specs.Helpers.OfferViews.{OfferView, offer_view, offer_views}
+use Rattle.tb_process_steps.proofs.EntryLemmas.{waited-At, waited-Seq, waited-Alt, waited-Par, waited-Disrupt, waited-When, waited-If, waited-Let, star-offers}
+use Rattle.tb_process_steps.proofs.SelectedLemmas.{at-append, at-map, with_left, then as followed_by, beside, along}
+use Rattle.tb_process_steps.proofs.OfferViewLemmas.{offer_views-Seq, offer_views-Alt, offer_views-Par, offer_views-Disrupt}
 use Rattle.tb_code.specs.Entries.{followed as and_behind}
 use Rattle.tb_code.specs.Positions.{size, part, of_two}
 use Rattle.tb_code.specs.declared.behind.Behind.{Behind}

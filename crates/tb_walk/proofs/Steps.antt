@@ -2,12 +2,12 @@
 use Rattle.std.proofs.Common.{◌≡◌, ℕ, suc, ◌+◌, ◌-◌, List, [], ◌∷◌, ◌++◌, map, length, slice_get, Option, Some, None, refl, ap, sym, subst, ◌∙◌, arith, inl, inr}
 use Rattle.std.proofs.lemmas.List.{append-nil}
 use Rattle.tb_func.specs.declared.slot.Slot.{Slot}
-use Rattle.tb_algebra.specs.Helpers.Selections.{Selected, On, selected, selected_at, selected_with, or_past}
-use Rattle.tb_algebra.specs.Offers.{Offered, offers}
-use Rattle.tb_algebra.specs.Processes.{Process}
-use Rattle.tb_algebra.specs.Helpers.Runnings.{waited}
-use Rattle.tb_algebra.specs.Walks.{offers_of_term}
-use Rattle.tb_algebra.proofs.SelectedLemmas.{at-append, at-map, with_left}
+use Rattle.tb_process_steps.specs.Helpers.Selections.{Selected, On, selected, selected_at, selected_with, or_past}
+use Rattle.tb_process_steps.specs.Offers.{Offered, offers}
+use Rattle.tb_process_steps.specs.Processes.{Process}
+use Rattle.tb_process_steps.specs.Helpers.Runnings.{waited}
+use Rattle.tb_process_steps.specs.Walks.{offers_of_term}
+use Rattle.tb_process_steps.proofs.SelectedLemmas.{at-append, at-map, with_left}
 use Rattle.tb_code.specs.Positions.{size, part, positions, root}
 use Rattle.tb_code.specs.declared.node.Node.{Node}
 use Rattle.tb_code.proofs.Parts.{stands_whole}

@@ -4,16 +4,16 @@ use Rattle.std.specs.Option.{ForSome}
 use Rattle.std.proofs.lemmas.Option.{slice_get-map, slice_get_within}
 use Rattle.tb_func.specs.declared.slot.Slot.{Slot}
 use Rattle.tb_body.specs.declared.atom.Atom.{Atom}
-use Rattle.tb_algebra.specs.Helpers.Selections.{selected_at}
-use Rattle.tb_algebra.specs.Processes.{Process, Par, Disrupt, fresh, aged}
-use Rattle.tb_algebra.specs.Helpers.Rewritings.{Kept, kept}
-use Rattle.tb_algebra.specs.Helpers.Runnings.{waited}
-use Rattle.tb_algebra.specs.Helpers.OfferViews.{OfferView, offer_view, or_own}
-use Rattle.tb_algebra.specs.Offers.{Offered}
-use Rattle.tb_algebra.specs.Walks.{Walking, offers_of, offers_of_term, entering, ticked, is_end, seen_offers}
-use Rattle.tb_algebra.specs.declared.offer.Offer.{Offer}
-use Rattle.tb_algebra.proofs.Ages.{fresh-new}
-use Rattle.tb_algebra.proofs.RewriterLemmas.{length-map, by_kept, inside}
+use Rattle.tb_process_steps.specs.Helpers.Selections.{selected_at}
+use Rattle.tb_process_steps.specs.Processes.{Process, Par, Disrupt, fresh, aged}
+use Rattle.tb_process_steps.specs.Helpers.Rewritings.{Kept, kept}
+use Rattle.tb_process_steps.specs.Helpers.Runnings.{waited}
+use Rattle.tb_process_steps.specs.Helpers.OfferViews.{OfferView, offer_view, or_own}
+use Rattle.tb_process_steps.specs.Offers.{Offered}
+use Rattle.tb_process_steps.specs.Walks.{Walking, offers_of, offers_of_term, entering, ticked, is_end, seen_offers}
+use Rattle.tb_process_steps.specs.declared.offer.Offer.{Offer}
+use Rattle.tb_process_steps.proofs.Ages.{fresh-new}
+use Rattle.tb_process_steps.proofs.RewriterLemmas.{length-map, by_kept, inside}
 use Rattle.tb_code.specs.Positions.{size, part}
 use Rattle.tb_code.specs.declared.code.Code.{Code}
 use Rattle.tb_code.proofs.Parts.{stands_whole}

@@ -1,7 +1,7 @@
 -- What is left of a term whose branches stand in a row.
 use Rattle.std.specs.Prelude.{ℕ, suc, ◌+◌, ◌-◌, ◌==◌, List, [], ◌∷◌, Option, Some, None, if◌then◌else◌}
-use Rattle.tb_algebra.specs.Processes.{Process, At, Seq, Alt, Star, Par, Disrupt, If, When, Let}
-use Rattle.tb_algebra.specs.Helpers.Runnings.{waited}
+use Rattle.tb_process_steps.specs.Processes.{Process, At, Seq, Alt, Star, Par, Disrupt, If, When, Let}
+use Rattle.tb_process_steps.specs.Helpers.Runnings.{waited}
 use Rattle.tb_code.specs.Positions.{size}
 use Rattle.tb_walk.specs.declared.branch.Branch.{Branch}
 

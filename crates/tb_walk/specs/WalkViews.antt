@@ -1,11 +1,11 @@
 -- What a walk stands for and keeps, and when what was taken is what an offer leaves.
 use Rattle.std.specs.Prelude.{◌≡◌, ℕ, true, List, [], ◌∷◌, map, slice_get, Option, Some, None, if◌then◌else◌}
-use Rattle.tb_algebra.specs.Offers.{Offered}
-use Rattle.tb_algebra.specs.Processes.{fresh}
-use Rattle.tb_algebra.specs.Helpers.OfferViews.{or_own}
-use Rattle.tb_algebra.specs.WalkerViews.{View}
-use Rattle.tb_algebra.specs.Walks.{Walking, offers_of}
-use Rattle.tb_algebra.specs.declared.offer.Offer.{Offer}
+use Rattle.tb_process_steps.specs.Offers.{Offered}
+use Rattle.tb_process_steps.specs.Processes.{fresh}
+use Rattle.tb_process_steps.specs.Helpers.OfferViews.{or_own}
+use Rattle.tb_process_steps.specs.WalkerViews.{View}
+use Rattle.tb_process_steps.specs.Walks.{Walking, offers_of}
+use Rattle.tb_process_steps.specs.declared.offer.Offer.{Offer}
 use Rattle.tb_code.specs.Positions.{Begins}
 use Rattle.tb_code.specs.declared.code.Code.{Code}
 use Rattle.tb_walk.specs.Lefts.{left}

@@ -1,7 +1,7 @@
 //! What follows when a branch has ended.
 ghost use Rattle.std.specs.Prelude.{◌≡◌, ◌<◌, ◌≤◌, ◌++◌, ◌||◌, [], IfSome, Some, drop, false, length};
 ghost use Rattle.std.specs.Option.{option_to_list};
-ghost use Rattle.tb_algebra.specs.Processes.{fresh};
+ghost use Rattle.tb_process_steps.specs.Processes.{fresh};
 ghost use Rattle.tb_code.specs.Positions.{op_at, size};
 ghost use Rattle.tb_walk.specs.Helpers.Reads.{any_inside, branch, is_inside};
 ghost use Rattle.tb_walk.specs.Helpers.Rests.{bound_by, falls_by, frame_above, next_by, rest_behind};

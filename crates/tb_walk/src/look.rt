@@ -1,8 +1,8 @@
 //! The search for the atoms that a row of branches may do next.
 ghost use Rattle.std.specs.Prelude.{◌≡◌, ◌∷◌, [], ◌++◌, ◌-◌, ◌<◌, ℕ, All, IfOk, OnOk, flat_map, map};
-ghost use Rattle.tb_algebra.specs.Atoms.{is_ready, times_of};
-ghost use Rattle.tb_algebra.specs.Processes.{fresh, If, When, Let};
-ghost use Rattle.tb_algebra.specs.Helpers.OfferViews.{or_own};
+ghost use Rattle.tb_process_steps.specs.Atoms.{is_ready, times_of};
+ghost use Rattle.tb_process_steps.specs.Processes.{fresh, If, When, Let};
+ghost use Rattle.tb_process_steps.specs.Helpers.OfferViews.{or_own};
 ghost use Rattle.tb_code.specs.Positions.{size, part, IsTwo, IsUntil, IsOne};
 ghost use Rattle.tb_code.specs.declared.behind.Behind.TheVariants.{Ended};
 ghost use Rattle.tb_walk.specs.Helpers.Sights.{Sighting, entry_sightings, ready_sighting, sighted, sighting_at, sightings, sightings_at, looking, row_sightings};
@@ -11,10 +11,10 @@ ghost use Rattle.tb_walk.specs.Helpers.Takings.{AreThere};
 use crate::values::says;
 use crate::{Branch, Sight};
 use std::alloc::Global;
-use tb_algebra::{copy_own, is_ready, store_of, with_settings};
 use tb_body::Settings;
 use tb_code::{Behind, Code, Entry, Op, What};
 use tb_func::Store;
+use tb_process_steps::{copy_own, is_ready, store_of, with_settings};
 use tb_terms::{Expr, Items, NoMemory};
 
 /// Which branch is looked at, when it was entered, and how many ticks the process and the bus have seen.

@@ -5,14 +5,14 @@ ghost use Rattle.tb_terms.specs.declared.pattern.Pattern.TheVariants as pattern;
 ghost use Rattle.tb_terms.specs.declared.term.Term.TheVariants as term;
 ghost use Rattle.tb_func.specs.Patterns.{pattern_of};
 ghost use Rattle.tb_func.specs.Stores.{sort_at};
-ghost use Rattle.tb_algebra.specs.Atoms.{act_in, matched_exprs, patterns_of};
+ghost use Rattle.tb_process_steps.specs.Atoms.{act_in, matched_exprs, patterns_of};
 
 use crate::number::variable;
 use crate::room::emptied;
 use std::alloc::Global;
-use tb_algebra::matched_patterns;
 use tb_body::{Act, Atom};
 use tb_func::{Store, pattern};
+use tb_process_steps::matched_patterns;
 use tb_terms::{Expr, NoMemory, Pattern, Patterns, Sort, Term};
 
 /// The patterns of an act, as `matched_patterns` has them. Those of messages and notes have a

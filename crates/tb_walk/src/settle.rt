@@ -1,7 +1,7 @@
 //! What becomes of a row when one of its branches ends or is replaced.
 ghost use Rattle.std.specs.Prelude.{◌≡◌, ◌<◌, ◌≤◌, ◌++◌, ◌+◌, ◌∷◌, [], Some, IfOk, IfSome, OnOk, slice_get, take, drop, length, suc};
 ghost use Rattle.std.specs.Option.{option_to_list};
-ghost use Rattle.tb_algebra.specs.Processes.{fresh};
+ghost use Rattle.tb_process_steps.specs.Processes.{fresh};
 ghost use Rattle.tb_code.specs.Positions.{size};
 ghost use Rattle.tb_walk.specs.Helpers.Rests.{or_rest, rest_behind, without};
 ghost use Rattle.tb_walk.specs.Helpers.Takings.{EndsTo, IsWithin, row_after};

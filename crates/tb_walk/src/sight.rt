@@ -3,9 +3,9 @@ ghost use Rattle.std.specs.Prelude.{◌≡◌, IfOk};
 ghost use Rattle.tb_walk.specs.Helpers.Sights.{offer_of};
 
 use std::alloc::Global;
-use tb_algebra::{Offer, copy_own};
 use tb_code::Behind;
 use tb_func::Store;
+use tb_process_steps::{Offer, copy_own};
 use tb_terms::{Items, NoMemory};
 
 /// An atom that a look found to be next. Its store is its own where a `let` made one.

@@ -1,6 +1,6 @@
 //! What becomes of a row when one of the atoms that were found happens.
 ghost use Rattle.std.specs.Prelude.{◌≡◌, ◌<◌, ◌++◌, ◌∷◌, [], None, Some, IfOk, IfSome, OnOk, false, length, nat_lt, slice_get, if◌then◌else◌};
-ghost use Rattle.tb_algebra.specs.Processes.{fresh, Par};
+ghost use Rattle.tb_process_steps.specs.Processes.{fresh, Par};
 ghost use Rattle.tb_code.specs.Positions.{size, op_at, part, is_wait, Begins, IsTwo, IsUntil};
 ghost use Rattle.tb_code.specs.declared.node.Op.TheVariants as op_of;
 ghost use Rattle.tb_walk.specs.Helpers.Places.{root_at};

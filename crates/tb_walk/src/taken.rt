@@ -1,8 +1,8 @@
 //! An offer that is taken, and how the walk goes on by it.
 ghost use Rattle.std.specs.Prelude.{◌≡◌, ◌<◌, Some, length, slice_get, slice_set};
-ghost use Rattle.tb_algebra.specs.Helpers.OfferViews.{or_own};
-ghost use Rattle.tb_algebra.specs.Offers.{Offered};
-ghost use Rattle.tb_algebra.specs.Processes.{fresh};
+ghost use Rattle.tb_process_steps.specs.Helpers.OfferViews.{or_own};
+ghost use Rattle.tb_process_steps.specs.Offers.{Offered};
+ghost use Rattle.tb_process_steps.specs.Processes.{fresh};
 ghost use Rattle.tb_code.specs.Positions.{size};
 ghost use Rattle.tb_walk.specs.Helpers.Reads.{branch};
 ghost use Rattle.tb_walk.specs.Helpers.Takings.{EndsTo};

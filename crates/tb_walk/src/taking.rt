@@ -1,9 +1,9 @@
 //! The choice of an offer, with and without a fresh look, and the bindings of variables.
 ghost use Rattle.std.specs.Prelude.{◌≡◌, ◌<◌, length, slice_get, Some, IfOk, IsTrue, true};
 ghost use Rattle.std.specs.Option.{ForSome};
-ghost use Rattle.tb_algebra.specs.Binds.{takes_binds, with_binds};
-ghost use Rattle.tb_algebra.specs.Processes.{fresh};
-ghost use Rattle.tb_algebra.specs.Walks.{offers_of};
+ghost use Rattle.tb_process_steps.specs.Binds.{takes_binds, with_binds};
+ghost use Rattle.tb_process_steps.specs.Processes.{fresh};
+ghost use Rattle.tb_process_steps.specs.Walks.{offers_of};
 ghost use Rattle.tb_walk.specs.Helpers.Takings.{IsInRow, IsTakenBy};
 ghost use Rattle.tb_walk.specs.WalkViews.{walking_of, IsOnCode, IsLeft};
 
@@ -12,10 +12,10 @@ use crate::take::step_by;
 use crate::taken::{Outcome, Taken};
 use crate::{Branch, Sight, Walk};
 use std::alloc::Global;
-use tb_algebra::{copy_own, set_binds};
 use tb_code::{Behind, Code};
 use tb_func::Store;
 use tb_match::Binds;
+use tb_process_steps::{copy_own, set_binds};
 use tb_terms::{Boxed, Items, NoMemory};
 
 /// Takes the offer at this position, where nothing has happened since the walk was looked at.

@@ -2,15 +2,15 @@
 ghost use Rattle.std.specs.Prelude.{◌≡◌, ◌∷◌, [], ◌++◌, Some, None, IfOk, map, option_map, if◌then◌else◌};
 ghost use Rattle.std.specs.Option.{option_copied};
 ghost use Rattle.tb_func.specs.Values.{all_of, value_of};
-ghost use Rattle.tb_algebra.specs.Atoms.{act_in, limited_together, sent_exprs, values_together};
-ghost use Rattle.tb_algebra.specs.Settings.{tested};
+ghost use Rattle.tb_process_steps.specs.Atoms.{act_in, limited_together, sent_exprs, values_together};
+ghost use Rattle.tb_process_steps.specs.Settings.{tested};
 
 use crate::number::{comparison, number};
 use crate::room::emptied;
 use std::alloc::Global;
-use tb_algebra::{sent_values, tested};
 use tb_body::{Act, Atom};
 use tb_func::{Store, eval};
+use tb_process_steps::{sent_values, tested};
 use tb_terms::{Expr, MOST_TERM_SIZE, NoMemory, Term, Terms, total_size};
 
 /// What the test says now. Numbers are compared without a term.

@@ -11,11 +11,11 @@ use crate::values::sent_terms;
 use crate::{Branch, Row, Sight};
 use std::alloc::Global;
 use std::mem::swap;
-use tb_algebra::{Offer, Walker, accepted_binds, store_of};
 use tb_body::Body;
 use tb_code::{Code, compile};
 use tb_func::Store;
 use tb_match::Binds;
+use tb_process_steps::{Offer, Walker, accepted_binds, store_of};
 use tb_terms::{Items, NoMemory, Patterns, Terms};
 
 /// A walker that keeps the positions at which its process stands, each with the tick at which it was

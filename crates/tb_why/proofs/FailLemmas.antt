@@ -19,9 +19,9 @@ use Rattle.tb_body.specs.declared.act.Act.TheVariants.{Delta, Tau, SndMsg, RecMs
 use Rattle.tb_body.specs.declared.atom.Atom.{Atom}
 use Rattle.tb_body.specs.declared.body.Body.{Body}
 use Rattle.tb_body.specs.declared.program.Tool.{Tool as ToolKind}
-use Rattle.tb_algebra.specs.Atoms.{limited_together, matched_exprs, patterns_of, sent_exprs, values_together}
-use Rattle.tb_algebra.specs.Binds.{has_slot_sort}
-use Rattle.tb_algebra.specs.Offers.{Offered, offers}
+use Rattle.tb_process_steps.specs.Atoms.{limited_together, matched_exprs, patterns_of, sent_exprs, values_together}
+use Rattle.tb_process_steps.specs.Binds.{has_slot_sort}
+use Rattle.tb_process_steps.specs.Offers.{Offered, offers}
 use Rattle.tb_notes.specs.Inboxes.{oldest_match}
 use Rattle.tb_notes.specs.declared.queue.Found.{Found}
 use Rattle.tb_tools.specs.declared.stage.Eval.{Eval}

@@ -5,8 +5,8 @@ use Rattle.tb_terms.specs.declared.pattern.Pattern.{Pattern}
 use Rattle.tb_func.specs.declared.slot.Slot.{Slot}
 use Rattle.tb_body.specs.declared.act.Act.{Act}
 use Rattle.tb_body.specs.declared.act.Act.TheVariants.{Delta, Tau, SndMsg, RecMsg, SndNote, RecNote, NoNote, Subscribe, Unsubscribe, Create, Set, Printf, Execute, RecConnect, RecDisconnectAny, RecDisconnect, SndEval, RecValue, SndDo, RecEvent, SndAckEvent, SndTerminate, Shutdown}
-use Rattle.tb_algebra.specs.Atoms.{matched_exprs, patterns_of, sent_exprs, values_together}
-use Rattle.tb_algebra.specs.Offers.{Offered}
+use Rattle.tb_process_steps.specs.Atoms.{matched_exprs, patterns_of, sent_exprs, values_together}
+use Rattle.tb_process_steps.specs.Offers.{Offered}
 use Rattle.tb_bus.specs.Buses.{Bus, Proc, atoms_of}
 use Rattle.tb_why.specs.Failing.{Fails, FailsBy, HoldsBefore, act_by, is_ready_by}
 use Rattle.tb_why.specs.Reasons.{reason_by, reason_now, scene_of, with_patterns, with_terms}

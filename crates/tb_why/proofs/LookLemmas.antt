@@ -7,11 +7,11 @@ use Rattle.tb_terms.specs.declared.term.Term.{Term}
 use Rattle.tb_func.specs.declared.slot.Slot.{Slot}
 use Rattle.tb_body.specs.declared.atom.Atom.{Atom}
 use Rattle.tb_body.specs.declared.body.Body.{Body}
-use Rattle.tb_algebra.specs.Offers.{Offered, offers}
-use Rattle.tb_algebra.specs.Processes.{Process}
-use Rattle.tb_algebra.specs.WalkerViews.{View}
-use Rattle.tb_algebra.specs.Walks.{Walking, is_end, offers_of, patterns_by, seen, seen_offers, sent_by}
-use Rattle.tb_algebra.specs.declared.offer.Offer.{Offer}
+use Rattle.tb_process_steps.specs.Offers.{Offered, offers}
+use Rattle.tb_process_steps.specs.Processes.{Process}
+use Rattle.tb_process_steps.specs.WalkerViews.{View}
+use Rattle.tb_process_steps.specs.Walks.{Walking, is_end, offers_of, patterns_by, seen, seen_offers, sent_by}
+use Rattle.tb_process_steps.specs.declared.offer.Offer.{Offer}
 use Rattle.tb_bus.specs.Buses.{atoms_of}
 use Rattle.tb_living.specs.Lives.{IsLive, proc_by, proc_in, procs_of, term_in}
 use Rattle.tb_living.proofs.ActionLemmas.{offer-seen}

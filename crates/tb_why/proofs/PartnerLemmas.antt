@@ -12,9 +12,9 @@ use Rattle.tb_body.specs.declared.act.Act.{Act}
 use Rattle.tb_body.specs.declared.act.Act.TheVariants.{Delta, Tau, SndMsg, RecMsg, SndNote, RecNote, NoNote, Subscribe, Unsubscribe, Create, Set, Printf, Execute, RecConnect, RecDisconnectAny, RecDisconnect, SndEval, RecValue, SndDo, RecEvent, SndAckEvent, SndTerminate, Shutdown}
 use Rattle.tb_body.specs.declared.atom.Atom.{Atom}
 use Rattle.tb_body.specs.declared.body.Body.{Body}
-use Rattle.tb_algebra.specs.Atoms.{act_of, is_ready, matched_exprs, patterns_of, sent_exprs, times_of, values_together}
-use Rattle.tb_algebra.specs.Binds.{takes_bind}
-use Rattle.tb_algebra.specs.Offers.{Offered, offers}
+use Rattle.tb_process_steps.specs.Atoms.{act_of, is_ready, matched_exprs, patterns_of, sent_exprs, times_of, values_together}
+use Rattle.tb_process_steps.specs.Binds.{takes_bind}
+use Rattle.tb_process_steps.specs.Offers.{Offered, offers}
 use Rattle.tb_bus.specs.Actions.{action_if, action_in, action_of, set_action, set_bind, shutdown_action, speak_about}
 use Rattle.tb_bus.specs.Buses.{Bus, Proc, atoms_of}
 use Rattle.tb_bus.specs.Steps.{Move, action_by, handshake_if, handshake_of, handshakes, handshakes_with, others}

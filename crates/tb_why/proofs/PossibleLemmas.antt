@@ -13,9 +13,9 @@ use Rattle.tb_match.specs.Matches.{match_list}
 use Rattle.tb_body.specs.declared.act.Act.{Act}
 use Rattle.tb_body.specs.declared.act.Act.TheVariants.{Delta, Tau, SndMsg, RecMsg, SndNote, RecNote, NoNote, Subscribe, Unsubscribe, Create, Set, Printf, Execute, RecConnect, RecDisconnectAny, RecDisconnect, SndEval, RecValue, SndDo, RecEvent, SndAckEvent, SndTerminate, Shutdown}
 use Rattle.tb_body.specs.declared.program.Tool.{Tool as ToolKind}
-use Rattle.tb_algebra.specs.Atoms.{act_of, is_ready, matched_exprs, patterns_of, sent_exprs, times_of, values_together}
-use Rattle.tb_algebra.specs.Binds.{has_slot_sort}
-use Rattle.tb_algebra.specs.Offers.{Offered}
+use Rattle.tb_process_steps.specs.Atoms.{act_of, is_ready, matched_exprs, patterns_of, sent_exprs, times_of, values_together}
+use Rattle.tb_process_steps.specs.Binds.{has_slot_sort}
+use Rattle.tb_process_steps.specs.Offers.{Offered}
 use Rattle.tb_notes.specs.Inboxes.{oldest_match}
 use Rattle.tb_notes.specs.declared.queue.Found.{Found}
 use Rattle.tb_tools.specs.declared.found.FoundEvent.{FoundEvent}

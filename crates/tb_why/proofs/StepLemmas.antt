@@ -14,10 +14,10 @@ use Rattle.tb_match.specs.Matches.{match_list}
 use Rattle.tb_match.specs.declared.bind.Bind.{Bind}
 use Rattle.tb_body.specs.declared.body.Body.{Body}
 use Rattle.tb_body.specs.declared.program.Program.{Program}
-use Rattle.tb_algebra.specs.Offers.{Offered, offers}
-use Rattle.tb_algebra.specs.Walks.{sorts_of}
-use Rattle.tb_algebra.proofs.Ascending.{offered-once}
-use Rattle.tb_algebra.proofs.Sorts.{offer-keeps, sort_at-sorts_of}
+use Rattle.tb_process_steps.specs.Offers.{Offered, offers}
+use Rattle.tb_process_steps.specs.Walks.{sorts_of}
+use Rattle.tb_process_steps.proofs.Ascending.{offered-once}
+use Rattle.tb_process_steps.proofs.Sorts.{offer-keeps, sort_at-sorts_of}
 use Rattle.tb_iface.proofs.SortedBuses.{IsSorted, sorted-next, sorted-start, stored-sorts}
 use Rattle.tb_log.specs.declared.entry.Entry.{Entry}
 use Rattle.tb_log.specs.declared.entry.Label.{Label}

@@ -10,8 +10,8 @@ use Rattle.tb_func.specs.declared.slot.Slot.{Slot}
 use Rattle.tb_body.specs.declared.act.Act.{Act}
 use Rattle.tb_body.specs.declared.act.Act.TheVariants.{Delta, SndMsg, RecMsg, SndNote, RecNote, NoNote, Create, Set, Printf, Execute, RecConnect, RecDisconnectAny, RecDisconnect, SndEval, RecValue, SndDo, RecEvent, SndAckEvent, SndTerminate}
 use Rattle.tb_body.specs.declared.program.Tool.{Tool as ToolKind}
-use Rattle.tb_algebra.specs.Atoms.{act_of, is_ready, matched_exprs, patterns_of, sent_exprs, times_of, values_together}
-use Rattle.tb_algebra.specs.Offers.{Offered, offers}
+use Rattle.tb_process_steps.specs.Atoms.{act_of, is_ready, matched_exprs, patterns_of, sent_exprs, times_of, values_together}
+use Rattle.tb_process_steps.specs.Offers.{Offered, offers}
 use Rattle.tb_notes.specs.Inboxes.{oldest_match}
 use Rattle.tb_notes.specs.declared.queue.Found.{Found}
 use Rattle.tb_tools.specs.declared.stage.Stage.{Stage}

@@ -3,7 +3,7 @@ use Rattle.std.specs.Prelude.{◌≡◌, ◌⊎◌, Bool, true, false, List, [],
 use Rattle.std.specs.List.{list_any}
 use Rattle.tb_terms.specs.declared.pattern.Pattern.{Pattern}
 use Rattle.tb_match.specs.Matches.{match_list}
-use Rattle.tb_algebra.specs.Offers.{Offered, offers}
+use Rattle.tb_process_steps.specs.Offers.{Offered, offers}
 use Rattle.tb_log.specs.declared.entry.Label.{Label}
 use Rattle.tb_log.specs.declared.entry.Place.{Place}
 use Rattle.tb_bus.specs.Buses.{Bus, Proc}

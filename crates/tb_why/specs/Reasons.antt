@@ -10,8 +10,8 @@ use Rattle.tb_body.specs.declared.act.Act.{Act}
 use Rattle.tb_body.specs.declared.act.Act.TheVariants.{Delta, Tau, SndMsg, RecMsg, SndNote, RecNote, NoNote, Subscribe, Unsubscribe, Create, Set, Printf, Execute, RecConnect, RecDisconnectAny, RecDisconnect, SndEval, RecValue, SndDo, RecEvent, SndAckEvent, SndTerminate, Shutdown}
 use Rattle.tb_body.specs.declared.atom.Atom.{Atom}
 use Rattle.tb_body.specs.declared.body.Body.{Body}
-use Rattle.tb_algebra.specs.Atoms.{act_of}
-use Rattle.tb_algebra.specs.Binds.{has_slot_sort}
+use Rattle.tb_process_steps.specs.Atoms.{act_of}
+use Rattle.tb_process_steps.specs.Binds.{has_slot_sort}
 use Rattle.tb_notes.specs.Inboxes.{Held, oldest_match}
 use Rattle.tb_notes.specs.declared.queue.Found.{Found}
 use Rattle.tb_tools.specs.declared.stage.Stage.TheVariants as stage

@@ -2,9 +2,9 @@
 use Rattle.std.specs.Prelude.{ℕ, List, map}
 use Rattle.tb_body.specs.declared.atom.Atom.{Atom}
 use Rattle.tb_body.specs.declared.body.Body.{Body}
-use Rattle.tb_algebra.specs.Atoms.{is_ready, times_of}
-use Rattle.tb_algebra.specs.Offers.{Offered, offers}
-use Rattle.tb_algebra.specs.Walks.{patterns_by, sent_by}
+use Rattle.tb_process_steps.specs.Atoms.{is_ready, times_of}
+use Rattle.tb_process_steps.specs.Offers.{Offered, offers}
+use Rattle.tb_process_steps.specs.Walks.{patterns_by, sent_by}
 use Rattle.tb_bus.specs.Buses.{Bus, Proc, atoms_of}
 use Rattle.tb_why.specs.declared.standing.Offering.{Offering}
 use Rattle.tb_why.specs.declared.standing.Standing.{Standing}

@@ -12,7 +12,7 @@ use crate::own::{
 };
 use crate::partners::{act_at, atoms_of, receiver_reason, sender_reason};
 use crate::reason::Reason;
-use crate::scene::{Sight, Speaker};
+use crate::scene::Sight;
 use crate::stall::{Stall, Waiter};
 use crate::standing::{Offering, Standing};
 use crate::tools::{
@@ -20,11 +20,11 @@ use crate::tools::{
     received_reason, value_reason,
 };
 use std::alloc::Global;
-use tb_algebra::Walker;
 use tb_body::Act;
 use tb_core::LiveBus;
 use tb_notes::Inbox;
-use tb_search::Living;
+use tb_process_steps::Walker;
+use tb_search::{Living, Speaker};
 use tb_terms::{Items, NoMemory};
 use tb_tools::Stage;
 

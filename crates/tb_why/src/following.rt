@@ -17,11 +17,11 @@ use crate::looking::stand;
 use crate::stall::Waiter;
 use crate::standing::Standing;
 use std::alloc::Global;
-use tb_algebra::Walker;
 use tb_body::Program;
 use tb_core::{Core, CoreFault};
 use tb_log::{Entries, Entry, LabelKind};
 use tb_log_read::{LogFault, read_log};
+use tb_process_steps::Walker;
 use tb_terms::{Items, Texts};
 
 /// How many entries a log has at most.

@@ -2,7 +2,7 @@
 
 ghost use Rattle.std.specs.Prelude.{◌≡◌, ◌↔◌, ℕ, Contains, IsTrue, List, Some, false, is_none, slice_get};
 ghost use Rattle.tb_func.specs.Stores.{sort_at};
-ghost use Rattle.tb_algebra.specs.Offers.{Offered, offers};
+ghost use Rattle.tb_process_steps.specs.Offers.{Offered, offers};
 ghost use Rattle.tb_bus.specs.Buses.{Bus, Proc, atoms_of, start};
 ghost use Rattle.tb_bus.specs.Reached.{Reaches};
 ghost use Rattle.tb_bus.specs.Steps.{Step, place_of, steps};

@@ -2,16 +2,16 @@
 
 ghost use Rattle.std.specs.Prelude.{◌≡◌, ◌<◌, ℕ, IfOk, IsTrue, length, map, slice_get, Some, is_some};
 ghost use Rattle.std.specs.Option.{ForSome};
-ghost use Rattle.tb_algebra.specs.Offers.{Offered};
-ghost use Rattle.tb_algebra.specs.Walks.{offers_of, seen_offers};
+ghost use Rattle.tb_process_steps.specs.Offers.{Offered};
+ghost use Rattle.tb_process_steps.specs.Walks.{offers_of, seen_offers};
 ghost use Rattle.tb_living.specs.Lives.{IsLive, proc_in};
 ghost use Rattle.tb_core.specs.Helpers.LiveBuses.{bus_of, IsSound};
 ghost use Rattle.tb_why.specs.Standing.{offering_of, standing_of, standings};
 
 use crate::standing::{Offering, Standing};
 use std::alloc::Global;
-use tb_algebra::{Offer, Walker};
 use tb_core::LiveBus;
+use tb_process_steps::{Offer, Walker};
 use tb_search::Living;
 use tb_terms::{Items, NoMemory};
 

@@ -2,7 +2,7 @@
 
 ghost use Rattle.std.specs.Prelude.{◌≡◌, IfOk, None, slice_get, is_some};
 ghost use Rattle.std.specs.Option.{option_copied};
-ghost use Rattle.tb_algebra.specs.Binds.{has_slot_sort};
+ghost use Rattle.tb_process_steps.specs.Binds.{has_slot_sort};
 ghost use Rattle.tb_bus.specs.Effects.{takes_note};
 ghost use Rattle.tb_notes.specs.Inboxes.{oldest_match};
 ghost use Rattle.tb_why.specs.Reasons.{create_reason, created_reason, end_reason, full_queue, full_reason, print_reason, set_reason, sorts_in, waits_reason, with_patterns, with_terms};

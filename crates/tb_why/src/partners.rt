@@ -3,7 +3,7 @@
 ghost use Rattle.std.specs.Prelude.{◌≡◌, IfOk, None, Some, is_some, if◌then◌else◌};
 ghost use Rattle.std.specs.List.{list_any};
 ghost use Rattle.tb_match.specs.Matches.{match_list};
-ghost use Rattle.tb_algebra.specs.Atoms.{act_of};
+ghost use Rattle.tb_process_steps.specs.Atoms.{act_of};
 ghost use Rattle.tb_bus.specs.Buses.{atoms_of};
 ghost use Rattle.tb_why.specs.Reasons.{first_later, first_offer, gives_later, has_receiver, has_sender, later_in, matches, partner_reason, receiver_reason, receives, receives_from, received_now, sender_reason, sends, sends_to, sent_now, takes_later, with_patterns, with_terms};
 ghost use Rattle.tb_why.specs.Tools.{unless};

@@ -5,14 +5,6 @@ use tb_body::Program;
 use tb_search::{Apart, Living};
 use tb_tools::Bench;
 
-/// A process that may speak with tools: its body among those of a program, and the lanes on which the tools stand.
-#[derive(Clone, Copy)]
-pub(crate) struct Speaker<'a> {
-    pub program: &'a Program,
-    pub bench: &'a Bench,
-    pub body: u32,
-}
-
 /// A bus in which reasons are looked for, with what is seen of its processes.
 #[derive(Drop)]
 pub(crate) struct Sight<'a, W> {

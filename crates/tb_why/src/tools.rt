@@ -7,16 +7,15 @@ ghost use Rattle.tb_tools.specs.Acts.{answer_at};
 ghost use Rattle.tb_tools.specs.Finding.{first_at, free_lane};
 ghost use Rattle.tb_tools.specs.Inputs.{has_asked};
 ghost use Rattle.tb_tools.specs.Lanes.{tool_at};
+ghost use Rattle.tb_search.specs.Helpers.Searches.{setting_spoken};
 ghost use Rattle.tb_why.specs.Reasons.{with_patterns, with_terms};
 ghost use Rattle.tb_why.specs.Tools.{answer_reason, at_stage, event_reason, execute_reason, found_reason, idle_reason, kind_reason, lane_named, lane_reason, leaving_reason, live_reason, missing, open_reason, received_reason, fits_reason, tool_reason, unless, value_reason};
-ghost use Rattle.tb_why.specs.Helpers.Scenes.{setting_of};
 
 use crate::reason::Reason;
-use crate::scene::Speaker;
 use sqlite_items::at;
 use std::alloc::Global;
 use tb_match::match_list;
-use tb_search::{behind, fits_slot, next_term};
+use tb_search::{Speaker, behind, fits_slot, next_term};
 use tb_terms::{Items, Name, NoMemory, Patterns, Term, Terms, is_within_limits};
 use tb_tools::{Bench, Stage};
 
@@ -245,8 +244,8 @@ pub(crate) fn execute_reason(
     tool: u32,
     slot: u32,
 ) -> Result<Option<Reason>, NoMemory>
-    ensures { IfOk result (λ reason. reason ≡ execute_reason (setting_of speaker.now) slot
-        (slice_get (setting_of speaker.now).kinds tool)) }
+    ensures { IfOk result (λ reason. reason ≡ execute_reason (setting_spoken speaker.now) slot
+        (slice_get (setting_spoken speaker.now).kinds tool)) }
 {
     match at(speaker.program.tools.as_slice(), tool as usize) {
         Some(kind) => match kind.command {
@@ -264,7 +263,7 @@ fn lane_reason(
     name: &Name,
     slot: u32,
 ) -> Result<Option<Reason>, NoMemory>
-    ensures { IfOk result (λ reason. reason ≡ lane_reason (setting_of speaker.now) slot name.now
+    ensures { IfOk result (λ reason. reason ≡ lane_reason (setting_spoken speaker.now) slot name.now
         (free_lane speaker.now.bench.now)) }
 {
     match speaker.bench.free_lane() {
@@ -278,8 +277,8 @@ fn lane_reason(
 
 /// For an atom that takes a tool of a kind at a stage.
 pub(crate) fn kind_reason(speaker: &Speaker, stage: Stage, tool: u32, slot: u32) -> Option<Reason>
-    ensures { result ≡ kind_reason (setting_of speaker.now) stage slot
-        (slice_get (setting_of speaker.now).kinds tool) }
+    ensures { result ≡ kind_reason (setting_spoken speaker.now) stage slot
+        (slice_get (setting_spoken speaker.now).kinds tool) }
 {
     match at(speaker.program.tools.as_slice(), tool as usize) {
         Some(kind) => found_reason(speaker, stage, &kind.name, slot),
@@ -289,7 +288,7 @@ pub(crate) fn kind_reason(speaker: &Speaker, stage: Stage, tool: u32, slot: u32)
 
 /// The same, where the kind is there.
 fn found_reason(speaker: &Speaker, stage: Stage, name: &Name, slot: u32) -> Option<Reason>
-    ensures { result ≡ found_reason (setting_of speaker.now) stage slot
+    ensures { result ≡ found_reason (setting_spoken speaker.now) stage slot
         (first_at name.now stage speaker.now.bench.now) }
 {
     match speaker.bench.first_at(name, stage) {
@@ -300,7 +299,7 @@ fn found_reason(speaker: &Speaker, stage: Stage, name: &Name, slot: u32) -> Opti
 
 /// Whether the term of a tool is within the limits, and a slot takes it.
 fn fits_reason(speaker: &Speaker, slot: u32, tool: &Term) -> Option<Reason>
-    ensures { result ≡ fits_reason (setting_of speaker.now) slot tool.now }
+    ensures { result ≡ fits_reason (setting_spoken speaker.now) slot tool.now }
 {
     if !is_within_limits(tool) {
         return Some(Reason::ToolTooLarge);

@@ -1,6 +1,6 @@
 -- Operators over two parts: the term that one makes of two, the frame of its first part, and what stands at its position.
 use Rattle.std.specs.Prelude.{ℕ, Option, Some}
-use Rattle.tb_algebra.specs.Processes.{Process, Seq, Alt, Star, Par, If}
+use Rattle.tb_process_steps.specs.Processes.{Process, Seq, Alt, Star, Par, If}
 use Rattle.tb_code.specs.declared.node.Op.{Op}
 use Rattle.tb_code.specs.declared.node.Op.TheVariants as op
 use Rattle.tb_code.specs.declared.two.Two.{Two}

@@ -3,10 +3,10 @@ use Rattle.std.specs.Prelude.{◌≡◌, ◌≢◌, ◌≤◌, ◌+◌, ℕ, Lis
 use Rattle.std.below.core.specs.declared.int.usize.TheConstants.{MAX}
 use Rattle.std.specs.List.{All}
 use Rattle.tb_match.specs.declared.bind.Bind.{Bind}
-use Rattle.tb_algebra.specs.Binds.{takes_binds}
-use Rattle.tb_algebra.specs.Offers.{Offered}
-use Rattle.tb_algebra.specs.Walks.{sorts_of}
-use Rattle.tb_algebra.specs.WalkerViews.{View}
+use Rattle.tb_process_steps.specs.Binds.{takes_binds}
+use Rattle.tb_process_steps.specs.Offers.{Offered}
+use Rattle.tb_process_steps.specs.Walks.{sorts_of}
+use Rattle.tb_process_steps.specs.WalkerViews.{View}
 use Rattle.tb_log.specs.declared.entry.Entry.TheVariants.{Did}
 use Rattle.tb_log.specs.declared.entry.Label.{Label}
 use Rattle.tb_log.specs.Limits.{has_room, terms_size}

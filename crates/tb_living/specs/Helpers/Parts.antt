@@ -1,8 +1,8 @@
 -- How an atom takes part in a handshake.
 use Rattle.std.specs.Prelude.{List, Option, option_map}
 use Rattle.tb_body.specs.declared.atom.Atom.{Atom}
-use Rattle.tb_algebra.specs.Offers.{Offered}
-use Rattle.tb_algebra.specs.Walks.{patterns_by, sent_by}
+use Rattle.tb_process_steps.specs.Offers.{Offered}
+use Rattle.tb_process_steps.specs.Walks.{patterns_by, sent_by}
 use Rattle.tb_bus.specs.declared.action.Action.{Action}
 use Rattle.tb_bus.specs.declared.action.Action.TheVariants.{Send, Receive}
 use Rattle.tb_living.specs.declared.looking.Part.{Part}

@@ -1,7 +1,7 @@
 -- What is written for one entry, and which entries are short.
 use Rattle.std.specs.Prelude.{◌≡◌, ℕ, ◌-◌, ◌≤◌, nat_le, Bool, true, false, List, [], length, take, slice_get, Option, Some, None}
 use Rattle.std.specs.List.{list_all}
-use Rattle.tb_lane.specs.ToolLines.{most_line_bytes}
+use Rattle.tb_tool_line.specs.ToolLines.{most_line_bytes}
 use Rattle.tb_log.specs.LogText.{tool_line_words}
 use Rattle.tb_log.specs.declared.entry.Input.{Input}
 use Rattle.tb_log.specs.declared.entry.Input.TheVariants as input

@@ -3,7 +3,7 @@ use Rattle.std.specs.Prelude.{◌≡◌, ◌==◌, ℕ, ◌+◌, Bool, List, [],
 use Rattle.tb_func.specs.declared.slot.Slot.{Slot}
 use Rattle.tb_terms.specs.declared.sort.Sort.TheVariants as sort
 use Rattle.tb_body.specs.declared.program.Program.{Program}
-use Rattle.tb_algebra.specs.Processes.{Process, At, Seq, Star, If, Let}
+use Rattle.tb_process_steps.specs.Processes.{Process, At, Seq, Star, If, Let}
 use Rattle.tb_notes.specs.Inboxes.{nothing}
 use Rattle.tb_tools.specs.Lanes.{opening}
 use Rattle.tb_bus.specs.Buses.{Bus, Proc}

@@ -2,10 +2,10 @@
 use Rattle.std.specs.Prelude.{ℕ, ◌+◌, ◌-◌, List, [], ◌∷◌, ◌++◌, length}
 use Rattle.tb_func.specs.declared.slot.Slot.{Slot}
 use Rattle.tb_body.specs.declared.atom.Atom.{Atom}
-use Rattle.tb_algebra.specs.Offers.{offers}
-use Rattle.tb_algebra.specs.Processes.{Process}
-use Rattle.tb_algebra.specs.Helpers.Runnings.{waited}
-use Rattle.tb_algebra.specs.Helpers.OfferViews.{OfferView, offer_views}
+use Rattle.tb_process_steps.specs.Offers.{offers}
+use Rattle.tb_process_steps.specs.Processes.{Process}
+use Rattle.tb_process_steps.specs.Helpers.Runnings.{waited}
+use Rattle.tb_process_steps.specs.Helpers.OfferViews.{OfferView, offer_views}
 use Rattle.tb_code.specs.Positions.{part}
 use Rattle.tb_walk.specs.declared.branch.Branch.{Branch}
 

@@ -1,6 +1,6 @@
 -- What a branch stands for by the operator at its position.
 use Rattle.std.specs.Prelude.{ℕ}
-use Rattle.tb_algebra.specs.Processes.{Process}
+use Rattle.tb_process_steps.specs.Processes.{Process}
 use Rattle.tb_code.specs.Entries.{outset}
 use Rattle.tb_code.specs.Positions.{op_at, root}
 use Rattle.tb_code.specs.declared.behind.Behind.{Behind}

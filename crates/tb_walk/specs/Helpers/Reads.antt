@@ -2,8 +2,8 @@
 use Rattle.std.specs.Prelude.{◌≤◌, ℕ, suc, ◌+◌, ◌-◌, Bool, false, ◌&&◌, ◌||◌, nat_lt, List, [], ◌∷◌, ◌++◌, Option, Some, None}
 use Rattle.tb_terms.specs.declared.expr.Expr.{Expr}
 use Rattle.tb_body.specs.declared.tree.Setting.{Setting}
-use Rattle.tb_algebra.specs.Processes.{Process, Seq, Alt, Star, Par, Disrupt, If, When, Let}
-use Rattle.tb_algebra.specs.Helpers.Runnings.{waited}
+use Rattle.tb_process_steps.specs.Processes.{Process, Seq, Alt, Star, Par, Disrupt, If, When, Let}
+use Rattle.tb_process_steps.specs.Helpers.Runnings.{waited}
 use Rattle.tb_code.specs.Positions.{size}
 use Rattle.tb_walk.specs.Lefts.{beside}
 use Rattle.tb_walk.specs.declared.branch.Branch.{Branch}

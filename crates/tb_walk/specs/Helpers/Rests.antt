@@ -1,6 +1,6 @@
 -- What stays of a row where one of its branches goes on, and what stands behind where it has ended.
 use Rattle.std.specs.Prelude.{ℕ, Bool, true, false, not, ◌&&◌, ◌||◌, List, [], ◌∷◌, ◌++◌, slice_get, Option, Some, None, if◌then◌else◌}
-use Rattle.tb_algebra.specs.Processes.{Process}
+use Rattle.tb_process_steps.specs.Processes.{Process}
 use Rattle.tb_code.specs.Positions.{op_at, positions}
 use Rattle.tb_code.specs.declared.node.Node.{Node}
 use Rattle.tb_code.specs.declared.node.Op.{Op}

@@ -2,11 +2,11 @@
 use Rattle.std.specs.Prelude.{ℕ, suc, ◌+◌, ◌-◌, Bool, true, false, List, [], ◌∷◌, ◌++◌, Option, Some, None}
 use Rattle.tb_func.specs.declared.slot.Slot.{Slot}
 use Rattle.tb_body.specs.declared.atom.Atom.{Atom}
-use Rattle.tb_algebra.specs.Atoms.{is_ready, times_of}
-use Rattle.tb_algebra.specs.Processes.{Process, At, Seq, Alt, Star, Par, Disrupt, If, When, Let}
-use Rattle.tb_algebra.specs.Settings.{tested, with_settings}
-use Rattle.tb_algebra.specs.Helpers.OfferViews.{OfferView, or_own}
-use Rattle.tb_algebra.specs.declared.offer.Offer.{Offer}
+use Rattle.tb_process_steps.specs.Atoms.{is_ready, times_of}
+use Rattle.tb_process_steps.specs.Processes.{Process, At, Seq, Alt, Star, Par, Disrupt, If, When, Let}
+use Rattle.tb_process_steps.specs.Settings.{tested, with_settings}
+use Rattle.tb_process_steps.specs.Helpers.OfferViews.{OfferView, or_own}
+use Rattle.tb_process_steps.specs.declared.offer.Offer.{Offer}
 use Rattle.tb_code.specs.Entries.{followed}
 use Rattle.tb_code.specs.Positions.{size, part}
 use Rattle.tb_code.specs.declared.behind.Behind.{Behind}

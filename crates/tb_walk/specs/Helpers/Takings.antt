@@ -2,8 +2,8 @@
 use Rattle.std.specs.Prelude.{◌≡◌, ℕ, ◌+◌, List, ◌++◌, Option, Some, suc, slice_get, slice_set, take, drop, remove, ◌≤◌, ◌<◌, length, ⊤}
 use Rattle.std.specs.Option.{option_to_list}
 use Rattle.tb_func.specs.declared.slot.Slot.{Slot}
-use Rattle.tb_algebra.specs.Helpers.Selections.{On, selected}
-use Rattle.tb_algebra.specs.Processes.{Process}
+use Rattle.tb_process_steps.specs.Helpers.Selections.{On, selected}
+use Rattle.tb_process_steps.specs.Processes.{Process}
 use Rattle.tb_code.specs.Positions.{part, positions, size}
 use Rattle.tb_code.specs.declared.node.Node.{Node}
 use Rattle.tb_walk.specs.Helpers.Goings.{term_at, counted}

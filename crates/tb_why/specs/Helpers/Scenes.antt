@@ -4,12 +4,11 @@ use Rattle.std.specs.Borrow.{Bor}
 use Rattle.tb_terms.specs.declared.term.Term.{Term}
 use Rattle.tb_body.specs.declared.act.Act.{Act}
 use Rattle.tb_body.specs.declared.act.Act.TheVariants.{Delta}
-use Rattle.tb_bus.specs.Exchanges.{Setting, setting_by}
+use Rattle.tb_bus.specs.Exchanges.{setting_by}
 use Rattle.tb_search.specs.declared.living.Living.{Living}
 use Rattle.tb_why.specs.Formats.{fault_from}
 use Rattle.tb_why.specs.Reasons.{Queue, Scene}
 use Rattle.tb_why.specs.declared.formats.Reading.{Reading}
-use Rattle.tb_why.specs.declared.scene.Speaker.{Speaker}
 use Rattle.tb_why.specs.declared.scene.Sight.{Sight}
 use Rattle.tb_why.specs.declared.reason.FormatFault.{FormatFault}
 
@@ -28,10 +27,6 @@ queue_in living = record { number = living.number; held = living.inbox.held }
 
 abbrev pub queues_in : {W : Type 0} → List (Living W) → List Queue
 queues_in all = map queue_in all
-
--- where who speaks with a tool does
-abbrev pub setting_of : Speaker → Setting
-setting_of speaker = setting_by speaker.program.now.bodies speaker.program.now.tools speaker.bench.now speaker.body
 
 -- what reasons are looked for in
 abbrev pub scene_seen : {W : Type 0} → Sight W → Scene

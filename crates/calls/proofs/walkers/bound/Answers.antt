@@ -1,5 +1,5 @@
 use Rattle.std.proofs.Common.{arith}
-use Rattle.tb_algebra.specs.Walks.{offers_of}
+use Rattle.tb_process_steps.specs.Walks.{offers_of}
 use Rattle.calls.proofs.WalkerUses.{bound_taken}
 use Rattle.calls.proofs.walkers.bound.Goals as goal
 

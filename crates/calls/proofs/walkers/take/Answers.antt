@@ -1,5 +1,5 @@
 use Rattle.std.proofs.Common.{◌<◌, length, ap, ◌∙◌, arith}
-use Rattle.tb_algebra.specs.Walks.{Walking, offers_of}
+use Rattle.tb_process_steps.specs.Walks.{Walking, offers_of}
 use Rattle.calls.proofs.WalkerUses.{fired_ticks}
 use Rattle.calls.proofs.walkers.take.Goals as goal
 

@@ -1,7 +1,7 @@
 use Rattle.std.proofs.Common.{◌≡◌, ◌+◌, ap, arith}
-use Rattle.tb_algebra.specs.Walks.{Walking}
-use Rattle.tb_algebra.proofs.AgedOffers.{within-ticked}
-use Rattle.tb_algebra.proofs.WalkerLemmas.{is_taken, takes_none}
+use Rattle.tb_process_steps.specs.Walks.{Walking}
+use Rattle.tb_process_steps.proofs.AgedOffers.{within-ticked}
+use Rattle.tb_process_steps.proofs.WalkerLemmas.{is_taken, takes_none}
 use Rattle.calls.proofs.walkers.take_later.Goals as goal
 
 pub take-requires-clause-within : goal.take-requires-clause-within

@@ -1,6 +1,6 @@
 use Rattle.std.proofs.Common.{ap, refl, sym, subst, ◌∙◌}
 use Rattle.tb_body.specs.declared.body.Body.{Body}
-use Rattle.tb_algebra.specs.Processes.{fresh}
+use Rattle.tb_process_steps.specs.Processes.{fresh}
 use Rattle.tb_code.specs.Entries.{AreLists}
 use Rattle.tb_code.proofs.Tables.{numbered_all}
 use Rattle.tb_code.proofs.code.compile.Goals as goal

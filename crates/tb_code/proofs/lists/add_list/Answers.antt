@@ -1,5 +1,5 @@
 use Rattle.std.proofs.Common.{◌≡◌, List, length, ap, sym, subst, ◌∙◌, arith}
-use Rattle.tb_algebra.specs.Processes.{fresh}
+use Rattle.tb_process_steps.specs.Processes.{fresh}
 use Rattle.tb_code.specs.Entries.{AreLists}
 use Rattle.tb_code.specs.Positions.{size}
 use Rattle.tb_code.specs.declared.entry.Span.{Span}

@@ -1,5 +1,5 @@
 use Rattle.std.proofs.Common.{◌≡◌, length, ap, ◌∙◌}
-use Rattle.tb_algebra.specs.Processes.{fresh}
+use Rattle.tb_process_steps.specs.Processes.{fresh}
 use Rattle.tb_code.specs.Positions.{size}
 use Rattle.tb_code.proofs.EntryLemmas.{blank_lists}
 use Rattle.tb_code.proofs.Parts.{length-positions}

@@ -1,4 +1,4 @@
-use Rattle.tb_algebra.specs.Processes.{fresh}
+use Rattle.tb_process_steps.specs.Processes.{fresh}
 use Rattle.tb_code.specs.Entries.{AreLists}
 use Rattle.tb_code.proofs.lists.add_lists.Given as goal
 

@@ -2,8 +2,8 @@ use Rattle.std.proofs.Common.{◌≡◌, ◌+◌, ◌≤◌, ◌++◌, suc, Bool
 use Rattle.std.specs.Prelude.{IfOk}
 use Rattle.std.proofs.lemmas.Result.{IfOk-weaker}
 use Rattle.tb_terms.specs.declared.memory.NoMemory.{NoMemory}
-use Rattle.tb_algebra.specs.Atoms.{times_of}
-use Rattle.tb_algebra.specs.Processes.{fresh, Seq, Alt, Star, Par, If, When, Let}
+use Rattle.tb_process_steps.specs.Atoms.{times_of}
+use Rattle.tb_process_steps.specs.Processes.{fresh, Seq, Alt, Star, Par, If, When, Let}
 use Rattle.tb_code.specs.Entries.{HasList, all_led, entry, is_timed, list_of, what_by}
 use Rattle.tb_code.specs.Positions.{Begins, HasParts, IsOne, IsTwo, IsUntil, IsWait}
 use Rattle.tb_code.specs.declared.behind.Behind.TheVariants as behind

@@ -1,6 +1,6 @@
 use Rattle.std.proofs.Common.{◌≡◌, ℕ, Some, take, false}
 use Rattle.std.specs.List.{All}
-use Rattle.tb_algebra.specs.Walks.{offers_of, seen_offers}
+use Rattle.tb_process_steps.specs.Walks.{offers_of, seen_offers}
 use Rattle.tb_search.specs.Candidates.{readies}
 use Rattle.tb_living.specs.Lives.{IsTimeless}
 use Rattle.tb_living.proofs.looking.fill.Given as goal

@@ -1,6 +1,6 @@
 use Rattle.std.proofs.Common.{◌≡◌, ◌++◌, ◌∙◌, OnOk, ap, option_map, subst}
 use Rattle.tb_body.specs.declared.body.Body.{Body}
-use Rattle.tb_algebra.specs.Walks.{patterns_by, sent_by}
+use Rattle.tb_process_steps.specs.Walks.{patterns_by, sent_by}
 use Rattle.tb_search.specs.Candidates.{ready_one}
 use Rattle.tb_bus.specs.declared.action.Action.TheVariants as action
 use Rattle.tb_living.proofs.ActionLemmas.{receives-in, sends-in}

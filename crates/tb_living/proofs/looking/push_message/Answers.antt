@@ -1,5 +1,5 @@
 use Rattle.std.proofs.Common.{◌≡◌, ◌++◌, subst, sym}
-use Rattle.tb_algebra.specs.Walks.{offers_of, patterns_by, sent_by}
+use Rattle.tb_process_steps.specs.Walks.{offers_of, patterns_by, sent_by}
 use Rattle.tb_bus.specs.declared.action.Action.TheVariants as action
 use Rattle.tb_search.specs.Candidates.{ready_one}
 use Rattle.tb_living.specs.Helpers.Parts.{message_by}

@@ -1,6 +1,6 @@
 use Rattle.std.proofs.Common.{◌∙◌, ap, sym, refl, subst}
 use Rattle.tb_body.specs.declared.body.Body.{Body}
-use Rattle.tb_algebra.specs.Walks.{entering, sorts_of}
+use Rattle.tb_process_steps.specs.Walks.{entering, sorts_of}
 use Rattle.tb_bus.specs.Buses.{opening_store}
 use Rattle.tb_living.specs.Lives.{Begins}
 use Rattle.tb_living.proofs.OpenLemmas.{sorts-opening, entered-live}

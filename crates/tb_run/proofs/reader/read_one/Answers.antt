@@ -3,7 +3,7 @@ use Rattle.tb_edge.specs.declared.given.Given.TheVariants as given
 use Rattle.tb_edge.specs.declared.inlet.Got.TheVariants as got
 use Rattle.tb_log.specs.declared.entry.Input.TheVariants as input
 use Rattle.tb_log.specs.declared.entry.ToolLine.TheVariants as tool
-use Rattle.tb_lane.specs.ToolLines.{IsToolLine}
+use Rattle.tb_tool_line.specs.ToolLines.{IsToolLine}
 use Rattle.tb_run.proofs.ReadLemmas.{not_over, reads_hands, reads_out, reads_over, line_on, gone_on}
 use Rattle.tb_run.proofs.reader.read_one.Goals as goal
 

@@ -1,5 +1,5 @@
 use Rattle.std.proofs.Common.{◌≤◌, vec_capacity}
-use Rattle.tb_lane.specs.Sending.{most_line_text}
+use Rattle.tb_tool_line.specs.Sending.{most_line_text}
 use Rattle.tb_run.specs.Helpers.Working.{Writes}
 use Rattle.tb_run.proofs.writer.write_all.Given as goal
 

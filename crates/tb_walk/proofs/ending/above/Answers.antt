@@ -1,5 +1,5 @@
 use Rattle.std.proofs.Common.{slice_get, List, ap, sym, ◌∙◌}
-use Rattle.tb_algebra.specs.Processes.{fresh}
+use Rattle.tb_process_steps.specs.Processes.{fresh}
 use Rattle.tb_code.specs.Positions.{size}
 use Rattle.tb_walk.specs.Helpers.Rests.{frame_in}
 use Rattle.tb_code.specs.declared.node.Node.{Node}

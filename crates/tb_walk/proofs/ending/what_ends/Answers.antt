@@ -1,6 +1,6 @@
 use Rattle.std.proofs.Common.{◌<◌, ℕ, ◌+◌, ◌||◌, Option, List, ◌++◌, drop, length, ap, sym, ◌∙◌, arith}
 use Rattle.std.specs.Option.{option_to_list}
-use Rattle.tb_algebra.specs.Processes.{fresh}
+use Rattle.tb_process_steps.specs.Processes.{fresh}
 use Rattle.tb_walk.specs.Helpers.Reads.{any_inside}
 use Rattle.tb_walk.specs.Helpers.Rests.{rest_behind}
 use Rattle.tb_walk.specs.declared.branch.Branch.{Branch}

@@ -1,5 +1,5 @@
 use Rattle.std.proofs.Common.{◌≡◌, ◌<◌, drop, IfSome}
-use Rattle.tb_algebra.specs.Processes.{fresh}
+use Rattle.tb_process_steps.specs.Processes.{fresh}
 use Rattle.tb_code.specs.Positions.{size}
 use Rattle.tb_walk.specs.Helpers.Rests.{rest_behind}
 use Rattle.tb_walk.proofs.ending.what_ends.Given as goal

@@ -1,8 +1,8 @@
 use Rattle.std.proofs.Common.{◌≡◌, ℕ, suc, Bool, true, false, Option, Some, None, List, ◌++◌, map, refl, ap, sym, subst, ◌∙◌, OnOk}
 use Rattle.tb_func.specs.declared.slot.Slot.{Slot}
-use Rattle.tb_algebra.specs.Processes.{fresh}
-use Rattle.tb_algebra.specs.Settings.{tested, with_settings}
-use Rattle.tb_algebra.specs.Helpers.OfferViews.{or_own}
+use Rattle.tb_process_steps.specs.Processes.{fresh}
+use Rattle.tb_process_steps.specs.Settings.{tested, with_settings}
+use Rattle.tb_process_steps.specs.Helpers.OfferViews.{or_own}
 use Rattle.tb_code.specs.Positions.{HasParts}
 use Rattle.tb_code.specs.declared.behind.Behind.{Behind}
 use Rattle.tb_code.specs.declared.behind.Behind.TheVariants as behind

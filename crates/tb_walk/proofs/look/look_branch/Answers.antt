@@ -1,5 +1,5 @@
 use Rattle.std.proofs.Common.{◌≡◌, ◌++◌, List, map, sym, subst, ◌∙◌, OnOk}
-use Rattle.tb_algebra.specs.Processes.{fresh}
+use Rattle.tb_process_steps.specs.Processes.{fresh}
 use Rattle.tb_walk.specs.Helpers.Sights.{Sighting, looking, sighted}
 use Rattle.tb_walk.proofs.LookLemmas.{all_listed, all_within, some_listed}
 use Rattle.tb_walk.proofs.look.look_branch.Goals as goal

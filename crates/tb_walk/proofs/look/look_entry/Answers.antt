@@ -1,5 +1,5 @@
 use Rattle.std.proofs.Common.{◌≡◌, ◌++◌, map, sym, subst, OnOk}
-use Rattle.tb_algebra.specs.Processes.{fresh}
+use Rattle.tb_process_steps.specs.Processes.{fresh}
 use Rattle.tb_code.specs.declared.entry.What.{What}
 use Rattle.tb_walk.specs.Helpers.Sights.{looking, seen_by, sighted}
 use Rattle.tb_walk.proofs.look.look_entry.Goals as goal

@@ -1,5 +1,5 @@
 use Rattle.std.proofs.Common.{◌≡◌, ◌++◌, drop, flat_map, map}
-use Rattle.tb_algebra.specs.Processes.{fresh}
+use Rattle.tb_process_steps.specs.Processes.{fresh}
 use Rattle.tb_walk.specs.Helpers.Sights.{entry_sightings, sighted, looking}
 use Rattle.tb_walk.proofs.look.look_list.Given as goal
 

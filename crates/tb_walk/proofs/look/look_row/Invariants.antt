@@ -1,5 +1,5 @@
 use Rattle.std.proofs.Common.{◌≡◌, ◌++◌, drop, map}
-use Rattle.tb_algebra.specs.Processes.{fresh}
+use Rattle.tb_process_steps.specs.Processes.{fresh}
 use Rattle.tb_walk.specs.Helpers.Sights.{sighted, row_sightings}
 use Rattle.tb_walk.proofs.look.look_row.Given as goal
 

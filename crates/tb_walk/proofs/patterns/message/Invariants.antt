@@ -1,5 +1,5 @@
 use Rattle.std.proofs.Common.{◌≡◌, ◌++◌, drop, option_map}
-use Rattle.tb_algebra.specs.Atoms.{patterns_of}
+use Rattle.tb_process_steps.specs.Atoms.{patterns_of}
 use Rattle.tb_walk.proofs.patterns.message.Given as goal
 
 -- the patterns so far, and then those of the expressions that are left

@@ -1,5 +1,5 @@
 use Rattle.std.proofs.Common.{Some}
-use Rattle.tb_algebra.specs.Processes.{fresh}
+use Rattle.tb_process_steps.specs.Processes.{fresh}
 use Rattle.tb_walk.proofs.EndingLemmas.{falls_so}
 use Rattle.tb_walk.proofs.settle.fallen.Goals as goal
 

@@ -1,5 +1,5 @@
 use Rattle.std.proofs.Common.{None}
-use Rattle.tb_algebra.specs.Processes.{fresh}
+use Rattle.tb_process_steps.specs.Processes.{fresh}
 use Rattle.tb_walk.specs.Helpers.Reads.{branch}
 use Rattle.tb_walk.proofs.EndingLemmas.{ends_so, none_so}
 use Rattle.tb_walk.proofs.settle.left_by.Goals as goal

@@ -1,4 +1,4 @@
-use Rattle.tb_algebra.specs.Processes.{fresh}
+use Rattle.tb_process_steps.specs.Processes.{fresh}
 use Rattle.tb_walk.proofs.EndingLemmas.{enters_so, leaves_so}
 use Rattle.tb_walk.proofs.settle.left_in.Goals as goal
 

@@ -1,5 +1,5 @@
 use Rattle.std.proofs.Common.{◌≡◌, List, [], ◌∷◌, ◌++◌, OnOk, ap, sym, subst, ◌∙◌, append_assoc}
-use Rattle.tb_algebra.specs.Processes.{fresh}
+use Rattle.tb_process_steps.specs.Processes.{fresh}
 use Rattle.tb_code.specs.Positions.{HasParts, part}
 use Rattle.tb_code.specs.declared.node.Op.TheVariants as op
 use Rattle.tb_walk.specs.Helpers.Partings.{row_by}

@@ -1,5 +1,5 @@
 use Rattle.std.proofs.Common.{List, sym, subst}
-use Rattle.tb_algebra.specs.Processes.{fresh}
+use Rattle.tb_process_steps.specs.Processes.{fresh}
 use Rattle.tb_walk.specs.Helpers.Reads.{branch}
 use Rattle.tb_walk.specs.Helpers.Takings.{IsSettled, row_after}
 use Rattle.tb_walk.specs.declared.branch.Branch.{Branch}

@@ -1,6 +1,6 @@
 use Rattle.std.proofs.Common.{ap, sym, ◌∙◌}
 use Rattle.tb_func.specs.Stores.{sort_at}
-use Rattle.tb_algebra.specs.Binds.{with_binds}
+use Rattle.tb_process_steps.specs.Binds.{with_binds}
 use Rattle.tb_walk.proofs.OneBind.{in_range, only, sorted, taken_one}
 use Rattle.tb_walk.proofs.taking.set_one.Goals as goal
 

@@ -1,6 +1,6 @@
 use Rattle.std.proofs.Common.{◌≡◌, ◌<◌, List, length, slice_get, Some, sym, subst}
 use Rattle.std.proofs.lemmas.Result.{IfOk-weaker}
-use Rattle.tb_algebra.specs.Processes.{fresh}
+use Rattle.tb_process_steps.specs.Processes.{fresh}
 use Rattle.tb_walk.specs.Lefts.{left}
 use Rattle.tb_walk.specs.Helpers.Takings.{AreThere, IsInRow, IsTakenBy}
 use Rattle.tb_walk.specs.declared.branch.Branch.{Branch}

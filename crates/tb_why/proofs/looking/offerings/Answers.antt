@@ -1,4 +1,4 @@
-use Rattle.tb_algebra.specs.Walks.{offers_of}
+use Rattle.tb_process_steps.specs.Walks.{offers_of}
 use Rattle.tb_why.specs.Standing.{offering_of}
 use Rattle.tb_why.proofs.LookLemmas.{all-there, one-more}
 use Rattle.tb_why.proofs.looking.offerings.Goals as goal

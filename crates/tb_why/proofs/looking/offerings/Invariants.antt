@@ -1,5 +1,5 @@
 use Rattle.std.proofs.Common.{◌≡◌, ℕ, Some, map, take}
-use Rattle.tb_algebra.specs.Walks.{offers_of, seen_offers}
+use Rattle.tb_process_steps.specs.Walks.{offers_of, seen_offers}
 use Rattle.tb_why.specs.Standing.{offering_of}
 use Rattle.tb_why.proofs.looking.offerings.Given as goal
 

@@ -1,5 +1,5 @@
 use Rattle.std.proofs.Common.{Some, ap, sym, subst, ◌∙◌, arith}
-use Rattle.tb_algebra.specs.Walks.{Walking, seen_offers}
+use Rattle.tb_process_steps.specs.Walks.{Walking, seen_offers}
 use Rattle.tb_living.proofs.ReadLemmas.{plan-within, read-is}
 use Rattle.tb_why.proofs.LookLemmas.{standing-looked}
 use Rattle.tb_why.proofs.looking.standing.Goals as goal

@@ -1,7 +1,7 @@
 use Rattle.std.proofs.Common.{arith, subst}
 use Rattle.std.proofs.lemmas.Option.{slice_get_within}
 use Rattle.std.proofs.lemmas.Result.{IfOk-weaker}
-use Rattle.tb_algebra.specs.Walks.{offers_of}
+use Rattle.tb_process_steps.specs.Walks.{offers_of}
 use Rattle.tb_search.specs.Candidates.{rows_of}
 use Rattle.tb_search.specs.Views.{offer_of}
 use Rattle.tb_core.specs.Helpers.LiveBuses.{Leaves, procs_in}

@@ -1,5 +1,5 @@
 use Rattle.std.proofs.Common.{List, Some, ap, sym, subst}
-use Rattle.tb_algebra.specs.Processes.{fresh}
+use Rattle.tb_process_steps.specs.Processes.{fresh}
 use Rattle.tb_walk.specs.Lefts.{left}
 use Rattle.tb_walk.specs.Helpers.Takings.{AreThere}
 use Rattle.tb_walk.specs.declared.branch.Branch.{Branch}

@@ -2,9 +2,9 @@ use Rattle.std.proofs.Common.{◌≡◌, Option, List, option_copied, ap, sym, �
 use Rattle.tb_terms.specs.declared.pattern.Pattern.{Pattern}
 use Rattle.tb_func.specs.declared.slot.Slot.{Slot}
 use Rattle.tb_body.specs.declared.atom.Atom.{Atom}
-use Rattle.tb_algebra.specs.Atoms.{act_in, act_of, matched_exprs, patterns_of}
-use Rattle.tb_algebra.specs.Helpers.Rewritings.{Kept}
-use Rattle.tb_algebra.specs.Helpers.OfferViews.{or_own}
+use Rattle.tb_process_steps.specs.Atoms.{act_in, act_of, matched_exprs, patterns_of}
+use Rattle.tb_process_steps.specs.Helpers.Rewritings.{Kept}
+use Rattle.tb_process_steps.specs.Helpers.OfferViews.{or_own}
 use Rattle.tb_walk.proofs.WalkLemmas.{by_found, is_found}
 use Rattle.tb_walk.proofs.walk.WalkWalker.patterns.Goals as goal
 

@@ -1,5 +1,5 @@
 use Rattle.std.proofs.Common.{◌+◌, false}
-use Rattle.tb_algebra.specs.Processes.{fresh}
+use Rattle.tb_process_steps.specs.Processes.{fresh}
 use Rattle.tb_walk.proofs.WalkLemmas.{read_left, reads_later, walking-ticked}
 use Rattle.tb_walk.proofs.walk.WalkWalker.tick.Goals as goal
 

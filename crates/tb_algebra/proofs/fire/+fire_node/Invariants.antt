@@ -1,5 +1,0 @@
-use Rattle.tb_algebra.proofs.fire.+fire_node.Given as goal
-
--- the parts of a node stand before it
-abbrev pub decreases-fire_node : goal.decreases-fire_node
-decreases-fire_node l = l.node

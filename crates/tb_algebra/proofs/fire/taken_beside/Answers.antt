@@ -1,8 +1,0 @@
-use Rattle.std.proofs.Common.{Some, ap}
-use Rattle.tb_algebra.specs.Helpers.Selections.{On}
-use Rattle.tb_algebra.specs.Processes.{Process}
-use Rattle.tb_algebra.specs.Helpers.OfferViews.{or_own}
-use Rattle.tb_algebra.proofs.fire.taken_beside.Goals as goal
-
-pub returns-clause-selected : goal.returns-clause-selected
-returns-clause-selected c = λ nodes ticks base. ap (λ (p : Process). On (Some p) (or_own c.args.own base)) (c.in_ok-whole.ensures.term nodes ticks)

@@ -1,5 +1,0 @@
-use Rattle.tb_algebra.proofs.Behind.{reached-behind}
-use Rattle.tb_algebra.proofs.laws.ages_behind_are_new.Goals as goal
-
-pub returns : goal.returns
-returns c = λ tree ticks term r. reached-behind r

@@ -1,5 +1,0 @@
-use Rattle.tb_algebra.proofs.TransferLaws.{right_waits}
-use Rattle.tb_algebra.proofs.laws.right_sides_wait.Goals as goal
-
-pub returns : goal.returns
-returns c = right_waits

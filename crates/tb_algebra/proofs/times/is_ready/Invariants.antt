@@ -1,7 +1,0 @@
-use Rattle.std.proofs.Common.{◌≡◌, drop}
-use Rattle.tb_algebra.specs.Atoms.{is_ready}
-use Rattle.tb_algebra.proofs.times.is_ready.Given as goal
-
--- the times that are left decide
-abbrev pub invariant-loop-time : goal.invariant-loop-time
-invariant-loop-time l = is_ready l.store l.age l.now (drop l.time-index l.times) ≡ is_ready l.store l.age l.now l.times

@@ -1,6 +1,0 @@
--- What is seen of an atom that was found.
-use Rattle.tb_algebra.specs.declared.found.Found.{Found}
-use Rattle.tb_algebra.specs.declared.offer.Offer.{Offer}
-
-abbrev pub offer_of : Found → Offer
-offer_of found = record { atom = found.atom; age = found.age; ready = found.ready }

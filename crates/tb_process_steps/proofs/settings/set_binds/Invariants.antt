@@ -1,0 +1,13 @@
+use Rattle.std.proofs.Common.{◌≡◌, IsTrue, length}
+use Rattle.tb_process_steps.specs.Binds.{takes_binds, with_binds}
+use Rattle.tb_process_steps.proofs.settings.set_binds.Given as goal
+
+-- the binds that are left are taken, and complete the store
+abbrev pub invariant-loop-binds : goal.invariant-loop-binds
+invariant-loop-binds l = record {
+  taken : IsTrue (takes_binds l.store l.binds);
+  completes : with_binds l.store l.binds ≡ with_binds l.initial.store l.initial.binds;
+}
+
+abbrev pub decreases-loop-binds : goal.decreases-loop-binds
+decreases-loop-binds l = length l.binds
