@@ -1,4 +1,5 @@
--- What the calls of walkers rest on: what an accepted value binds is taken, a step takes no time, and a new store has its sorts.
+-- Facts for the calls of walkers: a store takes the binds of accepted terms, a step takes no time, and a new store has the types of its
+-- slots.
 use Rattle.std.proofs.Common.{◌≡◌, ℕ, ◌<◌, List, [], map, length, get_or, slice_get, IsTrue, Option, Some, None, option_and_then, ap, sym, ◌∙◌}
 use Rattle.std.specs.Option.{ForSome}
 use Rattle.std.proofs.lemmas.Option.{slice_get-get_or}

@@ -8,10 +8,11 @@ use tb_types::CheckFault;
 /// Why a call wasn't made.
 #[derive(Clone, Copy)]
 pub(crate) enum Fault {
-    /// The line is none of a call.
+    /// The line isn't a call.
     Line,
-    /// An argument isn't what the call takes, or memory ran out as it was read.
+    /// An argument isn't valid for the call, or memory ran out while the argument was read.
     Argument,
+    /// Memory ran out.
     NoMemory,
 }
 

@@ -1,4 +1,4 @@
-//! Calls of the libraries of logs, of tools' lines and of feeds.
+//! Calls of the libraries of logs, of lines of tools, and of feeds.
 
 use crate::fault::Fault;
 use crate::texts::{one, said};
@@ -25,7 +25,7 @@ pub(crate) fn answer(
     Ok(Some(found?))
 }
 
-/// Which line of a tool the bytes are.
+/// Returns the line of a tool that the bytes represent.
 fn tool_line(alloc: Global, args: &[Vec<u8>]) -> Result<Vec<u8>, Fault> {
     let line = read_tool_line(alloc, one(args)?)?;
     line_text(alloc, &line)
@@ -63,7 +63,7 @@ fn feed_fault(alloc: Global, fault: FeedFault) -> Result<Vec<u8>, Fault> {
     }
 }
 
-/// The lines of a log where each input of a feed is taken.
+/// Returns the log in which each input of a feed is taken.
 fn feed(alloc: Global, args: &[Vec<u8>]) -> Result<Vec<u8>, Fault> {
     match read_feed(alloc, one(args)?) {
         Ok(feed) => log_of(alloc, &feed),
@@ -79,13 +79,13 @@ fn log_of(alloc: Global, feed: &Feed) -> Result<Vec<u8>, Fault> {
     Ok(log)
 }
 
-/// Writes the line of an input that is taken.
+/// Writes the log line of a taken input.
 fn write_taken(number: u64, input: Input, log: &mut Vec<u8>) -> Result<(), NoMemory> {
     let entry = Entry::Fed(input, Reply::Took);
     write_entry(number, &entry, log)
 }
 
-/// How many inputs a feed has.
+/// Returns the number of inputs of a feed.
 fn count_feed(alloc: Global, args: &[Vec<u8>]) -> Result<Vec<u8>, Fault> {
     match read_feed(alloc, one(args)?) {
         Ok(feed) => count_text(alloc, feed.len()),
@@ -98,7 +98,7 @@ fn count_text(alloc: Global, inputs: usize) -> Result<Vec<u8>, Fault> {
     said(alloc, text.as_str())
 }
 
-/// The line of a copy of the entry that the bytes are the line of, which is in shape.
+/// Returns the line of a copy of the entry that the bytes represent. The entry must be in shape.
 fn entry(alloc: Global, args: &[Vec<u8>]) -> Result<Vec<u8>, Fault> {
     match read_entry(alloc, one(args)?)? {
         Some(numbered) => copied_text(alloc, &numbered),
@@ -120,7 +120,7 @@ fn entry_text(alloc: Global, number: u64, entry: &Entry) -> Result<Vec<u8>, Faul
     Ok(text)
 }
 
-/// The text of the log that the bytes are the text of.
+/// Returns the text of the log that the bytes represent.
 fn log(alloc: Global, args: &[Vec<u8>]) -> Result<Vec<u8>, Fault> {
     match read_log(alloc, one(args)?) {
         Ok(log) => log_text(alloc, log.as_slice()),

@@ -1,5 +1,5 @@
-//! Makes the calls of the files that `index` names, each a line with its name, its arguments, `->` and its answer, and tells
-//! each that answers otherwise.
+//! Makes the calls of the files that `index` names, and prints each call whose answer isn't the expected one. Each line of a file has the
+//! name of a call, its arguments, `->`, and the expected answer.
 #![tactic(auto)]
 
 mod fault;
@@ -48,14 +48,14 @@ fn run_file(rt: &HostRuntime, file: &str, tally: &mut Tally) -> io::Result<()> {
     Ok(())
 }
 
-/// What the call of a line answers instead of what the line says. Where the line says several answers, one of them is right.
+/// Returns the answer of a line's call, if it isn't the expected one. If the line has several answers, each of them is right.
 fn difference(alloc: Global, line: &str) -> Result<Option<String>, Fault> {
     let (call, wanted) = line.rsplit_once(" ->").ok_or(Fault::Line)?;
     let found = called(alloc, call)?;
     other_than(alloc, wanted, found.as_slice())
 }
 
-/// What was found, where it is none of the answers that are wanted.
+/// Returns the found answer, if it is none of the expected ones.
 fn other_than(alloc: Global, wanted: &str, found: &[u8]) -> Result<Option<String>, Fault> {
     for one in wanted.split(" or ") {
         if is_meant(alloc, one, found)? {
@@ -66,20 +66,20 @@ fn other_than(alloc: Global, wanted: &str, found: &[u8]) -> Result<Option<String
     Ok(Some(String::from_str(alloc, found)?))
 }
 
-/// Whether the text means these bytes.
+/// Returns whether the text represents these bytes.
 fn is_meant(alloc: Global, text: &str, bytes: &[u8]) -> Result<bool, Fault> {
     let one = meant_by(alloc, text)?;
     Ok(one.as_slice() == bytes)
 }
 
-/// What a call answers.
+/// Returns the answer of a call.
 fn called(alloc: Global, call: &str) -> Result<Vec<u8>, Fault> {
     let (name, rest) = call.split_once(' ').unwrap_or((call, ""));
     let args = args_of(alloc, rest)?;
     answered(alloc, name, args.as_slice())
 }
 
-/// What the arguments of a call mean.
+/// Returns the bytes that the arguments of a call represent.
 fn args_of(alloc: Global, text: &str) -> Result<Vec<Vec<u8>>, Fault> {
     let mut args = Vec::new(alloc);
     for arg in text.split(" | ") {
@@ -88,12 +88,12 @@ fn args_of(alloc: Global, text: &str) -> Result<Vec<Vec<u8>>, Fault> {
     Ok(args)
 }
 
-/// What an argument or an answer means.
+/// Returns the bytes that an argument or an answer represents. Whitespace around it doesn't count.
 fn meant_by(alloc: Global, text: &str) -> Result<Vec<u8>, Fault> {
     meant(alloc, text.trim())?.ok_or(Fault::Line)
 }
 
-/// What the call of this name answers.
+/// Returns the answer of the call with this name.
 fn answered(alloc: Global, name: &str, args: &[Vec<u8>]) -> Result<Vec<u8>, Fault> {
     if let Some(answer) = values::answer(alloc, name, args)? {
         return Ok(answer);

@@ -1,5 +1,5 @@
-//! Calls over bodies of processes, which are written as in scripts: what a process may do next, when an atom is ready, and
-//! the values and patterns of what it sends and receives.
+//! Calls for bodies of processes, which are written as in scripts: the offers of a process, whether an atom is ready, and the sent values
+//! and the patterns of atoms.
 
 use crate::fault::Fault;
 use crate::shared::shared_body;
@@ -41,7 +41,7 @@ fn is_call(name: &str) -> bool {
     }
 }
 
-/// The body over which a call is made, of the call's first argument: a body, the name of one, times, or a sort.
+/// Returns the body for a call, made from its first argument: a body, the name of a body, the times of an atom, or a type.
 fn body_for(alloc: Global, name: &str, text: &[u8]) -> Result<Body, Fault> {
     match name {
         "offers_shared" => shared_body(alloc, text),
@@ -51,7 +51,7 @@ fn body_for(alloc: Global, name: &str, text: &[u8]) -> Result<Body, Fault> {
     }
 }
 
-/// What a call answers over a body.
+/// Returns the answer of a call for a body, or `None` if there is no such call.
 fn over(
     alloc: Global,
     name: &str,
@@ -73,7 +73,7 @@ fn over(
     Ok(Some(found?))
 }
 
-/// Processes that bodies may call: what stands in one happens where a `let` has set its X.
+/// Processes that bodies can call. In the expansion of such a call, a `let` sets the X of the process.
 const CALLED: &str = "process One(X : int) is if equal(X, 1) then tau fi \
                       process Less(X : int) is One(sub(X, 1)) \
                       process Then(X : int) is tau . if equal(X, 1) then tau fi \
@@ -82,7 +82,7 @@ const CALLED: &str = "process One(X : int) is if equal(X, 1) then tau fi \
                       process Later(X : int) is tau . tau delay(X) \
                       tool calc is { } toolbus()";
 
-/// The body of a script's first process.
+/// Returns the body of a script's first process.
 fn first_body(alloc: Global, script: &str) -> Result<Body, Fault> {
     match load(alloc, script.as_bytes()) {
         Ok(program) => copy_first(alloc, &program),
@@ -104,28 +104,28 @@ fn fault_of(fault: &ScriptFault) -> Fault {
     }
 }
 
-/// The body that this text has, where X is a number, 0 at first, and Y any term, at first none.
+/// Returns the body that this text represents. In the text, X is an integer, at first 0, and Y is any term, at first the term `none`.
 fn body(alloc: Global, text: &[u8]) -> Result<Body, Fault> {
     let text = utf8(text)?;
     let script = format!(in alloc; "process P(X : int, Y : term) is {text} {CALLED}")?;
     first_body(alloc, script.as_str())
 }
 
-/// The body of an atom with these times.
+/// Returns the body of an atom with these times.
 fn timed_body(alloc: Global, times: &[u8]) -> Result<Body, Fault> {
     let times = utf8(times)?;
     let text = format!(in alloc; "tau {times}")?;
     body(alloc, text.as_bytes())
 }
 
-/// The body of an atom, with a variable of this sort.
+/// Returns the body of an atom, with a variable of this type.
 fn sorted_body(alloc: Global, sort: &[u8]) -> Result<Body, Fault> {
     let sort = utf8(sort)?;
     let script = format!(in alloc; "process P(X : {sort}) is tau {CALLED}")?;
     first_body(alloc, script.as_str())
 }
 
-/// What a process may do next after these moves, over both kinds of walkers.
+/// Returns the offers of the process after these moves. If the two kinds of walkers disagree, returns the offers of both.
 fn offers(alloc: Global, body: &Body, args: &[Vec<u8>]) -> Result<Vec<u8>, Fault> {
     let moves = one(args)?;
     let rewritten = seen_after::<Rewriter>(alloc, body, moves)?;
@@ -141,7 +141,7 @@ fn both_text(alloc: Global, walked: &str, rewritten: &str) -> Result<Vec<u8>, Fa
     said(alloc, text.as_str())
 }
 
-/// How many variables a process binds as it receives terms, where it may; its first offer receives.
+/// Returns the number of variables that the first offer of a process binds for these terms. The offer must receive.
 fn accepted(alloc: Global, body: &Body, args: &[Vec<u8>]) -> Result<Vec<u8>, Fault> {
     let terms = terms(alloc, args)?;
     counted(alloc, body, &terms)
@@ -164,7 +164,8 @@ fn count_text(alloc: Global, count: Option<usize>) -> Result<Vec<u8>, Fault> {
     said(alloc, text.as_str())
 }
 
-/// Whether both kinds of walkers offer the same and send the same values, at first and after each list of up to four moves.
+/// Returns whether both kinds of walkers have the same offers and send the same values, at the start and after each list of up to four
+/// moves.
 fn agree(alloc: Global, body: &Body, args: &[Vec<u8>]) -> Result<Vec<u8>, Fault> {
     none(args)?;
     let rewritten = explored::<Rewriter>(alloc, body)?;
@@ -176,7 +177,7 @@ fn agree(alloc: Global, body: &Body, args: &[Vec<u8>]) -> Result<Vec<u8>, Fault>
     )
 }
 
-/// Whether the first atom of a body is ready at an age and after so many ticks, as its process begins.
+/// Returns whether the first atom of a body is ready at this age and this number of ticks, in a new process.
 fn ready(alloc: Global, body: &Body, args: &[Vec<u8>]) -> Result<Vec<u8>, Fault> {
     let (age, now) = two(args)?;
     let (age, now) = (number(age)?, number(now)?);
@@ -188,7 +189,7 @@ fn ready(alloc: Global, body: &Body, args: &[Vec<u8>]) -> Result<Vec<u8>, Fault>
     yes_or_no(alloc, ready)
 }
 
-/// What the first atom of a body sends.
+/// Returns the expressions that the first atom of a body sends.
 fn sent(body: &Body) -> Result<&Exprs, Fault> {
     match body.atoms.as_slice().first() {
         Some(atom) => match &atom.act {
@@ -199,7 +200,7 @@ fn sent(body: &Body) -> Result<&Exprs, Fault> {
     }
 }
 
-/// The value of the first expression that a body's first atom sends.
+/// Returns the value of the first expression that the first atom of a body sends.
 fn evaluated(alloc: Global, body: &Body, args: &[Vec<u8>]) -> Result<Vec<u8>, Fault> {
     none(args)?;
     match sent(body)?.as_slice().first() {
@@ -208,13 +209,13 @@ fn evaluated(alloc: Global, body: &Body, args: &[Vec<u8>]) -> Result<Vec<u8>, Fa
     }
 }
 
-/// The value of an expression as a process of this body begins.
+/// Returns the value of an expression in a new process of this body.
 fn fresh_value(alloc: Global, body: &Body, expr: &Expr) -> Result<Vec<u8>, Fault> {
     let store = Store::fresh(alloc, &body.sorts)?;
     found(alloc, eval(alloc, expr, &store))
 }
 
-/// The patterns of what the first atom of a body receives.
+/// Returns the patterns of the first atom of a body, which must receive.
 fn patterns(alloc: Global, body: &Body) -> Result<Patterns, Fault> {
     let exprs = received(body)?;
     let store = Store::fresh(alloc, &body.sorts)?;
@@ -242,8 +243,8 @@ fn received(body: &Body) -> Result<&Exprs, Fault> {
     }
 }
 
-/// What terms bind where they match what a body's first atom receives. One term is matched by itself too. Copies are matched, and
-/// copies of what is bound are told.
+/// Returns the binds of terms that match the patterns of the first atom of a body. For a single term, `match_term` must find the same
+/// match. The call matches copies of the patterns, and writes copies of the binds.
 fn matched(alloc: Global, body: &Body, args: &[Vec<u8>]) -> Result<Vec<u8>, Fault> {
     let terms = terms(alloc, args)?;
     matched_terms(alloc, body, &terms)
@@ -267,7 +268,7 @@ fn both_matches(alloc: Global, patterns: &Patterns, terms: &Terms) -> Result<Vec
     Ok(found)
 }
 
-/// What was found, where one pattern by itself finds it too.
+/// Returns the found match, if `match_term` finds the same one.
 fn alone_too(
     alloc: Global,
     found: Vec<u8>,
@@ -303,7 +304,7 @@ fn binds_text(alloc: Global, binds: &Binds) -> Result<Vec<u8>, Fault> {
     Ok(text)
 }
 
-/// The sort of a body's first variable.
+/// Returns the type of a body's first variable.
 fn sort(body: &Body) -> Result<&Sort, Fault> {
     match body.sorts.as_slice().first() {
         Some(sort) => Ok(sort),
@@ -311,21 +312,22 @@ fn sort(body: &Body) -> Result<&Sort, Fault> {
     }
 }
 
-/// The initial value of a sort.
+/// Returns the initial value of a type.
 fn initial_of(alloc: Global, body: &Body, args: &[Vec<u8>]) -> Result<Vec<u8>, Fault> {
     none(args)?;
     let term = initial(alloc, sort(body)?)?;
     term_text(alloc, &term)
 }
 
-/// Whether a term has a sort.
+/// Returns whether a term has a type.
 fn of_sort(alloc: Global, body: &Body, args: &[Vec<u8>]) -> Result<Vec<u8>, Fault> {
     let sort = sort(body)?;
     let term = term(alloc, one(args)?)?;
     yes_or_no(alloc, has_sort(&term, sort))
 }
 
-/// How many positions the code of a body has, how many entries its lists have together, and from which position on each has a list.
+/// Returns the number of positions of a body's code, the number of entries of all its lists, and the first position from which on each
+/// position has a list.
 fn compiled(alloc: Global, body: &Body, args: &[Vec<u8>]) -> Result<Vec<u8>, Fault> {
     none(args)?;
     let code = compile(alloc, body)?;
@@ -339,7 +341,7 @@ fn code_text(alloc: Global, code: &Code) -> Result<Vec<u8>, Fault> {
     said(alloc, text.as_str())
 }
 
-/// The first position from which on each has a list.
+/// Returns the first position from which on each position has a list.
 fn first_listed(spans: &[Span]) -> usize {
     let mut first: usize = 0;
     for (at, span) in spans.iter().enumerate() {

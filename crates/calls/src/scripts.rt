@@ -53,7 +53,7 @@ fn symbol_text(symbol: Symbol) -> &'static [u8] {
     }
 }
 
-/// Writes a token as its kind and what it holds, and the positions at which it begins and ends.
+/// Writes a token: its kind, its content, and the positions at which it begins and ends.
 fn write_token(alloc: Global, token: &Token, into: &mut Vec<u8>) -> Result<(), Fault> {
     write_kind(alloc, &token.kind, into)?;
     let text = format!(in alloc; " {} {}", token.from, token.to)?;
@@ -83,7 +83,7 @@ fn write_kind(alloc: Global, kind: &TokenKind, into: &mut Vec<u8>) -> Result<(),
     Ok(())
 }
 
-/// The tokens of a text; of more than a hundred their number.
+/// Returns the tokens of a text, or their number if there are more than 100.
 fn lexed(alloc: Global, args: &[Vec<u8>]) -> Result<Vec<u8>, Fault> {
     match lex(alloc, one(args)?) {
         Ok(tokens) => some_tokens(alloc, &tokens),
@@ -118,7 +118,7 @@ fn fault_of(alloc: Global, text: &[u8]) -> Result<Option<ParseFault>, Fault> {
     Ok(parse(alloc, &tokens).err())
 }
 
-/// Whether a text is a script, or its fault.
+/// Returns `a script` if a text is one, or the syntax error.
 fn parsed(alloc: Global, args: &[Vec<u8>]) -> Result<Vec<u8>, Fault> {
     match fault_of(alloc, one(args)?)? {
         None => said(alloc, "a script"),
@@ -133,7 +133,7 @@ fn print_of(alloc: Global, args: &[Vec<u8>]) -> Result<Vec<u8>, Fault> {
     printed(alloc, one(args)?)
 }
 
-/// The text that is printed for the script of a text.
+/// Returns the print of the script that a text represents.
 fn printed(alloc: Global, text: &[u8]) -> Result<Vec<u8>, Fault> {
     let tokens = lex(alloc, text)?;
     print_tokens(alloc, &tokens)
@@ -150,7 +150,7 @@ fn with_memory(text: Result<Vec<u8>, NoMemory>) -> Result<Vec<u8>, Fault> {
     Ok(text?)
 }
 
-/// Whether two texts have the same print.
+/// Returns whether two texts have the same print.
 fn are_alike(alloc: Global, args: &[Vec<u8>]) -> Result<Vec<u8>, Fault> {
     let (text, other) = two(args)?;
     let first = printed(alloc, text)?;
@@ -158,7 +158,7 @@ fn are_alike(alloc: Global, args: &[Vec<u8>]) -> Result<Vec<u8>, Fault> {
     yes_or_no(alloc, first.as_slice() == second.as_slice())
 }
 
-/// How many tokens there are but for parentheses, which a print may leave out.
+/// Returns the number of tokens except parentheses, which a print may omit.
 fn count(tokens: &Tokens) -> usize {
     let mut count: usize = 0;
     for token in tokens.as_slice() {
@@ -170,7 +170,7 @@ fn count(tokens: &Tokens) -> usize {
     count
 }
 
-/// Whether a text's print is read back and printed alike, and has the tokens of the text.
+/// Returns whether a text's print parses and has the same print, and has as many tokens as the text, parentheses not counted.
 fn is_kept(alloc: Global, args: &[Vec<u8>]) -> Result<Vec<u8>, Fault> {
     let text = one(args)?;
     let once = printed(alloc, text)?;
@@ -189,7 +189,7 @@ fn count_of(alloc: Global, text: &[u8]) -> Result<usize, Fault> {
     Ok(count(&tokens))
 }
 
-/// The text up to the token at this index.
+/// Returns the text before the token at this index.
 fn text_before<'a>(text: &'a [u8], tokens: &Tokens, at: usize) -> &'a [u8] {
     match tokens.as_slice().get(at) {
         Some(token) => text.get(..token.from).unwrap_or(text),
@@ -197,7 +197,8 @@ fn text_before<'a>(text: &'a [u8], tokens: &Tokens, at: usize) -> &'a [u8] {
     }
 }
 
-/// Whether a text is a script, or the tokens in front of its fault begin a script, and with the one at it don't.
+/// Returns whether a text is a script. For another text, returns whether the tokens before its syntax error begin a script, and together
+/// with the token at the error don't.
 fn stops_right(alloc: Global, args: &[Vec<u8>]) -> Result<Vec<u8>, Fault> {
     let text = one(args)?;
     let right = match fault_of(alloc, text)? {
@@ -220,7 +221,7 @@ fn stops_at(alloc: Global, text: &[u8], at: usize) -> Result<bool, Fault> {
     splits(alloc, before, with, at)
 }
 
-/// Whether the first text begins a script, and the other one doesn't, for its token at this index.
+/// Returns whether the first text begins a script and the second one doesn't, because of its token at this index.
 fn splits(alloc: Global, before: &[u8], with: &[u8], at: usize) -> Result<bool, Fault> {
     let stop = Some(ParseFault::Syntax(at));
     let first = fault_of(alloc, before)?;
@@ -228,7 +229,7 @@ fn splits(alloc: Global, before: &[u8], with: &[u8], at: usize) -> Result<bool, 
     Ok(begins && fault_of(alloc, with)? == stop)
 }
 
-/// How many atoms and slots the expansion of the process at this position has, or why there is none.
+/// Returns the numbers of atoms and slots of the expansion of the process at this position, or the error.
 fn expanded(alloc: Global, args: &[Vec<u8>]) -> Result<Vec<u8>, Fault> {
     let (position, text) = two(args)?;
     let at = number(position)?;
@@ -271,7 +272,7 @@ fn expand_fault(alloc: Global, fault: &ExpandFault) -> Result<Vec<u8>, Fault> {
     }
 }
 
-/// What a word is in scripts.
+/// Returns the meaning of a word in scripts.
 fn word(alloc: Global, args: &[Vec<u8>]) -> Result<Vec<u8>, Fault> {
     let bytes = one(args)?;
     let mut text = Vec::new(alloc);

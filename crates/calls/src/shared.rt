@@ -1,4 +1,5 @@
-//! Bodies that no script has: a `let` sets a variable that a test outside of it asks for, or that a `let` in it sets again.
+//! Bodies that no script has. In them, a `let` sets a variable that a test outside of this `let` reads, or that a `let` inside of it sets
+//! again.
 
 use crate::fault::Fault;
 use std::alloc::Global;
@@ -24,7 +25,7 @@ fn when_one(alloc: Global, part: Boxed<Tree>) -> Result<Boxed<Tree>, NoMemory> {
     Ok(Boxed::new(alloc, Tree::If(test, part, None))?)
 }
 
-/// The tree of this name.
+/// Returns the tree with this name.
 fn shared_tree(alloc: Global, name: &[u8]) -> Result<Tree, Fault> {
     match name {
         b"beside" => Ok(beside(alloc)?),
@@ -60,7 +61,7 @@ fn set_again(alloc: Global) -> Result<Tree, NoMemory> {
     Ok(Tree::Seq(first, second))
 }
 
-/// The body of this name, whose only variable is a number, 0 at first.
+/// Returns the body with this name. Its only variable is an integer, 0 at first.
 pub(crate) fn shared_body(alloc: Global, name: &[u8]) -> Result<Body, Fault> {
     let mut atoms = Items::new(alloc);
     for _ in 0..2 {

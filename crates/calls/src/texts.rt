@@ -1,15 +1,15 @@
-//! Arguments that are read, and answers that are written.
+//! Reading of arguments, and writing of answers.
 //!
-//! Here and in the files beside this one a function that has made a term, a script or another value of many forms lends it to
-//! another and returns what that answers: a fault that passes through while such a value is held costs its proof a case for
-//! each form.
+//! In this crate, a function that makes a term, a script, or another value with many forms lends the value to another function, and returns
+//! the answer of that function. If a fault passes through while a function holds such a value, the function's proof needs a case for each
+//! form.
 
 use crate::fault::Fault;
 use std::alloc::Global;
 use tb_read::{TermFault, read_term};
 use tb_terms::{Items, NoMemory, Term, Terms, write_term};
 
-/// That there are no further arguments.
+/// Checks that there are no further arguments.
 pub(crate) fn none(args: &[Vec<u8>]) -> Result<(), Fault> {
     if args.is_empty() {
         Ok(())
@@ -18,7 +18,7 @@ pub(crate) fn none(args: &[Vec<u8>]) -> Result<(), Fault> {
     }
 }
 
-/// The only argument.
+/// Returns the only argument.
 pub(crate) fn one(args: &[Vec<u8>]) -> Result<&[u8], Fault> {
     match args {
         [text] => Ok(text.as_slice()),
@@ -26,7 +26,7 @@ pub(crate) fn one(args: &[Vec<u8>]) -> Result<&[u8], Fault> {
     }
 }
 
-/// Both arguments.
+/// Returns both arguments.
 pub(crate) fn two(args: &[Vec<u8>]) -> Result<(&[u8], &[u8]), Fault> {
     match args {
         [first, second] => Ok((first.as_slice(), second.as_slice())),
@@ -34,7 +34,7 @@ pub(crate) fn two(args: &[Vec<u8>]) -> Result<(&[u8], &[u8]), Fault> {
     }
 }
 
-/// The first argument, and those behind it.
+/// Returns the first argument, and the arguments after it.
 pub(crate) fn first(args: &[Vec<u8>]) -> Result<(&[u8], &[Vec<u8>]), Fault> {
     match args {
         [first, others @ ..] => Ok((first.as_slice(), others)),
@@ -64,7 +64,7 @@ pub(crate) fn term(alloc: Global, bytes: &[u8]) -> Result<Term, Fault> {
     }
 }
 
-/// A term of each of these.
+/// Returns the terms that the arguments represent.
 pub(crate) fn terms(alloc: Global, args: &[Vec<u8>]) -> Result<Terms, Fault> {
     let mut terms = Items::new(alloc);
     for arg in args {
@@ -73,7 +73,7 @@ pub(crate) fn terms(alloc: Global, args: &[Vec<u8>]) -> Result<Terms, Fault> {
     Ok(terms)
 }
 
-/// These bytes, as an answer.
+/// Returns this text as an answer.
 pub(crate) fn said(alloc: Global, text: &str) -> Result<Vec<u8>, Fault> {
     Ok(Vec::from_slice(alloc, text.as_bytes())?)
 }
@@ -88,7 +88,7 @@ pub(crate) fn term_text(alloc: Global, term: &Term) -> Result<Vec<u8>, Fault> {
     Ok(text)
 }
 
-/// The text of the value that was found, where there is one.
+/// Returns the text of the found value, or `no value` if there is none.
 pub(crate) fn found(
     alloc: Global,
     value: Result<Option<Term>, NoMemory>,

@@ -1,4 +1,4 @@
-//! Calls of the libraries of terms and of values.
+//! Calls of the libraries of terms and of functions.
 
 use crate::fault::Fault;
 use crate::texts::{first, found, number, one, said, term, term_text, terms, two, yes_or_no};
@@ -40,7 +40,7 @@ fn fault_text(alloc: Global, fault: TermFault) -> Result<Vec<u8>, Fault> {
     said(alloc, text.as_str())
 }
 
-/// The text of the term that is read, which is read as the same term.
+/// Returns the text of the parsed term. The text must parse as the same term.
 fn read(alloc: Global, args: &[Vec<u8>]) -> Result<Vec<u8>, Fault> {
     match read_term(alloc, one(args)?) {
         Ok(read) => read_again(alloc, &read),
@@ -56,13 +56,13 @@ fn read_again(alloc: Global, read: &Term) -> Result<Vec<u8>, Fault> {
     said(alloc, "another term")
 }
 
-/// Whether the text is read as this term.
+/// Returns whether the text parses as this term.
 fn is_text_of(alloc: Global, text: &[u8], wanted: &Term) -> Result<bool, Fault> {
     let read = term(alloc, text)?;
     Ok(same(&read, wanted))
 }
 
-/// The same within a size and a number of levels.
+/// Returns the text of the term that is parsed within a size and a depth.
 fn read_in(alloc: Global, args: &[Vec<u8>]) -> Result<Vec<u8>, Fault> {
     let (of_size, others) = first(args)?;
     let (of_levels, text) = two(others)?;
@@ -80,7 +80,7 @@ fn read_in(alloc: Global, args: &[Vec<u8>]) -> Result<Vec<u8>, Fault> {
     }
 }
 
-/// The size and the levels of a term's copy, which is the same as the term.
+/// Returns the size and the depth of a term's copy. The copy must be the same term.
 fn measure(alloc: Global, args: &[Vec<u8>]) -> Result<Vec<u8>, Fault> {
     let read = term(alloc, one(args)?)?;
     measure_copy(alloc, &read)
@@ -99,7 +99,7 @@ fn measured(alloc: Global, copy: &Term, is_same: bool) -> Result<Vec<u8>, Fault>
     said(alloc, text.as_str())
 }
 
-/// Whether each call says of the bytes that they are a name.
+/// Returns whether the bytes are a name. Three calls must agree on this.
 fn is_name(alloc: Global, args: &[Vec<u8>]) -> Result<Vec<u8>, Fault> {
     let bytes = one(args)?;
     let (copied, shared) = match Name::from_bytes(alloc, bytes)? {
@@ -109,7 +109,7 @@ fn is_name(alloc: Global, args: &[Vec<u8>]) -> Result<Vec<u8>, Fault> {
     agreed(alloc, [copied, shared, is_name_bytes(bytes)])
 }
 
-/// Whether each call says of the bytes that they are an identifier.
+/// Returns whether the bytes are an identifier. Three calls must agree on this.
 fn is_ident(alloc: Global, args: &[Vec<u8>]) -> Result<Vec<u8>, Fault> {
     let bytes = one(args)?;
     let copied = Ident::from_bytes(alloc, bytes)?.is_some();
@@ -120,7 +120,7 @@ fn is_ident(alloc: Global, args: &[Vec<u8>]) -> Result<Vec<u8>, Fault> {
     agreed(alloc, [copied, moved, is_ident_bytes(bytes)])
 }
 
-/// What calls say that have to say the same.
+/// Returns the answer on which three calls must agree. If they don't agree, returns `Fault::Argument`.
 fn agreed(alloc: Global, say: [bool; 3]) -> Result<Vec<u8>, Fault> {
     let [copied, moved, looked_at] = say;
     if moved != copied || looked_at != copied {
@@ -129,7 +129,7 @@ fn agreed(alloc: Global, say: [bool; 3]) -> Result<Vec<u8>, Fault> {
     yes_or_no(alloc, copied)
 }
 
-/// Whether the bytes are a string, and are given back.
+/// Returns whether the bytes are a string from which the same bytes can be taken back.
 fn is_string(alloc: Global, args: &[Vec<u8>]) -> Result<Vec<u8>, Fault> {
     let bytes = one(args)?;
     let is_given = match Text::from_vec(Vec::from_slice(alloc, bytes)?) {
@@ -139,7 +139,7 @@ fn is_string(alloc: Global, args: &[Vec<u8>]) -> Result<Vec<u8>, Fault> {
     yes_or_no(alloc, is_given)
 }
 
-/// What the function of this name gives for these arguments.
+/// Returns the value of the function with this name for these arguments.
 fn applied(alloc: Global, args: &[Vec<u8>]) -> Result<Vec<u8>, Fault> {
     let (word, others) = first(args)?;
     match func(alloc, word)? {

@@ -1,4 +1,4 @@
-//! Walkers of any kind, taken through their moves.
+//! Walkers of any kind, and the moves that they make.
 ghost use Rattle.std.specs.Prelude.{◌≡◌, ◌<◌, ◌≤◌, IfOk, IfSome, IsTrue, OnOk, is_some, slice_get, ◌+◌, ◌*◌};
 ghost use Rattle.std.specs.Option.{ForSome};
 ghost use Rattle.tb_process_steps.specs.Binds.{takes_binds};
@@ -11,10 +11,10 @@ use tb_match::Binds;
 use tb_process_steps::Walker;
 use tb_terms::{Items, NoMemory, Term, Terms, write_terms};
 
-/// How many moves a process makes at most.
+/// The highest number of ticks that a process sees.
 const MOST_MOVES: u64 = 16;
 
-/// What the offered atom binds where it receives a 7; nothing where it doesn't receive.
+/// Returns the binds of the offered atom for the term 7, or no binds if the atom doesn't accept this term.
 fn bound<W: Walker>(alloc: Global, plan: &W::Plan, walker: &W, k: usize) -> Result<Binds, NoMemory>
     requires on { W.view.is_on plan.now walker.now }
     requires fresh { IsTrue (is_some (W.view.seen walker.now)) }
@@ -33,7 +33,7 @@ fn bound<W: Walker>(alloc: Global, plan: &W::Plan, walker: &W, k: usize) -> Resu
     }
 }
 
-/// Looks what may happen next, and takes the offer at this position, where there is one.
+/// Finds the offers, and takes the offer at index `k`, if there is one. Returns whether there is one.
 fn take<W: Walker>(
     alloc: Global,
     plan: &W::Plan,
@@ -55,8 +55,8 @@ fn take<W: Walker>(
     Ok(true)
 }
 
-/// Looks what may happen next, and takes the offer at this position a tick later without another look. It is taken and gone
-/// on with in two calls.
+/// Finds the offers, and takes the offer at index `k` a tick later, without another look. Returns whether this offer was taken. The call
+/// takes the offer and continues with it in two separate calls of the walker.
 fn take_later<W: Walker>(
     alloc: Global,
     plan: &W::Plan,
@@ -84,8 +84,8 @@ fn take_later<W: Walker>(
     Ok(true)
 }
 
-/// Makes a move, and gives how many ticks there were by then, or none where there is no such offer. A move is `t`, a tick;
-/// a digit, the position of the offer that is taken; or a letter from `a` on, which is taken a tick after the look.
+/// Makes a move. Returns the number of ticks after the move, or `None` if there is no such offer. A move is `t`, which is a tick; a digit,
+/// which is the index of the taken offer; or a letter from `a` to `e`, whose offer is taken a tick after the look.
 fn go<W: Walker>(
     alloc: Global,
     plan: &W::Plan,
@@ -121,7 +121,7 @@ fn go<W: Walker>(
     }
 }
 
-/// Writes what a process may do next: each offer as the atom's number, a point, its age, and a bang where it isn't ready.
+/// Writes `end` if a process has ended, and its offers. An offer is the atom's number, a point, its age, and `!` if the atom isn't ready.
 fn write_offers<W: Walker>(
     alloc: Global,
     plan: &W::Plan,
@@ -147,7 +147,8 @@ fn write_offers<W: Walker>(
     Ok(())
 }
 
-/// What a process of this body may do next after these moves, of which there are a few. The bus has seen 3 ticks as it starts.
+/// Returns the offers of a process of this body after these moves, during which at most `MOST_MOVES` ticks come. The process starts at 3
+/// ticks of the bus.
 pub(crate) fn seen_after<W: Walker>(
     alloc: Global,
     body: &Body,
@@ -176,7 +177,7 @@ pub(crate) fn seen_after<W: Walker>(
     Ok(text)
 }
 
-/// What was seen of a process: its offers, and the values that these send or look at.
+/// The offers of a process, and the values that these offers send or look at.
 #[derive(Drop)]
 pub(crate) struct Sightings {
     pub(crate) offers: String,
@@ -202,7 +203,7 @@ fn write_values<W: Walker>(
     Ok(())
 }
 
-/// Writes what a process may do next now, and after each list of so many ticks and offers that are taken.
+/// Writes the offers and the values of a process, now and after each list of up to `more` moves. A move is a tick or a taken offer.
 #[cycle(explore)]
 fn explore<W: Walker>(
     alloc: Global,
@@ -234,7 +235,7 @@ fn explore<W: Walker>(
     Ok(())
 }
 
-/// What a process of this body may do next, at first and after each list of up to four moves.
+/// Returns the offers and the values of a process of this body, at the start and after each list of up to four moves.
 pub(crate) fn explored<W: Walker>(alloc: Global, body: &Body) -> Result<Sightings, NoMemory> {
     let plan = W::plan(alloc, body)?;
     let walker = W::start(alloc, &plan, Store::fresh(alloc, &body.sorts)?)?;
@@ -246,7 +247,8 @@ pub(crate) fn explored<W: Walker>(alloc: Global, body: &Body) -> Result<Sighting
     Ok(seen)
 }
 
-/// How many variables a process binds as it receives these terms, where it may; its first offer receives.
+/// Returns the number of variables that the first offer of a process binds for these terms. Returns `None` if there is no offer, if the
+/// offer doesn't have exactly one pattern, or if it doesn't accept the terms.
 pub(crate) fn count_bound<W: Walker>(
     alloc: Global,
     body: &Body,

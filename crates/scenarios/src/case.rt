@@ -1,18 +1,18 @@
-//! A case as it is read, line by line.
+//! A case, read line by line.
 
 use crate::live::{Live, parted, what_of};
 use crate::playing::ROOM;
 use std::alloc::{AllocError, Global};
 use tb_cases::meant;
 
-/// A file by its name.
+/// A file with its name.
 #[derive(Drop)]
 pub(crate) struct Named {
     pub(crate) name: String,
     pub(crate) bytes: Vec<u8>,
 }
 
-/// Which call of the files and of each sink is to fail, from 1; 0 for none.
+/// The number of the call of the files, and of each sink, that must fail, from 1. With 0, no call fails.
 #[derive(Clone, Copy)]
 pub(crate) struct Fails {
     pub(crate) files: u64,
@@ -20,39 +20,39 @@ pub(crate) struct Fails {
     pub(crate) err: u64,
 }
 
-/// What lines of text are added to.
+/// The destination of lines of text.
 #[derive(Clone, Copy)]
 enum Block {
     Nothing,
     File,
     Out,
     Err,
-    /// What is wanted of a run.
+    /// The expected lines of a run.
     Wanted,
 }
 
-/// The words of a call, its files and what fails, and what is wanted of it.
+/// The arguments, the files, and the failing calls of a case, and its expected result.
 #[derive(Drop)]
 pub(crate) struct Case {
     pub(crate) name: String,
     pub(crate) words: Vec<String>,
     pub(crate) files: Vec<Named>,
     pub(crate) fails: Fails,
-    /// How many bytes may be put to `out`.
+    /// The capacity of `out`, in bytes.
     pub(crate) room: usize,
-    /// How many bytes may be put to `err`.
+    /// The capacity of `err`, in bytes.
     pub(crate) err_room: usize,
     pub(crate) live: Live,
     pub(crate) out: Vec<u8>,
-    /// Whether it says what is wanted on `out`.
+    /// Whether the case states the expected bytes on `out`.
     pub(crate) says_out: bool,
-    /// Whether what is wanted on `out` is its end.
+    /// Whether the expected bytes are only the end of `out`.
     pub(crate) is_end: bool,
     pub(crate) err: Vec<u8>,
     pub(crate) status: u8,
-    /// Whether the simulation isn't made over rewriters too.
+    /// Whether the case is neither simulated with rewriters nor verified.
     pub(crate) is_once: bool,
-    /// What the words ask for, where that is wanted.
+    /// The expected result of `read_words` for the arguments, if the case states it.
     pub(crate) asks: Option<String>,
     block: Block,
 }
@@ -82,7 +82,7 @@ impl Case {
         })
     }
 
-    /// Takes a line of the case. Whether it is one.
+    /// Reads a line of the case. Returns whether the line is valid.
     pub(crate) fn take_line(&mut self, alloc: Global, line: &str) -> Result<bool, AllocError> {
         let (word, rest) = parted(line);
         match word {
@@ -102,7 +102,7 @@ impl Case {
         }
     }
 
-    /// Adds to the text of the block.
+    /// Appends bytes to the text of the current block. Returns whether there is a block.
     fn put(&mut self, bytes: &[u8]) -> Result<bool, AllocError> {
         match self.block {
             Block::Nothing => return Ok(false),
@@ -127,7 +127,7 @@ impl Case {
         }
     }
 
-    /// Adds words that blanks part.
+    /// Adds the arguments of a line, split on whitespace.
     fn add_words(&mut self, alloc: Global, text: &str) -> Result<bool, AllocError> {
         for word in text.split_whitespace() {
             self.words.push(String::from_str(alloc, word)?)?;
@@ -135,7 +135,7 @@ impl Case {
         Ok(true)
     }
 
-    /// Adds one word, in which escapes may stand.
+    /// Adds one argument, which can have escapes.
     fn add_word(&mut self, alloc: Global, text: &str) -> Result<bool, AllocError> {
         match text_meant(alloc, text)? {
             Some(word) => self.words.push(word)?,
@@ -154,7 +154,7 @@ impl Case {
         Ok(true)
     }
 
-    /// Begins lines that are wanted of a run. Whether there are such.
+    /// Begins a block of expected lines of a run. Returns whether there is such a kind of block.
     fn take_wanted(&mut self, alloc: Global, word: &str, rest: &str) -> Result<bool, AllocError> {
         match what_of(word, rest) {
             Some(what) => self.live.want(alloc, what)?,
@@ -164,7 +164,7 @@ impl Case {
         Ok(true)
     }
 
-    /// Takes a line that says what is wanted. Whether it is one.
+    /// Reads a line that states an expectation or a limit, an empty line, or a comment. Returns whether the line is valid.
     fn take_want(&mut self, word: &str, rest: &str) -> bool {
         match word {
             "out" => self.take_out(),
@@ -197,7 +197,7 @@ impl Case {
         }
     }
 
-    /// Takes how many bytes may be put, as `10`, or of the faults' sink `err 10`.
+    /// Reads a capacity in bytes, such as `10` for `out` or `err 10` for `err`.
     fn take_room(&mut self, text: &str) -> bool {
         let (thing, rest) = parted(text);
         let (is_err, number) = if thing == "err" {
@@ -216,7 +216,7 @@ impl Case {
         true
     }
 
-    /// Takes which call is to fail, as `out 2`.
+    /// Reads which call must fail, such as `out 2`.
     fn take_fails(&mut self, text: &str) -> Result<bool, AllocError> {
         let (thing, rest) = parted(text);
         match (thing, rest.parse::<u64>()) {
@@ -228,7 +228,7 @@ impl Case {
         Ok(true)
     }
 
-    /// Whether the words ask for a run.
+    /// Returns whether the first argument is `run`.
     pub(crate) fn is_run(&self) -> bool {
         match self.words.first() {
             Some(word) => word.as_str() == "run",
@@ -236,7 +236,7 @@ impl Case {
         }
     }
 
-    /// The bytes of the first file of this name.
+    /// Returns the content of the first file with this name.
     pub(crate) fn held(&self, name: &str) -> Option<&[u8]> {
         for file in &self.files {
             if file.name.as_str() == name {
@@ -247,7 +247,7 @@ impl Case {
     }
 }
 
-/// The text that is meant, where it is UTF-8.
+/// Returns the text that a text with escapes represents, if it is UTF-8.
 fn text_meant(alloc: Global, text: &str) -> Result<Option<String>, AllocError> {
     match meant(alloc, text)? {
         Some(bytes) => utf8_text(alloc, bytes.as_slice()),

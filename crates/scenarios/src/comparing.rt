@@ -1,4 +1,4 @@
-//! What a call does, beside what its case wants.
+//! The differences between the result of a call and the expectations of its case.
 
 use crate::case::Case;
 use crate::lanes::taken_text;
@@ -13,7 +13,7 @@ use std::thread::Threads;
 use tb_fake::Records;
 use tb_terms::NoMemory;
 
-/// What differs first from what the case wants.
+/// Makes the call of a case, and returns the first difference from its expectations.
 pub(crate) fn difference<R: Threads + Wait + Sync>(
     rt: &R,
     alloc: Global,
@@ -25,7 +25,7 @@ pub(crate) fn difference<R: Threads + Wait + Sync>(
     }
 }
 
-/// The same of a call that was made, and of the log that it put as that of a trace.
+/// Returns the first difference of a call. If there is none, `verify` must report that the log of the call is a trace.
 fn difference_or_verified<R: Threads + Wait + Sync>(
     rt: &R,
     alloc: Global,
@@ -44,7 +44,7 @@ fn difference_or_verified<R: Threads + Wait + Sync>(
     }
 }
 
-/// What `verify` says of the log of a case, but that it is a trace.
+/// Returns how the result of `verify` for the log of a case differs from the result for a trace.
 fn difference_verified<R: Threads + Wait + Sync>(
     rt: &R,
     alloc: Global,
@@ -59,7 +59,7 @@ fn difference_verified<R: Threads + Wait + Sync>(
     }
 }
 
-/// Whether the whole log was put, where the words ask for one.
+/// Returns whether the whole log was written, if the arguments ask for a log.
 fn has_log(played: &Played) -> bool {
     played.status == 0 || played.status == 4
 }
@@ -83,7 +83,7 @@ fn difference_of(alloc: Global, case: &Case, played: &Played) -> Result<Option<S
     }
 }
 
-/// What the words ask for instead of what the case wants them to.
+/// Returns the command that the arguments ask for, if the case expects another command.
 fn difference_asked(alloc: Global, case: &Case) -> Result<Option<String>, NoMemory> {
     let Some(asks) = &case.asks else {
         return Ok(None);
@@ -112,7 +112,7 @@ fn difference_played(
     Ok(None)
 }
 
-/// Which lines that are wanted of a run differ first. Where none is asked for, no lane may have taken anything.
+/// Returns the first difference from the expected lines of a run. If the case isn't a run, no lane may have taken an item.
 fn difference_live(
     alloc: Global,
     case: &Case,
@@ -162,7 +162,7 @@ fn difference_order(alloc: Global, lines: &[u8], log: &str) -> Result<Option<Str
     }
 }
 
-/// Where what the outlet of a lane took differs from these lines.
+/// Returns the first difference between these lines and the items that the outlet of a lane took.
 fn difference_taken(
     alloc: Global,
     lane: u8,
@@ -176,7 +176,7 @@ fn difference_taken(
     }
 }
 
-/// Where a log differs from what the case wants on `out`.
+/// Returns the first difference between a log or an output and the expected bytes on `out`.
 fn difference_at(
     alloc: Global,
     what: &str,
@@ -193,7 +193,7 @@ fn difference_at(
     first_line(alloc, what, wanted, found)
 }
 
-/// The first line in which two texts differ.
+/// Returns the number of the first line in which two texts differ, and the found line.
 fn first_line(
     alloc: Global,
     what: &str,

@@ -1,4 +1,4 @@
-//! Counts what a simulation logs over walkers of one kind, for the bench: the program's own walkers are walks.
+//! For benchmarks, counts the log entries of a simulation with walkers of one kind. The program's own walkers are walks.
 
 ghost use Rattle.std.specs.Prelude.{◌≡◌, [], false};
 
@@ -13,11 +13,11 @@ use tb_sim::simulate;
 use tb_terms::{Items, NoMemory};
 use tb_walk::Walk;
 
-/// How many entries a log may have.
+/// The capacity of a log, in entries.
 const MOST_ENTRIES: u32 = 4_000_000;
 
-/// How many entries a simulation of the file's script logs, where nothing fails. The words are a kind of walkers, a file, and how
-/// many steps may be made.
+/// Returns the number of entries that a simulation of the file's script logs, or nothing if something fails. `kind` is a kind of walkers,
+/// and at most `steps` steps are made.
 pub(crate) fn counted(rt: &HostRuntime, kind: &str, path: &str, steps: &str) -> Option<usize> {
     let steps = steps.parse::<u64>().ok()?;
     let bytes = fs::read(rt, path).ok()?;
@@ -25,7 +25,7 @@ pub(crate) fn counted(rt: &HostRuntime, kind: &str, path: &str, steps: &str) -> 
     count_over(rt.alloc(), kind, program, steps)
 }
 
-/// How many entries a simulation over walkers of this kind logs.
+/// Returns the number of entries that a simulation with walkers of this kind logs.
 fn count_over(alloc: Global, kind: &str, program: Program, steps: u64) -> Option<usize> {
     match kind {
         "rewriter" => count::<Rewriter>(alloc, program, steps),
@@ -41,7 +41,7 @@ fn count<W: Walker>(alloc: Global, program: Program, steps: u64) -> Option<usize
     }
 }
 
-/// How many entries the simulation of a core logs, where memory is there.
+/// Returns the number of entries that the simulation of a core logs, or nothing if memory runs out.
 fn logged<W: Walker>(alloc: Global, core: &mut Core<W>, steps: u64) -> Option<usize>
     requires fresh { core.old.log ≡ [] }
     requires running { core.old.stopped ≡ false }

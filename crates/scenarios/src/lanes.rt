@@ -6,7 +6,7 @@ use tb_edge::Taken;
 use tb_fake::{Cue, Cues, FakePairs, Records, fakes};
 use tb_terms::{Items, NoMemory};
 
-/// The ends of lanes that do what the case says.
+/// Makes lane ends with the cues and the failing calls of a case.
 pub(crate) fn ends_of(alloc: Global, live: &Live) -> Result<FakePairs, NoMemory> {
     let cues = copied(alloc, live.cues.as_slice())?;
     let fails = Items::from_slice(alloc, live.fails.as_slice())?;
@@ -21,7 +21,7 @@ fn copied(alloc: Global, cues: &[Cue]) -> Result<Cues, NoMemory> {
     Ok(copies)
 }
 
-/// What the outlet of a lane took, an item a line. None where it took more than is kept.
+/// Returns the items that the outlet of a lane took, one item a line. Returns `None` if the record doesn't have all items.
 pub(crate) fn taken_text(
     alloc: Global,
     records: &Records,

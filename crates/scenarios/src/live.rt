@@ -1,4 +1,4 @@
-//! What a case says of live tools: what lanes give, which calls fail, and what is wanted of the run.
+//! The part of a case about live tools: the inputs of lanes, the failing calls, and the expected lines of the run.
 
 use std::alloc::{AllocError, Global};
 use tb_cases::meant;
@@ -6,36 +6,35 @@ use tb_edge::{Bytes, Given};
 use tb_fake::{Cue, Cues, Fail, Fails};
 use tb_terms::Items;
 
-/// What lines say of a run.
+/// The meaning of expected lines.
 #[derive(Clone, Copy)]
 pub(crate) enum What {
-    /// They stand in the log in this order.
+    /// The lines are in the log in this order.
     Order,
-    /// They are all ticks and whatever says that no more come, in order.
+    /// The lines are all inputs `tick` and `noticks`, in order.
     Time,
-    /// They are all inputs of this lane, in order.
+    /// The lines are all inputs of this lane, in order.
     Lane(u8),
-    /// They are all that the outlet of this lane took, in order.
+    /// The lines are all items that the outlet of this lane took, in order.
     Took(u8),
 }
 
-/// Lines that are wanted of a run.
+/// Expected lines of a run.
 #[derive(Drop)]
 pub(crate) struct Wanted {
     pub(crate) what: What,
     pub(crate) lines: Vec<u8>,
 }
 
-/// What is said of live tools: nothing, where lanes are to be left alone.
+/// The part of a case about live tools. It is empty if the case doesn't use the lanes.
 #[derive(Drop)]
 pub(crate) struct Live {
     pub(crate) cues: Cues,
-    /// The calls of outlets that are to fail.
+    /// The calls of outlets that must fail.
     pub(crate) fails: Fails,
-    /// How many ticks come, at once. Where it isn't said none comes, and that no more come is said
-    /// once all outlets are closed.
+    /// The number of ticks, which come immediately. If it is absent, no ticks come, and the clock ends after all outlets are closed.
     pub(crate) ticks: Option<u64>,
-    /// Which call of the clock is to fail, from 1; 0 for none.
+    /// The number of the clock's call that must fail, from 1, or 0 for none.
     pub(crate) clock_fails: u64,
     pub(crate) has_crew: bool,
     pub(crate) wanted: Vec<Wanted>,
@@ -53,7 +52,7 @@ impl Live {
         }
     }
 
-    /// Takes a cue, as `2 after 2 of 1 line snd-value(1)`. Whether it is one.
+    /// Reads a cue, such as `2 after 2 of 1 line snd-value(1)`. Returns whether it is valid.
     pub(crate) fn take_cue(&mut self, alloc: Global, text: &str) -> Result<bool, AllocError> {
         match read_cue(alloc, text)? {
             Some(cue) => self.cues.push(cue)?,
@@ -67,7 +66,7 @@ impl Live {
         self.ticks.is_some()
     }
 
-    /// Takes what is to fail, as `lane 1 3`, `clock 2` or `crew`. Whether it is such a thing.
+    /// Reads a failure, such as `lane 1 3`, `clock 2`, or `crew`. Returns whether it is valid.
     pub(crate) fn take_fails(&mut self, thing: &str, rest: &str) -> Result<bool, AllocError> {
         match thing {
             "lane" => self.take_lane_fails(rest),
@@ -89,7 +88,7 @@ impl Live {
         Ok(true)
     }
 
-    /// A clock that fails gives no tick, where no number of them is said.
+    /// Reads which call of the clock must fail. Without a number of ticks, such a clock gives no ticks.
     fn take_clock_fails(&mut self, text: &str) -> bool {
         let Ok(call) = text.parse::<u64>() else {
             return false;
@@ -99,7 +98,7 @@ impl Live {
         true
     }
 
-    /// Begins lines that say this.
+    /// Begins expected lines with this meaning.
     pub(crate) fn want(&mut self, alloc: Global, what: What) -> Result<(), AllocError> {
         let lines = Vec::new(alloc);
         self.wanted.push(Wanted { what, lines })?;
@@ -107,7 +106,7 @@ impl Live {
     }
 }
 
-/// What lines say that stand behind this one, as `lane 1`.
+/// Returns the meaning of the lines that follow a line such as `lane 1`.
 pub(crate) fn what_of(word: &str, rest: &str) -> Option<What> {
     match (word, rest) {
         ("order", "") => Some(What::Order),
@@ -118,12 +117,12 @@ pub(crate) fn what_of(word: &str, rest: &str) -> Option<What> {
     }
 }
 
-/// The text in front of the first blank, and what follows.
+/// Returns the text before the first space, and the text after it.
 pub(crate) fn parted(text: &str) -> (&str, &str) {
     text.split_once(' ').unwrap_or((text, ""))
 }
 
-/// The lane of this number.
+/// Returns the lane with this number, if the number is from 1 to 16.
 pub(crate) fn lane_of(text: &str) -> Option<u8> {
     match text.parse::<u8>() {
         Ok(lane) if (1..=16).contains(&lane) => Some(lane),

@@ -1,10 +1,10 @@
-//! What stands in the text of a log.
+//! The parts of a log's text.
 
 use crate::live::{lane_of, parted};
 use std::alloc::Global;
 use tb_terms::NoMemory;
 
-/// The first of the lines that doesn't stand in the log behind those before it.
+/// Returns the first of the lines that isn't in the log after the lines before it. Entries are compared without their numbers.
 pub(crate) fn first_missing<'a>(log: &str, lines: &'a str) -> Option<&'a str> {
     let mut lines = lines.lines();
     let mut wanted = lines.next();
@@ -17,7 +17,7 @@ pub(crate) fn first_missing<'a>(log: &str, lines: &'a str) -> Option<&'a str> {
     wanted
 }
 
-/// All inputs of a lane, with why they were dropped, where they were.
+/// Returns all inputs of a lane, one a line. A dropped input has the reason before it.
 pub(crate) fn inputs_of(alloc: Global, log: &str, lane: u8) -> Result<String, NoMemory> {
     let mut inputs = String::new(alloc);
     for entry in log.lines() {
@@ -29,7 +29,7 @@ pub(crate) fn inputs_of(alloc: Global, log: &str, lane: u8) -> Result<String, No
     Ok(inputs)
 }
 
-/// All ticks and whatever says that no more come, dropped or not.
+/// Returns all inputs `tick` and `noticks`, taken or dropped.
 pub(crate) fn times_of(alloc: Global, log: &str) -> Result<String, NoMemory> {
     let mut times = String::new(alloc);
     for entry in log.lines() {
@@ -41,12 +41,12 @@ pub(crate) fn times_of(alloc: Global, log: &str) -> Result<String, NoMemory> {
     Ok(times)
 }
 
-/// An entry without its number.
+/// Returns an entry without its number.
 fn words_of(entry: &str) -> &str {
     parted(entry).1
 }
 
-/// The input of an entry, where it is of one.
+/// Returns the input of an entry, if the entry has one.
 fn input_of(words: &str) -> &str {
     match parted(words) {
         ("drop", dropped) => parted(dropped).1,
@@ -54,7 +54,7 @@ fn input_of(words: &str) -> &str {
     }
 }
 
-/// The lane of an entry's input, where it is of one that has a lane.
+/// Returns the lane of an entry's input, if the input has a lane.
 fn input_lane(words: &str) -> Option<u8> {
     match parted(input_of(words)) {
         ("line" | "gone" | "cut", rest) => lane_of(parted(rest).0),

@@ -1,6 +1,6 @@
-//! Runs the cases of the files that `index` names over the ToolBus, in memory, and tells each that differs. `scenarios KIND FILE
-//! STEPS`, where KIND is `rewriter` or `walk`, is for the bench: it simulates a script over walkers of this kind, makes so many
-//! steps at most, and prints how many entries were logged.
+//! Runs the cases of the files that `index` names with the ToolBus in memory, and prints each case that differs. For benchmarks, `scenarios
+//! KIND FILE STEPS` simulates a script with walkers of the kind `rewriter` or `walk`, makes at most `STEPS` steps, and prints the number of
+//! entries in the log.
 #![tactic(auto)]
 
 mod case;
@@ -31,7 +31,7 @@ fn main(rt: HostRuntime) -> io::Result<()> {
     }
 }
 
-/// The words of the command line, the program's name first.
+/// Returns the arguments of the command line, the program's name first.
 fn words(rt: &HostRuntime) -> io::Result<Vec<String>> {
     let mut words = Vec::new(rt.alloc());
     for word in env::args(rt)? {
@@ -68,7 +68,7 @@ fn run_file<R: AllocGlobal + Files + Print + Threads + Wait + Sync>(
     run_lines(rt, file, text.as_str(), &mut case, tally)
 }
 
-/// Runs the cases of these lines. The first lines are of the case that is given, and those of the last case stay in it.
+/// Runs the cases of these lines. The first lines belong to the given case. After the call, `case` is the last case.
 fn run_lines<R: AllocGlobal + Files + Print + Threads + Wait + Sync>(
     rt: &R,
     file: &str,
@@ -88,7 +88,7 @@ fn run_lines<R: AllocGlobal + Files + Print + Threads + Wait + Sync>(
     run_case(rt, file, case, tally)
 }
 
-/// Runs a case, and tells where it differs. What stands before the first has no name, and isn't run.
+/// Runs a case, and prints its first difference. A case without a name holds the lines before the first case, and isn't run.
 fn run_case<R: AllocGlobal + Print + Threads + Wait + Sync>(
     rt: &R,
     file: &str,

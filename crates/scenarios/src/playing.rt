@@ -1,4 +1,4 @@
-//! The call of the ToolBus over what a case holds.
+//! The call of the ToolBus with the contents of a case.
 
 use crate::case::{Case, Named};
 use crate::lanes::ends_of;
@@ -12,7 +12,7 @@ use tb_fake::{FakeClock, FakePair, FakePairs, Records};
 use tb_terms::{Items, NoMemory, Text};
 use tb_top::{Status, toolbus};
 
-/// What a call put to its sinks and its lanes, and its status.
+/// The outputs and the status of a call, and the items that its lanes took.
 #[derive(Drop)]
 pub(crate) struct Played {
     pub(crate) status: u8,
@@ -21,7 +21,7 @@ pub(crate) struct Played {
     pub(crate) records: Records,
 }
 
-/// What a call is lent beside its words, its clock and its crew.
+/// The files, outputs, and lanes that a call borrows.
 #[derive(Drop)]
 struct Stage {
     files: MemFiles,
@@ -30,13 +30,14 @@ struct Stage {
     lanes: Vec<LanePair>,
 }
 
-/// How many bytes may be put to `out` and to `err`, where no other number is said.
+/// The default capacity of `out` and of `err`, in bytes.
 pub(crate) const ROOM: usize = 24_000_000;
 
-/// How many lanes there are.
+/// The number of lanes.
 const LANES: usize = 16;
 
-/// What the ToolBus does with the words, files and lanes of the case. None where there aren't sixteen lanes, before the call or after it.
+/// Calls the ToolBus with the arguments, files, and lanes of the case. Returns `None` if there aren't sixteen lanes before or after the
+/// call.
 pub(crate) fn play<R: Threads + Wait + Sync>(
     rt: &R,
     alloc: Global,
@@ -61,7 +62,7 @@ pub(crate) fn play<R: Threads + Wait + Sync>(
     }
 }
 
-/// What is left of the stage after the call.
+/// Returns the outcome of a call, or `None` if there aren't sixteen lanes.
 fn outcome(status: Status, stage: Stage, records: Records) -> Option<Played> {
     if stage.lanes.len() != LANES {
         return None;
@@ -74,7 +75,7 @@ fn outcome(status: Status, stage: Stage, records: Records) -> Option<Played> {
     })
 }
 
-/// The call by the clock that the case says, or by this one.
+/// Makes the call with the clock that the case states, or else with this clock.
 fn play_on<R: Threads + Wait + Sync>(
     rt: &R,
     alloc: Global,
@@ -91,7 +92,7 @@ fn play_on<R: Threads + Wait + Sync>(
     }
 }
 
-/// The same by this clock.
+/// Makes the call with this clock. If the case has no thread group, there are no threads.
 fn play_by<R: Threads + Wait + Sync, C: Clock + Send>(
     rt: &R,
     alloc: Global,
@@ -106,7 +107,7 @@ fn play_by<R: Threads + Wait + Sync, C: Clock + Send>(
     }
 }
 
-/// The same with this crew.
+/// Makes the call with this clock and this thread group.
 fn play_with<R: Threads + Wait + Sync, C: Clock + Send, P: Crew>(
     rt: &R,
     alloc: Global,
@@ -155,7 +156,7 @@ fn held_file(alloc: Global, file: &Named) -> Result<HeldFile, NoMemory> {
     Ok(HeldFile { name, bytes })
 }
 
-/// The name of a file in memory. One that is no string isn't found.
+/// Returns the name of a file in memory. If the name isn't a valid `Text`, returns the empty name.
 fn file_name(alloc: Global, name: &str) -> Result<Text, NoMemory> {
     match Text::from_str(alloc, name)? {
         Some(name) => Ok(name),

@@ -1,4 +1,4 @@
-//! The same simulation over walkers of the other kind: the program's are walks.
+//! A second simulation with rewriters. The walkers of the program are walks.
 
 use crate::case::Case;
 use std::alloc::Global;
@@ -12,7 +12,7 @@ use tb_script::load;
 use tb_sim::simulate;
 use tb_terms::{NoMemory, Text, Texts};
 
-/// What the case's words ask for; nothing where they are refused.
+/// Returns the command that the case's arguments ask for, or an empty text if the arguments are rejected.
 pub(crate) fn asked(alloc: Global, case: &Case) -> Result<String, NoMemory> {
     match read_words(alloc, &case.words) {
         Ok(command) => command_text(alloc, &command),
@@ -61,7 +61,7 @@ fn command_text(alloc: Global, command: &Command) -> Result<String, NoMemory> {
     }
 }
 
-/// The part of a simulation's text that names files and commands.
+/// Returns the part of a simulation's text that has the names of files and the commands.
 fn sim_text(
     alloc: Global,
     script: &Text,
@@ -83,7 +83,7 @@ fn write_connects(connects: &Texts, text: &mut String) -> Result<(), NoMemory> {
     Ok(())
 }
 
-/// What a simulation goes by, but its program.
+/// The input of a simulation, except its program.
 #[derive(Drop)]
 struct Course<'a> {
     feed: &'a Feed,
@@ -92,8 +92,8 @@ struct Course<'a> {
     events: u32,
 }
 
-/// The log of the simulation that the case's words ask for, over rewriters. None where they ask for none, and where the
-/// script or the feed is refused.
+/// Returns the log of the simulation that the case's arguments ask for, with rewriters. Returns `None` if they ask for no simulation, or if
+/// the arguments, the script, or the feed are missing or rejected.
 pub(crate) fn rewritten(alloc: Global, case: &Case) -> Result<Option<Vec<u8>>, NoMemory> {
     match read_words(alloc, &case.words) {
         Ok(command) => simulated(alloc, case, &command),

@@ -1,14 +1,14 @@
-//! What a simulation or a run has logged, as a case of its own: its log is a trace of its script.
+//! A case that verifies the log of a simulation or a run: the log must be a trace of the script.
 
 use crate::case::{Case, Named};
 use std::alloc::Global;
 use tb_cli::{Command, read_words};
 use tb_terms::{NoMemory, Text, Texts};
 
-/// The name of the log's file. The program doesn't look at it.
+/// The name of the log's file. Any name would do.
 const LOG: &str = "the log";
 
-/// The case in which this log is verified, where the words of the other ask for a simulation or for a run.
+/// Returns the case that verifies this log, if the arguments of the other case ask for a simulation or a run.
 pub(crate) fn verifying(alloc: Global, case: &Case, log: &[u8]) -> Result<Option<Case>, NoMemory> {
     match read_words(alloc, &case.words) {
         Ok(command) => verifying_of(alloc, case, &command, log),

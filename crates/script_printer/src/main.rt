@@ -1,5 +1,5 @@
-//! Prints a script anew. `script_printer FILE` reads the file and prints to standard output; a file that is
-//! no script ends it with status 1.
+//! Prints a script in its standard form. `script_printer FILE` reads the file and prints the script to the standard output. If the file
+//! isn't a script, the status is 1.
 #![tactic(auto)]
 
 ghost use Rattle.std.specs.Prelude.{IfSome, List};
@@ -25,7 +25,7 @@ fn main(rt: HostRuntime) -> ExitCode {
     }
 }
 
-/// Whether the file that the first word names was printed.
+/// Prints the script of the file that the first argument names. Returns whether the script was printed.
 fn print_file(rt: &HostRuntime) -> io::Result<bool> {
     let Some(path) = env::args(rt)?.nth(1) else {
         return Ok(false);
@@ -38,7 +38,7 @@ fn print_file(rt: &HostRuntime) -> io::Result<bool> {
     Ok(true)
 }
 
-/// The text that is printed for the script which the bytes spell, where one comes.
+/// Returns the print of the script that the bytes represent, or `None` if a call fails.
 fn printed(alloc: Global, bytes: &[u8]) -> Option<Vec<u8>>
     ensures { IfSome result (λ text. (tokens : List Token) × (script : Script)
         × Lexes bytes.now tokens × Spells script (kinds_of tokens) × IsPrintOf script text.items) }

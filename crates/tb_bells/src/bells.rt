@@ -5,25 +5,25 @@ use std::sync::Wait;
 use std::sync::atomic::{AtomicU32, Ordering};
 use std::time::Duration;
 
-/// How many look for their ring at once before they sleep, each for some microseconds: where the answer of a tool comes within
-/// these, nobody has to be woken. More of them would take the processors from the tools.
+/// The greatest number of threads that look for a ring at the same time, each for some microseconds, before they sleep. If a tool
+/// answers within this time, no thread must be woken. More looking threads would take the processors from the tools.
 const LOOKERS: u32 = 2;
 
-/// How many milliseconds who has written some of the log lets pass.
+/// How long `pause` waits at most, in milliseconds.
 const PAUSE: u64 = 2;
 
-/// Who sleeps on one of the bells of a bus.
+/// A thread with a bell of its own, on which it sleeps.
 #[derive(Clone, Copy, Debug, PartialEq, Eq)]
 pub enum Sleeper {
-    /// The one that makes steps.
+    /// The stepper, the thread that takes steps.
     Stepper,
-    /// The one that takes what goes to the tool of a lane, from 1 to 16. A lane that lies further by 16 has the same bell.
+    /// The writer of this lane, from 1 to 16: the thread that takes the items for the lane's tool. Other numbers count modulo 16.
     Writer(u8),
-    /// The one that writes the log.
+    /// The thread that writes the log.
     Log,
 }
 
-/// A bell for each who sleeps while a bus has nothing for it: a ring for one isn't counted for another.
+/// A bell for each thread that sleeps while the bus has no work for it. A ring for one sleeper counts for no other sleeper.
 #[derive(Drop)]
 pub struct Bells {
     stepper: Bell,
@@ -35,7 +35,7 @@ pub struct Bells {
 }
 
 impl Bells {
-    /// Bells that weren't rung yet: the count of each is 0.
+    /// Returns bells with the count 0.
     pub fn new() -> Bells {
         Bells {
             stepper: Bell::new(),
@@ -47,12 +47,12 @@ impl Bells {
         }
     }
 
-    /// Counts one ring more for this sleeper, and wakes it. Where it doesn't sleep, no call of the system is made.
+    /// Adds one ring for this sleeper, and wakes it. If it doesn't sleep, this makes no system call.
     pub fn ring(&self, sleeper: Sleeper) {
         self.of(sleeper).ring();
     }
 
-    /// Counts one ring more for each, and wakes all.
+    /// Adds one ring for each sleeper, wakes all of them, and ends each `pause`.
     pub fn ring_all(&self) {
         self.stepper.ring();
         for writer in &self.writers {
@@ -62,14 +62,14 @@ impl Bells {
         self.pause.ring();
     }
 
-    /// Lets two milliseconds pass, or less where all are rung for. It is meant for who has written some of the log: what
-    /// is logged meanwhile is written in one piece, and nobody has to wake it for each entry.
+    /// Waits two milliseconds, or until `ring_all`. The thread that writes the log pauses after a small piece. The entries of the
+    /// pause then become one piece, and no thread wakes the log's writer for each entry.
     pub fn pause<R: Wait>(&self, rt: &R) {
         self.pause.sleep(rt, Duration::from_millis(PAUSE));
     }
 
-    /// Sleeps while this sleeper's count is `seen`, and gives the count as it is then. It is meant to begin with 0, and to
-    /// be handed the last answer from then on: so a ring that came since that answer isn't slept past.
+    /// Sleeps while this sleeper's count is `seen`, then returns the new count. It first looks for a ring if a look is worthwhile.
+    /// A thread passes 0 first, and then the last answer. So it doesn't sleep if a ring for it has come since that answer.
     pub fn wait_past<R: Wait>(&self, rt: &R, sleeper: Sleeper, seen: u64) -> u64 {
         let bell = self.of(sleeper);
         let rings = self.look_past(bell, seen);
@@ -79,8 +79,8 @@ impl Bells {
         bell.wait_past(rt, seen)
     }
 
-    /// Looks for a ring of this bell, where that is worth it, yields are quick and not too many look for theirs, and gives its
-    /// count.
+    /// Looks for a ring of this bell if yields are allowed, a look is worthwhile, and fewer than `LOOKERS` threads look. Returns the
+    /// count at the last check, or `seen` if it doesn't look.
     fn look_past(&self, bell: &Bell, seen: u64) -> u64 {
         if !self.yields.are_allowed() || !bell.is_worth_a_look() {
             return seen;

@@ -3,14 +3,14 @@ use crate::yields::Yields;
 use std::hint::spin_loop;
 use std::sync::{Mutex, MutexGuard, Wait};
 
-/// How often one looks whether the gate is open before one sleeps.
+/// The number of attempts to enter, after the first one, before a thread sleeps.
 const LOOKS: u32 = 100;
 
-/// How many short pauses lie between two looks.
+/// The number of pauses of the processor (`spin_loop`) before each of these attempts.
 const PAUSES: u32 = 30;
 
-/// A gate that lets one thread in at a time. It keeps no order: who comes while it is open may go in, though others sleep before
-/// it, since nothing would be done while one of them wakes.
+/// A gate that lets one thread in at a time. It keeps no order: a thread that finds the gate open enters, even if other threads sleep.
+/// If it waited for a sleeping thread, no thread would do work while that one wakes.
 #[derive(Drop)]
 pub struct Gate {
     inside: Mutex<()>,
@@ -18,7 +18,7 @@ pub struct Gate {
 }
 
 impl Gate {
-    /// A gate that is open.
+    /// Returns an open gate.
     pub fn new() -> Gate {
         Gate {
             inside: Mutex::new(()),
@@ -26,7 +26,7 @@ impl Gate {
         }
     }
 
-    /// Goes in, once nobody is inside. The gate is shut until the guard is dropped.
+    /// Enters when no thread is inside. The gate is shut until the guard is dropped.
     pub fn enter<R: Wait>(&self, rt: &R) -> MutexGuard<'_, ()> {
         if let Some(guard) = self.inside.try_lock() {
             return guard;

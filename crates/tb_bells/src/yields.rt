@@ -1,32 +1,32 @@
-//! When a waiting thread may yield its processor.
+//! Whether a waiting thread may yield its processor.
 use libc::types::timespec;
 use std::sync::atomic::{AtomicU32, Ordering};
 use std::thread::yield_now;
 
-/// A yield that takes so many nanoseconds is slow: another program had a slice of the processor meanwhile.
+/// The time, in nanoseconds, from which a yield is slow: another program had a time slice meanwhile.
 const SLOW: u64 = 1_000_000;
 
-/// After the first slow yield so many waits don't yield.
+/// The number of waits without yields after the first slow yield.
 const FEWEST: u32 = 64;
 
-/// After each further one so many times as many don't.
+/// The factor by which each further slow yield multiplies this number.
 const FACTOR: u32 = 2;
 
-/// So many don't at most.
+/// The greatest number of waits without yields after a slow yield.
 const MOST: u32 = 16_384;
 
-/// Tells threads that wait whether to yield. On a machine with more work than processors a yield can last some
-/// milliseconds: after such a yield some waits don't yield.
+/// The record of how quick yields were, which determines whether a waiting thread yields. If a machine has more work than processors,
+/// a yield can take some milliseconds. After such a yield, threads don't yield during the next waits.
 #[derive(Drop)]
 pub struct Yields {
-    /// How many waits from now on don't yield.
+    /// The number of waits from now on that don't yield.
     left: AtomicU32,
-    /// How many don't after the next slow yield.
+    /// The number of waits that don't yield after the next slow yield.
     next: AtomicU32,
 }
 
 impl Yields {
-    /// Yields of which none was slow yet.
+    /// Returns a record without a slow yield.
     pub fn new() -> Yields {
         Yields {
             left: AtomicU32::new(0),
@@ -43,7 +43,7 @@ impl Yields {
         left == 0
     }
 
-    /// Yields the processor to other threads, and returns whether that was quick.
+    /// Yields the processor to other threads, and returns whether the yield was quick.
     pub fn let_others_run(&self) -> bool {
         let begun = nanoseconds();
         yield_now();
@@ -52,8 +52,8 @@ impl Yields {
         is_quick
     }
 
-    /// Counts a yield. Of slow yields at the same time the first counts. Where two threads count at once, one count may be
-    /// lost, and that does no harm.
+    /// Counts a yield. Of slow yields at the same time, only the first counts. If two threads count at once, one count can be lost,
+    /// which does no harm.
     fn note(&self, is_quick: bool) {
         let next = self.next.load(Ordering::SeqCst);
         if is_quick {
@@ -68,8 +68,8 @@ impl Yields {
     }
 }
 
-/// Returns the time of a clock that never goes back, or 0 if the system has no such clock. A handle isn't needed, so
-/// threads can time a yield that have leave to wait alone.
+/// Returns the time of a clock that never goes back, in nanoseconds, or 0 if the system has no such clock. It needs no handle of the
+/// runtime, so a thread that has only the permission to wait can time its yields.
 fn nanoseconds() -> u64 {
     let mut time = timespec {
         tv_sec: 0,

@@ -1,4 +1,4 @@
--- One at least, and all.
+-- Lemma: `some_and_all` holds if and only if the list isn't empty and all members pass.
 use Rattle.std.proofs.Common.{◌≡◌, ◌<◌, Bool, ◌&&◌, nat_lt, List, [], ◌∷◌, length, refl, ap, sym, arith}
 use Rattle.std.proofs.lemmas.Bool.{lt-ltb}
 use Rattle.std.specs.List.{list_all}

@@ -1,4 +1,4 @@
--- Sorts and terms from a position on.
+-- Lemmas: types and terms from a position on.
 use Rattle.std.proofs.Common.{◌≡◌, ℕ, ◌<◌, ◌≤◌, suc, false, ◌&&◌, List, [], ◌∷◌, Option, Some, None, length, drop, get_or, slice_get, refl, ap, sym, ◌∙◌, ◌⊎◌, inl, inr}
 use Rattle.std.proofs.Math.Seq.{drop-cons}
 use Rattle.std.proofs.lemmas.List.{drop_all}

@@ -1,4 +1,4 @@
--- Which acts are in range of their body: its slots, and what may stand in their arguments.
+-- Which acts are in range of their body: their slots exist, and each argument is allowed at its place.
 use Rattle.std.specs.Prelude.{ℕ, Bool, true, false, ◌&&◌, nat_lt, List, [], ◌∷◌}
 use Rattle.std.specs.List.{list_all}
 use Rattle.tb_terms.specs.declared.expr.Expr.{Expr}
@@ -7,13 +7,13 @@ use Rattle.tb_body.specs.declared.act.Act.{Act}
 use Rattle.tb_body.specs.declared.act.Act.TheVariants.{Delta, Tau, SndMsg, RecMsg, SndNote, RecNote, NoNote, Subscribe, Unsubscribe, Create, Set, Printf, Execute, RecConnect, RecDisconnectAny, RecDisconnect, SndEval, RecValue, SndDo, RecEvent, SndAckEvent, SndTerminate, Shutdown}
 use Rattle.tb_body.specs.declared.atom.Atom.{Atom}
 
--- one argument at least, each of which may stand there
+-- at least one argument, and each argument is allowed at its place
 abbrev pub some_and_all : (Expr → Bool) → List Expr → Bool
 some_and_all may_stand [] = false
 some_and_all may_stand (expr ∷ exprs) = may_stand expr && list_all may_stand exprs
 
--- Where values are sent or computed there is neither placeholder nor result variable; where something is
--- received both may stand, and where notes are only looked at placeholders may.
+-- the acts over this many slots. An argument that is sent or computed has neither placeholders nor result variables. An argument that
+-- receives can have both. An argument that is only compared with notes can have placeholders.
 abbrev pub is_act_in_body : ℕ → Act → Bool
 is_act_in_body slots Delta = true
 is_act_in_body slots Tau = true
@@ -39,6 +39,6 @@ is_act_in_body slots (SndAckEvent tool exprs) = is_value slots tool && some_and_
 is_act_in_body slots (SndTerminate tool expr) = is_value slots tool && is_value slots expr
 is_act_in_body slots (Shutdown expr) = is_value slots expr
 
--- its times are values, too
+-- the atoms whose act is in range and whose times are values
 abbrev pub is_atom_in_body : ℕ → Atom → Bool
 is_atom_in_body slots atom = is_act_in_body slots atom.act && list_all (λ time. is_value slots time.value) atom.times

@@ -1,4 +1,4 @@
--- Where an expression may stand: as a value, as a test of what came, or where something is received.
+-- Where an expression is allowed: as a value, as a pattern that notes are compared with, or as a pattern that receives.
 use Rattle.std.specs.Prelude.{ℕ, Bool, true, false, ◌&&◌, ◌==◌, nat_lt, List, length}
 use Rattle.std.specs.List.{list_all}
 use Rattle.tb_terms.specs.declared.expr.Expr.{Expr}
@@ -6,19 +6,19 @@ use Rattle.tb_terms.specs.declared.expr.Expr.TheOpen.{Expr-F, Int, Str, Var, Res
 use Rattle.tb_terms.specs.declared.expr.Expr.TheFolds.{fold-Expr}
 use Rattle.tb_func.specs.Functions.{signature_of}
 
--- the positions at which an expression may stand
+-- the positions at which an expression is allowed
 pub record Positions : Type 0 where
-  -- it has neither placeholder nor result variable
+  -- as a value: it has neither placeholder nor result variable
   pub value : Bool
-  -- it has no result variable, and no placeholder within a function
+  -- as a pattern that assigns nothing: it has no result variable, and no placeholder within a function's arguments
   pub test : Bool
-  -- it has neither within a function
+  -- as a pattern that receives: it has neither within a function's arguments
   pub receiving : Bool
 
 abbrev pub everywhere : Positions
 everywhere = record { value = true; test = true; receiving = true }
 
--- at each of these positions where each part may stand there
+-- allowed at a position if and only if each part is allowed at this position
 abbrev pub all_stand : List Positions → Positions
 all_stand parts = record {
   value = list_all (λ part. part.value) parts;
@@ -26,11 +26,12 @@ all_stand parts = record {
   receiving = list_all (λ part. part.receiving) parts;
 }
 
--- everywhere or nowhere
+-- allowed at all positions, or at none
 abbrev pub everywhere_if : Bool → Positions
 everywhere_if ok = record { value = ok; test = ok; receiving = ok }
 
--- One expression over this many slots: its slots are among them, and a function has as many arguments as it takes.
+-- the positions of an expression over this many slots, from the positions of its parts: each slot exists, and a function has as many
+-- arguments as it takes
 abbrev pub positions_step : ℕ → Expr-F Positions → Positions
 positions_step slots (Int number) = everywhere
 positions_step slots (Str bytes) = everywhere

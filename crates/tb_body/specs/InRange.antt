@@ -1,4 +1,4 @@
--- Which bodies are in range: their slots, the numbers of their atoms, and their limits.
+-- Which bodies are in range: conditions on their slots, the numbers of their atoms, and their limits.
 use Rattle.std.specs.Prelude.{ℕ, ◌+◌, Bool, true, ◌&&◌, ◌==◌, nat_lt, nat_le, List, [], ◌∷◌, length, Option, Some, None}
 use Rattle.std.specs.List.{list_all}
 use Rattle.tb_terms.specs.declared.expr.Expr.{Expr}
@@ -12,12 +12,12 @@ use Rattle.tb_body.specs.declared.tree.Tree.TheFolds.{fold-Tree}
 use Rattle.tb_body.specs.declared.tree.Setting.{Setting}
 use Rattle.tb_body.specs.declared.atom.Atom.{Atom}
 
--- this number, and each next one
+-- the numbers are `from`, `from + 1`, and so on
 abbrev pub ascends_by_one : ℕ → List ℕ → Bool
 ascends_by_one from [] = true
 ascends_by_one from (number ∷ numbers) = number == from && ascends_by_one (from + 1) numbers
 
--- the value of a setting, where it has one of its own
+-- the start value of a setting, if there is one, is a value over this many slots
 abbrev pub is_start : ℕ → Option Expr → Bool
 is_start slots None = true
 is_start slots (Some value) = is_value slots value
@@ -25,12 +25,12 @@ is_start slots (Some value) = is_value slots value
 abbrev pub is_setting_in_range : ℕ → Setting → Bool
 is_setting_in_range slots setting = nat_lt setting.slot slots && is_start slots setting.start
 
--- the side that may lack
+-- an `else` side that is missing is in range
 abbrev pub is_side : Option Bool → Bool
 is_side None = true
 is_side (Some ok) = ok
 
--- tests and settings have values, and the slots that are set are there
+-- tests and start values are values, and each slot that is set exists
 abbrev pub tree_step : ℕ → Tree-F Bool → Bool
 tree_step slots (At atom) = true
 tree_step slots (Seq x y) = x && y
@@ -44,14 +44,14 @@ tree_step slots (Let settings x) = list_all (is_setting_in_range slots) settings
 abbrev pub is_tree_in_range : ℕ → Tree → Bool
 is_tree_in_range slots = fold-Tree Bool (tree_step slots)
 
--- how many atoms a body may have, and how many levels its tree
+-- the greatest number of atoms of a body, and the greatest depth of its tree
 abbrev pub most_body_atoms : ℕ
 most_body_atoms = 200000
 
 abbrev pub most_body_levels : ℕ
 most_body_levels = 1000
 
--- Each atom stands once in the tree, in the order of the atoms' numbers from 1. The formals are the first slots.
+-- Each atom is in the tree once, in the order of the numbers from 1. The parameters are the first slots.
 abbrev pub is_in_range : Tree → List Atom → ℕ → ℕ → Bool
 is_in_range tree atoms slots formals =
     ascends_by_one 1 (tree_atoms tree) && length (tree_atoms tree) == length atoms

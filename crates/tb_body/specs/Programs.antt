@@ -1,4 +1,4 @@
--- Which programs are in range: how many roots they have, and what each process and each root says of processes and tools.
+-- Which programs are in range: the number of roots, and the processes and tools that acts and roots refer to.
 use Rattle.std.specs.Prelude.{ℕ, Bool, true, false, ◌&&◌, ◌==◌, nat_lt, nat_le, List, [], ◌∷◌, length, Option, Some, None, is_some, slice_get}
 use Rattle.std.specs.List.{list_all}
 use Rattle.tb_terms.specs.declared.term.Term.{Term}
@@ -12,17 +12,17 @@ use Rattle.tb_body.specs.declared.body.Body.{Body}
 use Rattle.tb_body.specs.declared.program.Root.{Root}
 use Rattle.tb_body.specs.declared.program.Tool.{Tool}
 
--- there is a body, and it has as many formals as there are actuals
+-- the body exists, and it has as many parameters as there are arguments
 abbrev pub takes : Option Body → ℕ → Bool
 takes None actuals = false
 takes (Some body) actuals = body.formals == actuals
 
--- there is a tool, and it has a command
+-- the tool exists, and it has a command
 abbrev pub has_command : Option Tool → Bool
 has_command None = false
 has_command (Some tool) = is_some tool.command
 
--- the process that is created takes the actuals; the tool is there, and has a command where it is started
+-- A created process takes this many arguments. A tool exists, and has a command if the act starts it.
 abbrev pub is_act_in_program : List Body → List Tool → Act → Bool
 is_act_in_program bodies tools Delta = true
 is_act_in_program bodies tools Tau = true
@@ -51,13 +51,13 @@ is_act_in_program bodies tools (Shutdown expr) = true
 abbrev pub is_body_in_program : List Body → List Tool → Body → Bool
 is_body_in_program bodies tools body = list_all (λ (atom : Atom). is_act_in_program bodies tools atom.act) body.atoms
 
--- each term has the sort at its position
+-- each term has the type at its position; there can be more types than terms
 abbrev pub have_sorts : List Sort → List Term → Bool
 have_sorts sorts [] = true
 have_sorts [] (term ∷ terms) = false
 have_sorts (sort ∷ sorts) (term ∷ terms) = has_sort term sort && have_sorts sorts terms
 
--- the values of the formals, each within the limits of a term
+-- the terms are arguments of the body: one for each parameter, of the parameter's type, and within the limits of a term
 abbrev pub are_actuals : Body → List Term → Bool
 are_actuals body terms = length terms == body.formals && have_sorts body.sorts terms && list_all is_within_limits terms
 
@@ -68,7 +68,7 @@ starts (Some body) actuals = are_actuals body actuals
 abbrev pub is_root_in_range : List Body → Root → Bool
 is_root_in_range bodies root = starts (slice_get bodies root.process) root.actuals
 
--- how many roots a program may have
+-- the greatest number of roots of a program
 abbrev pub most_roots : ℕ
 most_roots = 10000
 

@@ -1,10 +1,10 @@
--- The atoms of a tree in text order, and how many levels it has.
+-- The atoms of a tree in the order of the source, and the depth of a tree.
 use Rattle.std.specs.Prelude.{ℕ, ◌+◌, List, [], ◌∷◌, ◌++◌, max, Option, Some, None}
 use Rattle.tb_body.specs.declared.tree.Tree.{Tree}
 use Rattle.tb_body.specs.declared.tree.Tree.TheOpen.{Tree-F, At, Seq, Alt, Star, Par, Disrupt, If, Let}
 use Rattle.tb_body.specs.declared.tree.Tree.TheFolds.{fold-Tree}
 
--- the atoms of the side that may lack
+-- the atoms of an `else` side, which can be missing
 abbrev pub or_no_atoms : Option (List ℕ) → List ℕ
 or_no_atoms None = []
 or_no_atoms (Some atoms) = atoms
@@ -22,12 +22,12 @@ atoms_step (Let settings x) = x
 abbrev pub tree_atoms : Tree → List ℕ
 tree_atoms = fold-Tree (List ℕ) atoms_step
 
--- the levels of the side that may lack
+-- the depth of an `else` side, which can be missing
 abbrev pub or_no_levels : Option ℕ → ℕ
 or_no_levels None = 0
 or_no_levels (Some levels) = levels
 
--- an atom has one level, every other construct one more than its greatest part
+-- an atom has depth 1; each other tree has a depth one greater than its deepest part
 abbrev pub levels_step : Tree-F ℕ → ℕ
 levels_step (At atom) = 1
 levels_step (Seq x y) = 1 + max x y

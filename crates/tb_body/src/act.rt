@@ -1,79 +1,78 @@
-//! What an atom does when it happens.
+//! The action of an atom.
 ghost use Rattle.std.specs.Prelude.{◌≡◌, IfOk};
 
 use std::alloc::Global;
 use tb_terms::{Expr, Exprs, NoMemory, copy_exprs};
 
-/// What an atom does when it happens. Processes and tools go by their positions in the program, from 0,
-/// variables by their slots.
+/// The action that an atom takes when it happens. Processes and tools are positions in the program, from 0. Variables are slots.
 #[derive(Drop)]
 pub enum Act {
     /// Never happens.
     Delta,
-    /// Happens by itself, and changes nothing else.
+    /// Happens without a partner, and changes no variable and no queue.
     Tau,
-    /// Hands the values to another process that takes them at the same time.
+    /// Sends the values to another process, which receives them in the same step.
     SndMsg(Exprs),
-    /// Takes values that match from another process.
+    /// Receives matching values from another process, which sends them in the same step.
     RecMsg(Exprs),
-    /// The values go, as a note, to each process that has subscribed to such.
+    /// Sends the values as a note to each process that has a matching subscription.
     SndNote(Exprs),
-    /// Takes the oldest own note that matches.
+    /// Receives the oldest matching note from the process's own queue.
     RecNote(Exprs),
-    /// Happens only where no own note matches.
+    /// Happens only if no note in the process's own queue matches.
     NoNote(Exprs),
-    /// From now on the process gets notes that match.
+    /// Subscribes the process: from now on, it gets matching notes.
     Subscribe(Exprs),
-    /// It gets no more such notes; those that wait stay.
+    /// Ends the process's subscription. Notes that are already in its queue stay there.
     Unsubscribe(Exprs),
-    /// A new process of this kind; the variable takes its number.
+    /// Creates a process with this body and these arguments. The variable gets the number of the new process.
     Create {
         process: u32,
         actuals: Exprs,
         slot: u32,
     },
-    /// The variable takes the value.
+    /// Assigns the value to the variable.
     Set {
         slot: u32,
         value: Expr,
     },
-    /// Prints the values by the format, which comes first.
+    /// Prints the values by the format, which is the first expression.
     Printf(Exprs),
-    /// A new tool of this kind; the variable takes it.
+    /// Starts a tool of this kind. The variable gets the new tool.
     Execute {
         tool: u32,
         slot: u32,
     },
-    /// A tool of this kind that has connected; the variable takes it.
+    /// Accepts a tool of this kind that has connected. The variable gets the tool.
     RecConnect {
         tool: u32,
         slot: u32,
     },
-    /// A tool of this kind that leaves; the variable takes it.
+    /// Accepts that a tool of this kind disconnects. The variable gets the tool.
     RecDisconnectAny {
         tool: u32,
         slot: u32,
     },
-    /// This tool leaves.
+    /// Accepts that this tool disconnects.
     RecDisconnect(Expr),
     /// Asks this tool for the value of the term.
     SndEval(Expr, Expr),
-    /// Takes the value for which this tool was asked, where it matches.
+    /// Receives the value that this tool sends for an evaluation request, if it matches.
     RecValue(Expr, Expr),
-    /// Tells this tool to do something, and asks for no value.
+    /// Sends this tool a request without an answer.
     SndDo(Expr, Expr),
-    /// Takes the oldest waiting event of this tool that matches.
+    /// Receives the oldest waiting event of this tool that matches.
     RecEvent(Expr, Exprs),
-    /// Tells this tool that its event has been dealt with.
+    /// Acknowledges an event of this tool.
     SndAckEvent(Expr, Exprs),
-    /// Tells this tool to end, and lets it go.
+    /// Tells this tool to end, and releases it.
     SndTerminate(Expr, Expr),
-    /// The bus goes down for this reason.
+    /// Shuts the bus down for this reason.
     Shutdown(Expr),
 }
 
 impl Act {
-    /// The same act in memory of its own.
+    /// Returns an equal act in memory of its own.
     pub fn copy(&self, alloc: Global) -> Result<Act, NoMemory>
         ensures { IfOk result (λ copy. copy ≡ self.now) }
     {

@@ -1,45 +1,49 @@
-//! Atoms of a body, and the times at which they may happen.
+//! Atoms of a body, and the conditions on the time at which they can happen.
 ghost use Rattle.std.specs.Prelude.{◌≡◌, IfOk};
 
 use crate::Act;
 use std::alloc::Global;
 use tb_terms::{Expr, Items, NoMemory};
 
-/// What a time is measured by.
+/// The kind of a time condition: the count of ticks, and whether it is a lower or an upper bound.
 #[derive(Clone, Copy, Debug, PartialEq, Eq)]
 pub enum TimeKind {
-    /// The atom has waited this many ticks at least.
+    /// A lower bound: the atom has waited at least this many ticks.
     Delay,
-    /// The atom has waited this many ticks at most.
+    /// An upper bound: the atom has waited at most this many ticks.
     Timeout,
-    /// The bus has seen this many ticks at least.
+    /// A lower bound: the bus has counted at least this many ticks.
     AbsDelay,
-    /// The bus has seen this many ticks at most.
+    /// An upper bound: the bus has counted at most this many ticks.
     AbsTimeout,
 }
 
-/// When an atom may happen.
+/// A condition on the time at which an atom can happen. The value is a number of ticks.
 #[derive(Drop)]
 pub struct Time {
+    /// The kind of the condition.
     pub kind: TimeKind,
+    /// The number of ticks.
     pub value: Expr,
 }
 
-/// Times that must all hold.
+/// Time conditions that must all hold.
 pub type Times = Items<Time>;
 
-/// An atom of a body.
+/// An atom of a body: its action and its time conditions.
 #[derive(Drop)]
 pub struct Atom {
+    /// The action of the atom.
     pub act: Act,
+    /// The time conditions of the atom.
     pub times: Times,
 }
 
-/// The atoms of a body: the one with number n stands at position n - 1.
+/// The atoms of a body. The atom with number n is at position n - 1.
 pub type Atoms = Items<Atom>;
 
 impl Time {
-    /// The same time in memory of its own.
+    /// Returns an equal time condition in memory of its own.
     pub fn copy(&self, alloc: Global) -> Result<Time, NoMemory>
         ensures { IfOk result (λ copy. copy ≡ self.now) }
     {
@@ -52,7 +56,7 @@ impl Time {
 }
 
 impl Atom {
-    /// The same atom in memory of its own.
+    /// Returns an equal atom in memory of its own.
     pub fn copy(&self, alloc: Global) -> Result<Atom, NoMemory>
         ensures { IfOk result (λ copy. copy ≡ self.now) }
     {
@@ -72,7 +76,7 @@ fn copy_times(alloc: Global, times: &Times) -> Result<Times, NoMemory>
     Ok(copies)
 }
 
-/// A copy of these atoms, in their order.
+/// Returns a copy of these atoms, in the same order.
 pub fn copy_atoms(alloc: Global, atoms: &Atoms) -> Result<Atoms, NoMemory>
     ensures { IfOk result (λ copies. copies ≡ atoms.now) }
 {

@@ -1,4 +1,4 @@
-//! The body of a process: its tree, its atoms and the sorts of its slots, within limits.
+//! The body of a process: its tree, its atoms, and the types of its slots, within limits.
 ghost use Rattle.std.specs.Prelude.{◌≡◌, IsTrue, IfOk, IfSome, is_some};
 ghost use Rattle.tb_body.specs.InRange.{is_body_in_range, is_in_range};
 
@@ -9,29 +9,32 @@ use crate::{Atoms, Tree, copy_atoms};
 use std::alloc::Global;
 use tb_terms::{Items, NoMemory, Sorts};
 
-/// How many atoms a body may have.
+/// The greatest number of atoms of a body.
 pub const MOST_BODY_ATOMS: usize = 200_000;
 
-/// How many levels the tree of a body may have.
+/// The greatest depth of the tree of a body.
 pub const MOST_BODY_LEVELS: usize = 1_000;
 
-/// A process without its calls. Its slots have these sorts, and the first of them are its formals.
-/// It has at most 200,000 atoms and 1,000 levels.
+/// A process whose calls are replaced. The first slots are its parameters. It has at most 200,000 atoms, and its tree has a depth of at
+/// most 1,000.
 #[derive(Drop)]
 pub struct Body {
+    /// The tree of atoms.
     pub tree: Tree,
+    /// The atoms, in the order of their numbers.
     pub atoms: Atoms,
+    /// The types of the slots.
     pub sorts: Sorts,
-    /// How many of the slots are formals.
+    /// The number of slots, from the first, that are parameters.
     pub formals: u32,
     ghost in_range: { IsTrue (is_body_in_range tree atoms sorts formals) },
 }
 
-/// Bodies in a row.
+/// A sequence of bodies.
 pub type Bodies = Items<Body>;
 
 impl Body {
-    /// The body, where its parts are in range of each other and within the limits.
+    /// Returns the body, or `None` if its parts aren't in range or pass a limit.
     #[tactic(auto, unfolding(crate::specs::InRange::is_body_in_range))]
     pub fn new(
         alloc: Global,
@@ -57,7 +60,7 @@ impl Body {
         }
     }
 
-    /// The same body in memory of its own.
+    /// Returns an equal body in memory of its own.
     pub fn copy(&self, alloc: Global) -> Result<Body, NoMemory>
         ensures { IfOk result (λ copy. copy ≡ self.now) }
     {
@@ -73,7 +76,7 @@ impl Body {
     }
 }
 
-/// Whether the parts of a body with so many slots are in range of each other and within the limits.
+/// Returns whether the parts of a body with this many slots are in range and within the limits.
 fn is_in_range(
     alloc: Global,
     tree: &Tree,

@@ -1,4 +1,4 @@
-//! The checks that acts and roots fit the processes and tools of their program.
+//! Checks that the processes and tools that acts and roots refer to are in the program.
 ghost use Rattle.std.specs.Prelude.{◌≡◌, slice_get};
 ghost use Rattle.std.specs.List.{list_all};
 ghost use Rattle.tb_body.specs.Programs.{are_actuals, has_command, have_sorts, is_act_in_program, is_body_in_program, is_program_in_range, is_root_in_range, takes};
@@ -7,10 +7,10 @@ use crate::{Act, Atom, Body, Root, Tool};
 use sqlite_items::at;
 use tb_terms::{Sort, Term, are_within_limits, has_sort};
 
-/// How many roots a program may have.
+/// The greatest number of roots of a program.
 pub const MOST_ROOTS: usize = 10_000;
 
-/// Whether each process and each root says only of processes and tools what holds of them.
+/// Returns whether each body and each root refers only to processes and tools that exist and fit, and the roots are within their limit.
 #[tactic(auto, unfolding(crate::specs::Programs::is_program_in_range))]
 pub(crate) fn is_program_in_range(bodies: &[Body], roots: &[Root], tools: &[Tool]) -> bool
     ensures { result ≡ is_program_in_range bodies.now roots.now tools.now }
@@ -43,8 +43,7 @@ fn are_acts_in_program(bodies: &[Body], tools: &[Tool], atoms: &[Atom]) -> bool
     true
 }
 
-/// Whether the process that is created takes the actuals; the tool is there, and has a command where
-/// it is started.
+/// Returns whether a created process takes the arguments, and a tool exists and has a command if the act starts it.
 fn is_act_in_program(bodies: &[Body], tools: &[Tool], act: &Act) -> bool
     ensures { result ≡ is_act_in_program bodies.now tools.now act.now }
 {
@@ -100,7 +99,7 @@ fn is_root_in_range(bodies: &[Body], root: &Root) -> bool
     }
 }
 
-/// Whether these are values of the formals.
+/// Returns whether these are arguments of the body: in number, in type, and within the limits of terms.
 fn are_actuals(body: &Body, actuals: &[Term]) -> bool
     ensures { result ≡ are_actuals body.now actuals.now }
 {
@@ -109,7 +108,7 @@ fn are_actuals(body: &Body, actuals: &[Term]) -> bool
         && are_within_limits(actuals)
 }
 
-/// Whether each term has the sort at its position.
+/// Returns whether each term has the type at its position. There can be more types than terms.
 fn have_sorts(sorts: &[Sort], terms: &[Term]) -> bool
     ensures { result ≡ have_sorts sorts.now terms.now }
 {

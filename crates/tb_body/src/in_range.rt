@@ -1,4 +1,4 @@
-//! Whether the tree and the atoms of a body are in range of each other and within the limits.
+//! Checks that the tree and the atoms of a body are in range and within the limits.
 ghost use Rattle.std.specs.Prelude.{◌≡◌, ◌++◌, OnOk, nat_le};
 ghost use Rattle.std.specs.List.{list_all};
 ghost use Rattle.tb_body.specs.Acts.{is_act_in_body, is_atom_in_body};
@@ -12,7 +12,7 @@ use crate::positions::{
 use crate::{Act, Atom, Setting, Time, Tree};
 use tb_terms::{Items, NoMemory};
 
-/// Adds the numbers of the tree's atoms in text order.
+/// Adds the numbers of the tree's atoms, in the order of the source.
 #[cycle(add_atoms)]
 pub(crate) fn add_atoms(tree: &Tree, into: &mut Items<u32>) -> Result<(), NoMemory>
     ensures { OnOk result (into.new ≡ into.old ++ tree_atoms tree.now) }
@@ -38,7 +38,7 @@ pub(crate) fn add_atoms(tree: &Tree, into: &mut Items<u32>) -> Result<(), NoMemo
     }
 }
 
-/// Whether this number comes first, and then each next one.
+/// Returns whether the numbers are 1, 2, 3, and so on, without gaps.
 pub(crate) fn ascend_from_one(numbers: &[u32]) -> bool
     ensures { result ≡ ascends_by_one 1 numbers.now }
 {
@@ -50,7 +50,7 @@ pub(crate) fn ascend_from_one(numbers: &[u32]) -> bool
     true
 }
 
-/// Whether the tree has at most this many levels.
+/// Returns whether the tree has at most this depth.
 #[cycle(has_levels)]
 pub(crate) fn has_levels(tree: &Tree, most: usize) -> bool
     ensures { result ≡ nat_le (tree_levels tree.now) most }
@@ -71,7 +71,7 @@ pub(crate) fn has_levels(tree: &Tree, most: usize) -> bool
     }
 }
 
-/// Whether tests and settings have values, and the slots that are set are there.
+/// Returns whether tests and start values are values, and each slot that is set exists.
 #[cycle(is_tree_in_range)]
 pub(crate) fn is_tree_in_range(slots: usize, tree: &Tree) -> bool
     ensures { result ≡ is_tree_in_range slots tree.now }
@@ -123,7 +123,7 @@ fn is_setting_in_range(slots: usize, setting: &Setting) -> bool
     }
 }
 
-/// Whether what stands in the act may stand there.
+/// Returns whether each argument of the act is allowed at its place, and each slot exists.
 fn is_act_in_body(slots: usize, act: &Act) -> bool
     ensures { result ≡ is_act_in_body slots act.now }
 {

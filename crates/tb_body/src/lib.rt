@@ -1,5 +1,5 @@
-//! Programs: what a script says once its calls are gone. Processes are trees of atoms, variables go by
-//! slots, processes and tools by numbers, and the types keep that these are in range.
+//! Programs: scripts whose calls are replaced. A process is a tree of atoms. Variables are slots, and processes and tools are numbers.
+//! The types `Body` and `Program` have only values whose slots and numbers are in range.
 #![tactic(auto)]
 
 mod act;

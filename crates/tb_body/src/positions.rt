@@ -1,4 +1,4 @@
-//! Which expressions may appear as values, as tests and where an atom receives.
+//! Which expressions are allowed as values, as patterns that notes are compared with, and as patterns that receive.
 ghost use Rattle.std.specs.Prelude.{◌≡◌, map};
 ghost use Rattle.std.specs.List.{list_all};
 ghost use Rattle.tb_func.specs.Functions.{signature_of};
@@ -8,14 +8,14 @@ ghost use Rattle.tb_body.specs.Exprs.{is_receiving, is_test, is_value, positions
 use tb_func::signature;
 use tb_terms::{Expr, Func};
 
-/// How many arguments the function takes.
+/// Returns how many arguments the function takes.
 fn arity(func: Func) -> usize
     ensures { result ≡ (signature_of func).arity }
 {
     signature(func).arity as usize
 }
 
-/// Whether the expression may stand as a value over this many slots.
+/// Returns whether the expression is allowed as a value over this many slots.
 #[cycle(is_value)]
 pub(crate) fn is_value(slots: usize, expr: &Expr) -> bool
     ensures { result ≡ is_value slots expr.now }
@@ -42,7 +42,7 @@ fn are_values(slots: usize, parts: &[Expr]) -> bool
     true
 }
 
-/// Whether the expression may stand as a test of what came.
+/// Returns whether the expression is allowed as a pattern that notes are compared with, and that assigns no variable.
 #[cycle(is_test)]
 fn is_test(slots: usize, expr: &Expr) -> bool
     ensures { result ≡ is_test slots expr.now }
@@ -69,7 +69,7 @@ fn are_tests(slots: usize, parts: &[Expr]) -> bool
     true
 }
 
-/// Whether the expression may stand where something is received.
+/// Returns whether the expression is allowed as a pattern that receives values.
 #[cycle(is_receiving)]
 pub(crate) fn is_receiving(slots: usize, expr: &Expr) -> bool
     ensures { result ≡ is_receiving slots expr.now }

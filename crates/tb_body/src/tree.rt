@@ -1,34 +1,36 @@
-//! The tree of a body, by the operators of the algebra, and the settings of a `let`.
+//! The tree of a body, with the operators of the process algebra, and the settings of a `let`.
 ghost use Rattle.std.specs.Prelude.{◌≡◌, IfOk};
 
 use std::alloc::Global;
 use tb_terms::{Boxed, Expr, Items, NoMemory};
 
-/// What a process does, by the operators of the algebra. An atom goes by its number, from 1 in text
-/// order.
+/// The behaviour of a process, as a tree of operators of the process algebra. Atoms are numbers, from 1, in the order of the source.
 #[derive(Drop)]
 pub enum Tree {
+    /// The atom with this number.
     At(u32),
-    /// The one, and then the other.
+    /// The first side, then the second.
     Seq(Boxed<Tree>, Boxed<Tree>),
-    /// The one or the other.
+    /// One of the two sides.
     Alt(Boxed<Tree>, Boxed<Tree>),
-    /// The one any number of times, and then the other.
+    /// The first side any number of times, then the second.
     Star(Boxed<Tree>, Boxed<Tree>),
-    /// Both, their atoms in any order.
+    /// Both sides, with their atoms interleaved.
     Par(Boxed<Tree>, Boxed<Tree>),
-    /// The left side, until the right side takes a step. If the left side ends, the whole ends.
+    /// The first side, until the second side takes a step. If the first side ends, the whole ends.
     Disrupt(Boxed<Tree>, Boxed<Tree>),
-    /// The one where the test is true, and the other, where there is one, where it is false.
+    /// The first side if the test is true. The second side, if there is one, if the test is false.
     If(Expr, Boxed<Tree>, Option<Boxed<Tree>>),
-    /// All slots are set at once, and then comes the tree.
+    /// The tree, after all settings are made at once.
     Let(Settings, Boxed<Tree>),
 }
 
-/// A slot with the value that it gets: that of `start`, or the value with which its sort begins.
+/// A slot and the value that it gets.
 #[derive(Drop)]
 pub struct Setting {
+    /// The slot that is set.
     pub slot: u32,
+    /// The start value, or `None` for the initial value of the slot's type.
     pub start: Option<Expr>,
 }
 
@@ -36,7 +38,7 @@ pub struct Setting {
 pub type Settings = Items<Setting>;
 
 impl Tree {
-    /// The same tree in memory of its own.
+    /// Returns an equal tree in memory of its own.
     #[cycle(copy)]
     pub fn copy(&self, alloc: Global) -> Result<Tree, NoMemory>
         ensures { IfOk result (λ copy. copy ≡ self.now) }
@@ -74,7 +76,7 @@ fn copy_part(alloc: Global, part: &Boxed<Tree>) -> Result<Boxed<Tree>, NoMemory>
 }
 
 impl Setting {
-    /// The same setting in memory of its own.
+    /// Returns an equal setting in memory of its own.
     pub fn copy(&self, alloc: Global) -> Result<Setting, NoMemory>
         ensures { IfOk result (λ copy. copy ≡ self.now) }
     {
@@ -89,7 +91,7 @@ impl Setting {
     }
 }
 
-/// A copy of these settings, in their order.
+/// Returns a copy of these settings, in the same order.
 pub fn copy_settings(alloc: Global, settings: &Settings) -> Result<Settings, NoMemory>
     ensures { IfOk result (λ copies. copies ≡ settings.now) }
 {

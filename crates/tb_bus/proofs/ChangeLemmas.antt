@@ -63,7 +63,7 @@ map-in_order bus f keeps h = record {
   led = map-led bus.program.bodies f keeps bus.procs h.led;
 }
 
--- who is created stands last, by the next number
+-- a created process is last, with the next number
 
 created-ascend : (below number process : ℕ) (actuals : List Term) (body : Option Body) (procs : List Proc) → below < number → Ascend below procs → All (λ (p : Proc). p.number < number) procs →
     Ascend below (procs ++ opened_one number process actuals body)
@@ -95,7 +95,7 @@ changed-in_order (Creates process actuals) number bus l h = created-in_order bus
 changed-in_order (SetsBench bench) number bus l h = record { ascend = h.ascend; below = h.below; led = h.led }
 changed-in_order (GoesDown reason) number bus l h = record { ascend = h.ascend; below = h.below; led = h.led }
 
--- And what holds of all by their numbers and bodies, and of the next number, still does.
+-- A property of number and body that holds of all processes, and of the next number with each body, still holds of all processes.
 pub changed-keeps : (P : ℕ → ℕ → Type 0) (change : Change) (number : ℕ) (bus : Bus) → All (λ (p : Proc). P p.number p.body) bus.procs → ((process : ℕ) → P bus.next_number process) →
     All (λ (p : Proc). P p.number p.body) (changed change number bus).procs
 changed-keeps P Nothing number bus h next = h

@@ -1,4 +1,4 @@
--- What an offered atom does, by the store in which it is offered, its age and the ticks alone: its action.
+-- The action of an offered atom. For a given atom, it depends only on the offer's store, the offer's age, and the number of ticks.
 use Rattle.std.specs.Prelude.{ℕ, Bool, List, [], ◌∷◌, Option, Some, None, option_map, option_and_then, if◌then◌else◌}
 use Rattle.tb_terms.specs.declared.term.Term.{Term}
 use Rattle.tb_terms.specs.declared.pattern.Pattern.{Pattern}
@@ -17,7 +17,7 @@ use Rattle.tb_bus.specs.declared.action.OwnAction.TheVariants as own
 use Rattle.tb_bus.specs.declared.action.ToolAction.{ToolAction}
 use Rattle.tb_bus.specs.declared.action.ToolAction.TheVariants as tool_action
 
--- a slot is set to a value that has its sort
+-- the action that sets a slot to a value; none if there is no such slot, or the value doesn't have the slot's type
 abbrev pub set_bind : List Slot → Bind → Option Action
 set_bind store bind = if takes_bind store bind then Some (action.Own (own.Set (bind.value ∷ []) (bind ∷ []))) else None
 
@@ -47,11 +47,11 @@ unsubscribe_action patterns = action.Own (own.Unsubscribe patterns)
 abbrev pub create_action : ℕ → ℕ → List Term → Action
 create_action process slot actuals = action.Own (own.Create process actuals slot)
 
--- it speaks with the tool that is the first of these values
+-- the action that speaks with the tool whose term is the first of these values
 abbrev pub speak_by : (List Term → ToolAction) → List Term → Action
 speak_by does terms = action.Own (own.Speak (does terms))
 
--- it speaks with the tool that is the first of these values, about what matches these patterns
+-- the action that takes terms that match these patterns from the tool whose term is the first of these values; none without patterns
 abbrev pub speak_about : (List Term → List Pattern → ToolAction) → Option (List Pattern) → List Term → Option Action
 speak_about does patterns terms = option_map (λ those. action.Own (own.Speak (does terms those))) patterns
 
@@ -60,55 +60,56 @@ shutdown_action [] = None
 shutdown_action (reason ∷ []) = Some (action.Own (own.Shutdown reason))
 shutdown_action (reason ∷ other ∷ terms) = None
 
--- What an atom does in a store, where its arguments have values: one line an atom.
+-- The action of an atom in a store: one line for each atom. If an argument has no value or pattern in the store, or the values are too
+-- large together, there is no action.
 abbrev pub action_in : List Slot → Act → Option Action
--- it never happens
+-- `delta` never happens
 action_in store Delta = None
--- it happens by itself
+-- makes a step without another effect
 action_in store Tau = Some (action.Own own.Tau)
--- it happens by itself, and the slot takes the value
+-- sets the slot to the value
 action_in store (Set slot value) = option_and_then (set_action store slot) (values_together store (value ∷ []))
--- it prints the text, where the values have one by the format
+-- prints the text that the format makes of the values, if there is one
 action_in store (Printf exprs) = option_map print_action (option_and_then printf_of (values_together store exprs))
--- it happens with a process that receives these values
+-- sends these values to a process that receives them in the same step
 action_in store (SndMsg exprs) = option_map action.Send (values_together store exprs)
--- it happens with a process that sends what matches these patterns
+-- receives terms that match these patterns from a process that sends them in the same step
 action_in store (RecMsg exprs) = option_map action.Receive (patterns_of store exprs)
--- these values go to all processes that want them
+-- sends a note with these values to all processes that have a matching subscription
 action_in store (SndNote exprs) = option_map notify_action (values_together store exprs)
--- it takes a note that matches these patterns
+-- takes a note that matches these patterns
 action_in store (RecNote exprs) = option_map take_note_action (patterns_of store exprs)
--- it happens where no note matches them
+-- happens only if no note matches these patterns
 action_in store (NoNote exprs) = option_map no_note_action (patterns_of store exprs)
--- from now on the process wants what matches them,
+-- adds a subscription with these patterns
 action_in store (Subscribe exprs) = option_map subscribe_action (patterns_of store exprs)
--- or no longer does
+-- removes the subscription with these patterns
 action_in store (Unsubscribe exprs) = option_map unsubscribe_action (patterns_of store exprs)
--- a process begins with these values, and the slot takes its number
+-- creates a process with these values as arguments, and sets the slot to its number
 action_in store (Create process actuals slot) = option_map (create_action process slot) (values_together store actuals)
--- a tool of a kind is started, has connected, or leaves, and the slot takes it
+-- starts a tool of a kind, connects a waiting tool, or releases a leaving tool; the slot takes the tool's term
 action_in store (Execute tool slot) = Some (action.Own (own.Speak (tool_action.Execute tool slot)))
 action_in store (RecConnect tool slot) = Some (action.Own (own.Speak (tool_action.Connect tool slot)))
 action_in store (RecDisconnectAny tool slot) = Some (action.Own (own.Speak (tool_action.DisconnectAny tool slot)))
--- this tool leaves
+-- releases this tool, which is leaving
 action_in store (RecDisconnect tool) = option_map (speak_by tool_action.Disconnect) (values_together store (tool ∷ []))
--- the tool is asked to evaluate the value, and its answer is taken where it matches
+-- asks the tool to evaluate the value; takes the tool's answer if it matches the pattern
 action_in store (SndEval tool expr) = option_map (speak_by tool_action.Eval) (values_together store (tool ∷ expr ∷ []))
 action_in store (RecValue tool expr) = option_and_then (speak_about tool_action.TakeValue (patterns_of store (expr ∷ []))) (values_together store (tool ∷ []))
--- the tool is told what to do
+-- asks the tool to carry out the value
 action_in store (SndDo tool expr) = option_map (speak_by tool_action.Do) (values_together store (tool ∷ expr ∷ []))
--- an event of the tool that matches is received, and one with just these values acknowledged
+-- receives an event of the tool that matches the patterns; acknowledges an event with exactly these values
 action_in store (RecEvent tool exprs) = option_and_then (speak_about tool_action.TakeEvent (patterns_of store exprs)) (values_together store (tool ∷ []))
 action_in store (SndAckEvent tool exprs) = option_map (speak_by tool_action.Acknowledge) (values_together store (tool ∷ exprs))
--- the tool is told to end
+-- asks the tool to end, with the value as the reason
 action_in store (SndTerminate tool expr) = option_map (speak_by tool_action.Terminate) (values_together store (tool ∷ expr ∷ []))
--- the bus goes down
+-- shuts down the bus for this reason
 action_in store (Shutdown reason) = option_and_then shutdown_action (values_together store (reason ∷ []))
 
--- an atom does nothing before all its times hold
+-- the action of an atom in a store; none if not all of its times hold
 abbrev pub action_if : Bool → List Slot → Act → Option Action
 action_if ready store act = if ready then action_in store act else None
 
--- the action of an offered atom, on a bus that has seen so many ticks
+-- the action of an offered atom of a body with these atoms, after this number of ticks
 abbrev pub action_of : List Atom → ℕ → Offered → Option Action
 action_of atoms now offered = action_if (is_ready offered.store offered.age now (times_of atoms offered.atom)) offered.store (act_of atoms offered.atom)

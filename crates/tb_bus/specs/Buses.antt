@@ -1,4 +1,4 @@
--- The whole state of a bus, the one that a program opens with, and the process that it creates next.
+-- The whole state of a bus, the initial bus of an origin, and the process that a bus creates next.
 use Rattle.std.specs.Prelude.{ℕ, ◌+◌, List, [], ◌∷◌, ◌++◌, map, length, Bool, false, Option, Some, None, slice_get}
 use Rattle.tb_terms.specs.declared.term.Term.{Term}
 use Rattle.tb_func.specs.declared.slot.Slot.{Slot}
@@ -12,8 +12,7 @@ use Rattle.tb_notes.specs.Inboxes.{Held, nothing}
 use Rattle.tb_tools.specs.Lanes.{BenchState, opening}
 use Rattle.tb_bus.specs.declared.origin.Origin.{Origin}
 
--- a process that is alive: its number, which of the bodies it has, its term and its store, and what it has subscribed
--- to with the notes that wait for it
+-- a running process: its number, the index of its body, its term, its store, and its inbox (its subscriptions and waiting notes)
 pub record Proc : Type 0 where
   pub number : ℕ
   pub body : ℕ
@@ -21,61 +20,61 @@ pub record Proc : Type 0 where
   pub store : List Slot
   pub inbox : Held
 
--- The opening bus has its processes by their numbers, the smallest first, and steps keep their order.
+-- The state of a bus. On the initial bus, the processes are in ascending order of their numbers, and steps keep this order.
 pub record Bus : Type 0 where
   pub program : Program
   pub procs : List Proc
-  -- how many ticks there were
+  -- the number of ticks so far
   pub now : ℕ
-  -- the process that began the last step of a process, the sender where it was a handshake; 0 before any
+  -- the number of the process that took the last step (the sender, if the step was a message); 0 before the first step of a process
   pub last_starter : ℕ
   -- the number of the next process that is created
   pub next_number : ℕ
-  -- no more ticks come
+  -- whether no more ticks come
   pub no_ticks : Bool
+  -- whether the bus has shut down
   pub down : Bool
-  -- the lanes with the tools that stand on them
+  -- the lanes with their tools
   pub bench : BenchState
 
 abbrev pub atoms_in : Option Body → List Atom
 atoms_in None = []
 atoms_in (Some body) = body.atoms
 
--- the atoms of a body, by its number from 0
+-- the atoms of the body with this index, from 0
 abbrev pub atoms_of : List Body → ℕ → List Atom
 atoms_of bodies number = atoms_in (slice_get bodies number)
 
--- the process that is left of one, in this store, where anything is
+-- the process with this store and the remaining term; none if no term remains
 abbrev pub proc_left : Proc → List Slot → Option Process → List Proc
 proc_left proc store None = []
 proc_left proc store (Some term) = record proc { term = term; store = store } ∷ []
 
--- the slots with these values from this slot on
+-- the slots after these values are set, the first in this slot and each other in the next slot
 abbrev pub with_values : List Slot → ℕ → List Term → List Slot
 with_values slots slot [] = slots
 with_values slots slot (term ∷ terms) = with_values (with_value slots slot term) (slot + 1) terms
 
--- the store of a process as it begins: its actuals in the first slots, and the others with the values of their sorts
+-- the store of a new process: its arguments in the first slots, and in the other slots the initial values of their types
 abbrev pub opening_store : Body → List Term → List Slot
 opening_store body actuals = with_values (map fresh_slot body.sorts) 0 actuals
 
--- a process of a body with this number, as it begins: nothing is subscribed to, and no note waits
+-- a new process with this number, of a body with this index: it has no subscriptions and no waiting notes; none without a body
 abbrev pub opened_one : ℕ → ℕ → List Term → Option Body → List Proc
 opened_one number process actuals None = []
 opened_one number process actuals (Some body) =
     record { number = number; body = process; term = fresh body.tree; store = opening_store body actuals; inbox = nothing } ∷ []
 
--- the roots, numbered from this number on, each as its body is entered
+-- the new processes of the roots, numbered from this number on
 abbrev pub opened : List Body → ℕ → List Root → List Proc
 opened bodies number [] = []
 opened bodies number (root ∷ roots) = opened_one number root.process root.actuals (slice_get bodies root.process) ++ opened bodies (number + 1) roots
 
--- where a bus starts from: its program, the commands with which its first lanes are started, and how many entries its
--- log may have
+-- the origin of a bus: its program, the commands that start the first lanes, and the greatest number of entries in its log
 abbrev pub origin_of : Program → List (List ℕ) → ℕ → Origin
 origin_of program connects limit = record { program = program; connects = connects; limit = limit }
 
--- the bus that a program opens with: its roots, and the first lanes started
+-- the initial bus: the processes of the roots, and the first lanes started with the commands
 abbrev pub start : Origin → Bus
 start origin = record {
   program = origin.program;
@@ -88,6 +87,6 @@ start origin = record {
   bench = opening origin.connects;
 }
 
--- the process that a bus creates next, with its body and its actuals
+-- the process that a bus creates next, of this body and with these arguments
 abbrev pub created : Bus → ℕ → List Term → List Proc
 created bus process actuals = opened_one bus.next_number process actuals (slice_get bus.program.bodies process)

@@ -1,4 +1,4 @@
--- What an action comes to on a bus, where it may happen: its effect, and how that changes the bus.
+-- The effect of an action on a bus, when the action is possible, and the changed bus.
 use Rattle.std.specs.Prelude.{ℕ, ◌+◌, ◌==◌, ◌&&◌, ◌||◌, nat_lt, pos, List, [], ◌∷◌, ◌++◌, map, length, Bool, true, not, if◌then◌else◌, Option, Some, None, option_map, is_some, slice_get, slice_index_or}
 use Rattle.std.specs.List.{list_all}
 use Rattle.tb_terms.specs.declared.term.Term.{Term}
@@ -22,47 +22,47 @@ use Rattle.tb_bus.specs.declared.action.OwnAction.TheVariants.{Tau, Set, Print, 
 use Rattle.tb_bus.specs.declared.action.ToolAction.{ToolAction}
 use Rattle.tb_bus.specs.declared.exchange.Exchange.{Exchange}
 
--- What a step changes on the bus, beside that who makes it goes on.
+-- The change that a step makes on the bus, in addition to the continuation of the process that makes the step.
 pub data Change : Type 0 where
   Nothing : Change
-  -- these terms are a note for each process that wants it
+  -- these terms are a note for each process that has a matching subscription
   PutsNote : List Term → Change
-  -- the note at this position leaves the own queue
+  -- the process removes the note at this position from its own queue
   TakesNote : ℕ → Change
-  -- from now on the process wants what these match, or no longer does
+  -- the process adds the subscription with these patterns, or removes it
   Subscribes : List Pattern → Change
   Unsubscribes : List Pattern → Change
-  -- a process of this body begins with these actuals
+  -- a process of this body begins with these arguments
   Creates : ℕ → List Term → Change
-  -- the lanes and their tools are so from now on
+  -- the new state of the lanes and their tools
   SetsBench : BenchState → Change
-  -- the bus goes down for this reason
+  -- the bus shuts down for this reason
   GoesDown : Term → Change
 
--- what is seen of an action, what its process binds, and what else it changes
+-- the kind and the terms of the label, the binds of the process that acts, and the other change of the bus
 pub record Effect : Type 0 where
   pub kind : LabelKind
   pub shown : List Term
   pub binds : List Bind
   pub change : Change
 
--- a queue takes a note where it doesn't want it, or has room
+-- a note can be sent as far as this inbox is concerned: no subscription matches the note, or the queue has capacity
 abbrev pub takes_note : List Term → Held → Bool
 takes_note terms held = not (wants held terms) || nat_lt (length held.notes) most_notes
 
--- the note at a position of the queue
+-- the note at this position of the queue
 abbrev pub note_at : Held → ℕ → List Term
 note_at held place = slice_index_or held.notes place []
 
 abbrev pub number_term : ℕ → Term
 number_term number = Int (pos number)
 
--- how many processes may be alive
+-- the greatest number of running processes
 abbrev pub most_alive : ℕ
 most_alive = 10000
 
--- A process of one body may create one of another with these actuals, whose number goes to the slot: fewer are alive than
--- may be, the actuals have the sorts of the formals, and the slot takes a number.
+-- A process of one body can create a process of another with these arguments, and set the slot to its number. Fewer processes run than
+-- can run, the arguments have the types of the parameters, and the slot takes a number.
 abbrev pub may_create : List Body → ℕ → ℕ → ℕ → ℕ → List Term → ℕ → Bool
 may_create bodies alive number creator process actuals slot =
     nat_lt alive most_alive && fits_formals (slice_get bodies process) actuals && fits_slot (slice_get bodies creator) slot (number_term number)
@@ -78,7 +78,7 @@ creation number process actuals slot = record {
 abbrev pub taking : Held → Found → Effect
 taking held found = record { kind = kind.RecNote; shown = note_at held found.place; binds = found.binds; change = TakesNote found.place }
 
--- where a process speaks with tools
+-- the setting in which this process speaks with tools
 abbrev pub setting_of : Bus → Proc → Setting
 setting_of bus proc = setting_by bus.program.bodies bus.program.tools bus.bench proc.body
 
@@ -90,18 +90,19 @@ speaking setting does exchange = record {
   change = SetsBench (bench_after setting does exchange);
 }
 
--- What an action of a process by itself comes to, where it may happen: one line an atom, and one for those that speak with a tool.
+-- The effect of an action that a process takes by itself, if the action is possible: one line for each atom, and one for all atoms that
+-- speak with a tool.
 abbrev pub own_effect : Bus → Proc → OwnAction → Option Effect
 own_effect bus proc Tau = Some (record { kind = kind.Tau; shown = []; binds = []; change = Nothing })
 own_effect bus proc (Set values binds) = Some (record { kind = kind.Set; shown = values; binds = binds; change = Nothing })
 own_effect bus proc (Print text) = Some (record { kind = kind.Printf; shown = text ∷ []; binds = []; change = Nothing })
--- every queue that wants the note has room
+-- possible if and only if each process with a matching subscription has capacity in its queue
 own_effect bus proc (Notify terms) =
     if list_all (λ (other : Proc). takes_note terms other.inbox) bus.procs
     then Some (record { kind = kind.SndNote; shown = terms; binds = []; change = PutsNote terms }) else None
--- the oldest note in the own queue that matches is taken
+-- takes the oldest note in the own queue that matches, if there is one
 own_effect bus proc (TakeNote patterns) = option_map (taking proc.inbox) (oldest_match patterns proc.inbox)
--- no note in the own queue matches
+-- possible if and only if no note in the own queue matches
 own_effect bus proc (NoNote patterns) =
     if is_some (oldest_match patterns proc.inbox) then None else Some (record { kind = kind.NoNote; shown = []; binds = []; change = Nothing })
 own_effect bus proc (Subscribe patterns) = Some (record { kind = kind.Subscribe; shown = []; binds = []; change = Subscribes patterns })
@@ -110,30 +111,30 @@ own_effect bus proc (Unsubscribe patterns) = Some (record { kind = kind.Unsubscr
 own_effect bus proc (Create process actuals slot) =
     if may_create bus.program.bodies (length bus.procs) bus.next_number proc.body process actuals slot
     then Some (creation bus.next_number process actuals slot) else None
--- it speaks with a tool, where it may
+-- speaks with a tool, if the exchange is possible
 own_effect bus proc (Speak does) = option_map (speaking (setting_of bus proc) does) (exchange_for (setting_of bus proc) does)
--- the bus goes down
+-- shuts down the bus
 own_effect bus proc (Shutdown reason) = Some (record { kind = kind.Shutdown; shown = reason ∷ []; binds = []; change = GoesDown reason })
 
--- The effect of an action: none where it can't happen, or needs another process.
+-- The effect of an action: none if the action isn't possible, or needs another process.
 abbrev pub effect_of : Bus → Proc → Action → Option Effect
 effect_of bus proc (Own own) = own_effect bus proc own
 effect_of bus proc (Send terms) = None
 effect_of bus proc (Receive patterns) = None
 
--- a copy of the note for a process that wants it
+-- the process after these terms are sent as a note: it gets a copy if it has a matching subscription
 abbrev pub given : List Term → Proc → Proc
 given terms proc = if wants proc.inbox terms then record proc { inbox = with_note terms proc.inbox } else proc
 
--- the process of this number has its inbox changed
+-- the process, with its inbox changed if it has this number
 abbrev pub with_inbox : ℕ → (Held → Held) → Proc → Proc
 with_inbox number change proc = if proc.number == number then record proc { inbox = change proc.inbox } else proc
 
--- the bus goes down for this reason, and each lane that is up and hasn't ended is told to end
+-- the bus after it shuts down for this reason: each lane that is up and hasn't ended gets the last line to its tool, and ends
 abbrev pub went_down : Term → Bus → Bus
 went_down reason bus = record bus { down = true; bench = gone_down reason bus.bench }
 
--- The bus after a change that the process of this number makes: one line a kind of change.
+-- The bus after a change that the process with this number makes: one line for each kind of change.
 abbrev pub changed : Change → ℕ → Bus → Bus
 changed Nothing number bus = bus
 changed (PutsNote terms) number bus = record bus { procs = map (given terms) bus.procs }

@@ -1,4 +1,4 @@
--- What an action comes to that speaks with a tool: where it may happen, what is seen of it, and the lanes after it.
+-- An action that speaks with a tool: when it is possible, its label, and the lanes after it.
 use Rattle.std.specs.Prelude.{ℕ, ◌&&◌, Bool, List, [], ◌∷◌, ◌++◌, map, drop, if◌then◌else◌, Option, Some, None, option_map, option_and_then, option_to_list, unwrap_or, slice_get}
 use Rattle.tb_terms.specs.declared.term.Term.{Term}
 use Rattle.tb_terms.specs.Sizes.{is_within_limits}
@@ -20,17 +20,17 @@ use Rattle.tb_bus.specs.declared.action.ToolAction.{ToolAction}
 use Rattle.tb_bus.specs.declared.action.ToolAction.TheVariants.{Execute, Connect, DisconnectAny, Disconnect, Eval, TakeValue, Do, TakeEvent, Acknowledge, Terminate}
 use Rattle.tb_bus.specs.declared.exchange.Exchange.{Exchange}
 
--- Who speaks with a tool has this body, on a bus with these kinds of tools and these lanes.
+-- The setting in which a process speaks with a tool: the body of the process, the kinds of tools, and the lanes.
 pub record Setting : Type 0 where
   pub body : Option Body
   pub kinds : List ToolKind
   pub bench : BenchState
 
--- where a process of this body speaks with tools
+-- the setting of a process of this body
 abbrev pub setting_by : List Body → List ToolKind → BenchState → ℕ → Setting
 setting_by bodies kinds bench body = record { body = slice_get bodies body; kinds = kinds; bench = bench }
 
--- of a kind of tool its name, and its command where it has one
+-- the name of a kind of tool, and its command if it has one
 abbrev pub name_of : Option ToolKind → List ℕ
 name_of None = []
 name_of (Some tool) = tool.name
@@ -49,29 +49,29 @@ kind_command setting tool = command_of (slice_get setting.kinds tool)
 abbrev pub term_on : ℕ → BenchState → Option Term
 term_on lane bench = option_map term_of (tool_at lane bench)
 
--- on a lane, with nothing bound
+-- the exchange on this lane without binds
 abbrev pub plain_on : ℕ → Exchange
 plain_on lane = record { lane = lane; event = 0; binds = [] }
 
--- on a lane, where the slot takes the term
+-- the exchange on this lane that sets the slot to the term
 abbrev pub bound_on : ℕ → ℕ → Term → Exchange
 bound_on slot lane term = record { lane = lane; event = 0; binds = record { slot = slot; value = term } ∷ [] }
 
--- the slot takes the term, which is within the limits: only that of a tool that is started may be too large, since a tool
--- that connects has a shorter name
+-- The exchange on this lane that sets the slot to the term, if the term is within the limits and has the slot's type. Only the term of a
+-- started tool can be too large, since a tool that connects has a shorter name.
 abbrev pub binding_on : Setting → ℕ → ℕ → Term → Option Exchange
 binding_on setting slot lane term = if is_within_limits term && fits_slot setting.body slot term then Some (bound_on slot lane term) else None
 
--- the first lane that is free, where the slot takes the next tool, of this name
+-- the exchange on the lowest free lane that sets the slot to the term of the next tool, with this name
 abbrev pub starting : Setting → ℕ → List ℕ → Option Exchange
 starting setting slot name =
     option_and_then (λ lane. binding_on setting slot lane (tool_term name setting.bench.next_tool)) (free_lane setting.bench)
 
--- on a lane, where the slot takes the tool that stands there
+-- the exchange on this lane that sets the slot to the term of the lane's tool
 abbrev pub taking_tool : Setting → ℕ → ℕ → Option Exchange
 taking_tool setting slot lane = option_and_then (binding_on setting slot lane) (term_on lane setting.bench)
 
--- the tool of a kind at a stage that has the smallest number, where the slot takes it
+-- the exchange with the tool of this kind and stage that has the smallest number, if its term is within the limits and the slot takes it
 abbrev pub first_of : Setting → Stage → ℕ → ToolKind → Option Exchange
 first_of setting stage slot kind = option_and_then (taking_tool setting slot) (first_at kind.name stage setting.bench)
 
@@ -81,53 +81,53 @@ first_of_kind setting stage tool slot = option_and_then (first_of setting stage 
 abbrev pub lane_if : (ℕ → BenchState → Bool) → BenchState → ℕ → Option ℕ
 lane_if may bench lane = if may lane bench then Some lane else None
 
--- the lane of the tool that is the first of these terms, where it may
+-- the lane of the tool whose term is the first of these, if the condition holds for this lane
 abbrev pub lane_of : (ℕ → BenchState → Bool) → BenchState → List Term → Option ℕ
 lane_of may bench [] = None
 lane_of may bench (tool ∷ terms) = option_and_then (lane_if may bench) (find_tool tool bench)
 
--- the value on a lane, where it has come and matches
+-- the exchange that takes the answer of the lane's tool, if there is an answer and it matches
 abbrev pub value_on : List Pattern → BenchState → ℕ → Option Exchange
 value_on patterns bench lane =
     option_and_then (λ value. option_map (λ binds. record { lane = lane; event = 0; binds = binds }) (match_list patterns (value ∷ []))) (answer_at lane bench)
 
--- the oldest event that waits on a lane and matches
+-- the exchange that receives the oldest waiting event on this lane that matches, if there is one
 abbrev pub event_on : List Pattern → BenchState → ℕ → Option Exchange
 event_on patterns bench lane =
     option_map (λ (found : FoundEvent). record { lane = lane; event = found.place; binds = found.binds }) (oldest_event patterns lane bench)
 
--- the oldest event that was received on a lane with just these terms
+-- the exchange that acknowledges the oldest received event on this lane with exactly these terms, if there is one
 abbrev pub received_on : List Term → BenchState → ℕ → Option Exchange
 received_on terms bench lane = option_map (λ place. record { lane = lane; event = place; binds = [] }) (oldest_received terms lane bench)
 
--- the terms behind the tool's own
+-- the terms after the tool's own
 abbrev pub behind : List Term → List Term
 behind = drop 1
 
--- How an action may happen, where it may: one line an atom.
+-- The exchange of an action, if the action is possible: one line for each atom.
 abbrev pub exchange_for : Setting → ToolAction → Option Exchange
--- the kind has a command, a lane is free, and the slot takes the new tool, whose term is within the limits
+-- the kind has a command, a lane is free, and the slot takes the new tool's term, which is within the limits
 exchange_for setting (Execute tool slot) = option_and_then (λ command. starting setting slot (kind_name setting tool)) (kind_command setting tool)
--- a tool of the kind waits: the one with the smallest number, where the slot takes it
+-- a tool of the kind waits: the one with the smallest number, if its term is within the limits and the slot takes it
 exchange_for setting (Connect tool slot) = first_of_kind setting Waiting tool slot
--- a tool of the kind is leaving: likewise
+-- a tool of the kind is leaving: the one with the smallest number, if its term is within the limits and the slot takes it
 exchange_for setting (DisconnectAny tool slot) = first_of_kind setting Leaving tool slot
 -- the tool is leaving
 exchange_for setting (Disconnect terms) = option_map plain_on (lane_of can_leave setting.bench terms)
 -- the tool is live, and no evaluation is open
 exchange_for setting (Eval terms) = option_map plain_on (lane_of can_eval setting.bench terms)
--- the tool is live or leaving, and its value has come and matches
+-- the tool is live or leaving, and its answer is there and matches
 exchange_for setting (TakeValue terms patterns) = option_and_then (value_on patterns setting.bench) (lane_of is_taken_at setting.bench terms)
 -- the tool is live, and no evaluation is open
 exchange_for setting (Do terms) = option_map plain_on (lane_of can_eval setting.bench terms)
--- the tool is live or leaving, and an event of it that waits matches
+-- the tool is live or leaving, and a waiting event of the tool matches
 exchange_for setting (TakeEvent terms patterns) = option_and_then (event_on patterns setting.bench) (lane_of is_taken_at setting.bench terms)
--- the tool is live, and an event with just these terms was received
+-- the tool is live, and has a received event with exactly the terms after the tool's own
 exchange_for setting (Acknowledge terms) = option_and_then (received_on (behind terms) setting.bench) (lane_of is_live_at setting.bench terms)
 -- the tool is live
 exchange_for setting (Terminate terms) = option_map plain_on (lane_of is_live_at setting.bench terms)
 
--- what is seen of the kind of a step
+-- the kind of the label
 abbrev pub kind_of : ToolAction → LabelKind
 kind_of (Execute tool slot) = kind.Execute
 kind_of (Connect tool slot) = kind.RecConnect
@@ -143,49 +143,50 @@ kind_of (Terminate terms) = kind.SndTerminate
 abbrev pub values_in : List Bind → List Term
 values_in = map (λ (bind : Bind). bind.value)
 
--- the value that has come on a lane
+-- the answer of a lane's tool, if there is one
 abbrev pub values_on : ℕ → BenchState → List Term
 values_on lane bench = option_to_list (answer_at lane bench)
 
--- The terms that are seen: the tool that the slot takes; else the tool with the terms behind it.
+-- The terms of the label. If the slot takes a tool, the label has the tool's term. Otherwise, it has the tool's term and the terms after
+-- it.
 abbrev pub terms_seen : Setting → ToolAction → Exchange → List Term
 terms_seen setting (Execute tool slot) exchange = values_in exchange.binds
 terms_seen setting (Connect tool slot) exchange = values_in exchange.binds
 terms_seen setting (DisconnectAny tool slot) exchange = values_in exchange.binds
 terms_seen setting (Disconnect terms) exchange = terms
 terms_seen setting (Eval terms) exchange = terms
--- with the value that has come
+-- followed by the tool's answer
 terms_seen setting (TakeValue terms patterns) exchange = terms ++ values_on exchange.lane setting.bench
 terms_seen setting (Do terms) exchange = terms
--- with what the event carries
+-- followed by the terms of the event
 terms_seen setting (TakeEvent terms patterns) exchange = terms ++ event_at exchange.event (events_at exchange.lane setting.bench)
 terms_seen setting (Acknowledge terms) exchange = terms
 terms_seen setting (Terminate terms) exchange = terms
 
--- the lanes with the one term that is told a tool
+-- the lanes after this change with the first of these terms; unchanged if there is no term
 abbrev pub with_told : (Term → ℕ → BenchState → BenchState) → List Term → ℕ → BenchState → BenchState
 with_told change [] lane bench = bench
 with_told change (term ∷ terms) lane bench = change term lane bench
 
--- The lanes after it: one line an atom.
+-- The lanes after an exchange: one line for each atom.
 abbrev pub bench_after : Setting → ToolAction → Exchange → BenchState
--- the lane is started with the command of the kind, and the new tool is live there
+-- the lane is started with the command of the kind, and has the new tool, which is live
 bench_after setting (Execute tool slot) exchange =
     executed (kind_name setting tool) (unwrap_or (kind_command setting tool) []) exchange.lane setting.bench
--- the tool is live
+-- the waiting tool becomes live
 bench_after setting (Connect tool slot) exchange = connected exchange.lane setting.bench
 -- the tool leaves its lane, with its events
 bench_after setting (DisconnectAny tool slot) exchange = left exchange.lane setting.bench
 bench_after setting (Disconnect terms) exchange = left exchange.lane setting.bench
--- an evaluation is open, and the tool is asked
+-- the tool is asked, and an evaluation is open
 bench_after setting (Eval terms) exchange = with_told asked (behind terms) exchange.lane setting.bench
--- no evaluation is open
+-- no evaluation is open any more
 bench_after setting (TakeValue terms patterns) exchange = value_taken exchange.lane setting.bench
--- the tool is told
+-- the tool is asked to carry out the term
 bench_after setting (Do terms) exchange = with_told told (behind terms) exchange.lane setting.bench
--- the event comes to the end of those received
+-- the event moves to the end of the received events
 bench_after setting (TakeEvent terms patterns) exchange = event_taken exchange.event exchange.lane setting.bench
--- the event is forgotten, and the tool is told
+-- the event is removed, and the tool gets the acknowledgement
 bench_after setting (Acknowledge terms) exchange = acknowledged exchange.event exchange.lane setting.bench
--- the tool is told to end, and leaves its lane
+-- the tool is asked to end, and leaves its lane
 bench_after setting (Terminate terms) exchange = with_told terminated (behind terms) exchange.lane setting.bench

@@ -1,4 +1,4 @@
--- What becomes of an input, what an entry of the log may do to a bus, which logs are traces, and the bus to which a log leads.
+-- The reply to an input, the entries that can follow on a bus, the traces, and the bus to which a log leads.
 use Rattle.std.specs.Prelude.{◌≡◌, ℕ, ◌+◌, map, List, [], ◌∷◌, Bool, true, false, Some, if◌then◌else◌, Contains, ⊤}
 use Rattle.std.specs.List.{list_any}
 use Rattle.std.specs.Str.{bytes_eq}
@@ -24,16 +24,16 @@ use Rattle.tb_log.specs.declared.entry.Why.TheVariants.{Down}
 use Rattle.tb_log.specs.declared.entry.Entry.{Entry}
 use Rattle.tb_log.specs.declared.entry.Entry.TheVariants.{Did, Quiet, Fed, Gave}
 
--- what becomes of an input, and the bus after it
+-- the reply to an input, and the bus after it
 pub record Answer : Type 0 where
   pub reply : Reply
   pub bus : Bus
 
--- a process a tick later
+-- a process one tick later
 abbrev pub aged_proc : Proc → Proc
 aged_proc proc = record proc { term = aged proc.term }
 
--- a line by which a tool connects names a kind that the script declares
+-- the line is a connect request with the name of a kind of tool that the script declares
 abbrev pub declares : List Tool → ToolLine → Bool
 declares kinds (tool_line.Connect name) = list_any (λ (tool : Tool). bytes_eq tool.name name) kinds
 declares kinds (tool_line.Value value) = false
@@ -41,40 +41,40 @@ declares kinds (tool_line.Event terms) = false
 declares kinds tool_line.Disconnect = false
 declares kinds tool_line.Bad = false
 
--- what the lanes make of an input
+-- the answer of a bus whose lanes answer an input
 abbrev pub on_bench : Bus → lanes.Answer → Answer
 on_bench bus answer = record { reply = answer.reply; bus = record bus { bench = answer.bench } }
 
--- what a bus that is up does with an input
+-- the answer of a bus that is up to an input
 abbrev pub took : Bus → Input → Answer
--- time passes, and every process ages
+-- one tick passes, and each process ages
 took bus Tick = record { reply = Took; bus = record bus { procs = map aged_proc bus.procs; now = bus.now + 1 } }
 took bus NoTicks = record { reply = Took; bus = record bus { no_ticks = true } }
--- a lane takes the others, or drops them
+-- the lanes take the other inputs, or drop them
 took bus (Line lane line) = on_bench bus (put_line (declares bus.program.tools line) line lane bus.bench)
 took bus (Gone lane) = on_bench bus (gone lane bus.bench)
 took bus (Cut lane) = on_bench bus (cut lane bus.bench)
 
--- A bus that is down drops every input, and a dropped input changes nothing.
+-- The answer of a bus to an input. A bus that has shut down drops each input. A dropped input changes nothing.
 abbrev pub fed : Bus → Input → Answer
 fed bus input = if bus.down then record { reply = Dropped Down; bus = bus } else took bus input
 
--- the bus once the first on a lane was handed out
+-- the bus after the next output of a lane is sent
 abbrev pub taken_out : ℕ → Bus → Bus
 taken_out lane bus = record bus { bench = handed_out lane bus.bench }
 
--- From one bus an entry may lead to the next.
+-- The entry can follow on the first bus, and leads to the next bus.
 abbrev pub IsLegal : Bus → Entry → Bus → Type 0
--- one of the steps was made
+-- a step of the bus with this label leads to the next bus
 IsLegal bus (Did label) next = Contains (steps bus) (record { label = label; bus = next })
--- nothing was possible, and the bus isn't down
+-- the bus has no step and hasn't shut down
 IsLegal bus Quiet next = (steps bus ≡ []) × (bus.down ≡ false) × (next ≡ bus)
--- an input in shape came, and this became of it
+-- the input is in shape, and the bus answers it with this reply
 IsLegal bus (Fed input reply) next = IsInputInShape input × (record { reply = reply; bus = next } ≡ fed bus input)
--- this was the first to be handed out on the lane
+-- this is the next output of the lane
 IsLegal bus (Gave lane out) next = IsLane lane × (next_out lane bus.bench ≡ Some out) × (next ≡ taken_out lane bus)
 
--- the bus after the first of these steps that is seen as the label, or the old one where none is
+-- the bus after the first of these steps with this label; the old bus if no step has this label
 abbrev pub after_step : Bus → Label → List Step → Bus
 after_step bus label [] = bus
 after_step bus label (step ∷ rest) = if is_same label_row.the_row.coded label step.label then step.bus else after_step bus label rest
@@ -86,8 +86,8 @@ after bus Quiet = bus
 after bus (Fed input reply) = (fed bus input).bus
 after bus (Gave lane out) = taken_out lane bus
 
--- A log is a trace from a bus where each entry may lead from the bus before it to the bus after it.
--- No two steps of a bus that a program reaches are seen alike; elsewhere an entry stands for the first that is.
+-- A log is a trace from a bus if each entry can follow on the bus before it, and leads to the bus after it. All steps of a reached bus
+-- have different labels. On another bus, an entry represents the first step with its label.
 abbrev pub IsTrace : Bus → List Entry → Type 0
 IsTrace bus [] = ⊤
 IsTrace bus (entry ∷ log) = IsLegal bus entry (after bus entry) × IsTrace (after bus entry) log

@@ -1,4 +1,4 @@
--- When what waits on a bus is in shape: the values of stores, the notes in queues, and what stands on the lanes.
+-- The buses in shape: those whose values in stores, notes in queues, and contents of lanes are in shape.
 use Rattle.std.specs.Prelude.{◌≤◌, List, length, IfSome, ⊤}
 use Rattle.std.specs.List.{All}
 use Rattle.tb_terms.specs.declared.term.Term.{Term}
@@ -10,19 +10,19 @@ use Rattle.tb_tools.specs.declared.stage.Eval.TheVariants.{Closed, Asked, Answer
 use Rattle.tb_tools.specs.Lanes.{Tool, Lane, BenchState}
 use Rattle.tb_bus.specs.Buses.{Bus, Proc}
 
--- The value of a slot has no more levels than a term may have. Its size has no limit of its own, since the first value of a tool's variable
--- may be larger; what is sent is measured then.
+-- The value of a slot is no deeper than a term can be. Its size has no limit of its own, since the initial value of a tool's variable can
+-- exceed the largest size of a term. When the value is sent, its size is checked.
 abbrev pub IsShallow : Term → Type 0
 IsShallow term = term_levels term ≤ most_term_levels
 
 abbrev pub IsShallowStore : List Slot → Type 0
 IsShallowStore store = All (λ (slot : Slot). IsShallow slot.value) store
 
--- a note: one term at least, each within the limits, and all together no larger than a term may be
+-- a note: at least one term, each within the limits, and all together no larger than a term can be
 abbrev pub IsNote : List Term → Type 0
 IsNote terms = (1 ≤ length terms) × AreParts terms
 
--- an event: one part at least, of one line
+-- an event: at least one part, each within the limits, and all together no larger than a term can be
 abbrev pub IsEvent : List Term → Type 0
 IsEvent terms = (1 ≤ length terms) × AreParts terms
 

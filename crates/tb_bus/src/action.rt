@@ -1,66 +1,67 @@
-//! The actions of atoms that are ready, and how a process speaks with a tool.
+//! The actions of offered atoms, and the actions in which a process speaks with a tool.
 use tb_match::Binds;
 use tb_terms::{Patterns, Term, Terms};
 
-/// What an offered atom that is ready does, by the store in which it is offered alone.
+/// The behavior of an offered atom whose times hold. For a given atom, it depends only on the offer's store.
 #[derive(Drop)]
 pub enum Action {
-    /// It happens by itself.
+    /// An action that the process takes by itself.
     Own(OwnAction),
-    /// It sends these terms, where another process receives them.
+    /// The terms that the process sends if another process receives them in the same step.
     Send(Terms),
-    /// It receives terms that match, where another process sends them.
+    /// The patterns of the terms that the process receives if another process sends them in the same step.
     Receive(Patterns),
 }
 
-/// How a process speaks with a tool. Kinds of tools go by their indices among definitions, from 0, and so do slots. Where
-/// there are terms, the first of them is the tool's own.
+/// An action in which a process speaks with a tool. A kind of tool is given by its index among the definitions, from 0, and a slot by its
+/// index, from 0. If an action has terms, the first is the tool's own term.
 #[derive(Drop)]
 pub enum ToolAction {
-    /// A tool of this kind is started, and the slot takes it.
+    /// The start of a tool of this kind. The slot takes the tool's term.
     Execute(u32, u32),
-    /// A tool of this kind that waits is live from then on, and the slot takes it.
+    /// The connection of a waiting tool of this kind, which becomes live. The slot takes the tool's term.
     Connect(u32, u32),
-    /// A tool of this kind that is leaving leaves its lane, and the slot takes it.
+    /// The release of a leaving tool of this kind from its lane. The slot takes the tool's term.
     DisconnectAny(u32, u32),
-    /// This tool, which is leaving, leaves its lane.
+    /// The release of this tool, which is leaving, from its lane.
     Disconnect(Terms),
-    /// The tool is asked to evaluate the second of the terms.
+    /// A request that the tool evaluate the second term.
     Eval(Terms),
-    /// The tool's answer is taken, where it matches.
+    /// The receipt of the tool's answer, if the answer matches the patterns.
     TakeValue(Terms, Patterns),
-    /// The tool is told to do the second of the terms.
+    /// A request that the tool carry out the second term.
     Do(Terms),
-    /// The oldest event of the tool that waits and matches is received.
+    /// The receipt of the tool's oldest waiting event that matches the patterns.
     TakeEvent(Terms, Patterns),
-    /// An event of the tool with just the terms behind its own is acknowledged.
+    /// The acknowledgement of a received event of the tool. The event has exactly the terms after the first.
     Acknowledge(Terms),
-    /// The tool is told to end, with the second of the terms as the reason.
+    /// A request that the tool end, with the second term as the reason.
     Terminate(Terms),
 }
 
-/// What a process does by itself: one kind for each such atom, and one for those that speak with a tool.
+/// An action that a process takes by itself: one variant for each such atom, and one variant for all atoms that speak with a tool.
 #[derive(Drop)]
 pub enum OwnAction {
+    /// A step without another effect.
     Tau,
-    /// The values that are seen of it, and what is set.
+    /// An assignment: the values that its label shows, and the binds that it sets.
     Set(Terms, Binds),
-    /// The text that is printed.
+    /// The text to print.
     Print(Term),
-    /// These terms are a note for each process that wants it.
+    /// The terms of a note for each process that has a matching subscription.
     Notify(Terms),
-    /// It takes the oldest own note that matches.
+    /// The patterns of the note to take: the oldest note in the process's own queue that matches.
     TakeNote(Patterns),
-    /// It happens only where no own note matches.
+    /// The patterns of absent notes. The action is possible only if no note in the process's own queue matches.
     NoNote(Patterns),
-    /// From now on the process wants what matches.
+    /// The patterns of a subscription that the process adds.
     Subscribe(Patterns),
-    /// The process no longer wants what matches just these.
+    /// The patterns of the subscription that the process removes: the one with exactly these patterns.
     Unsubscribe(Patterns),
-    /// A process of this body begins with these actuals, and the slot takes its number.
+    /// The creation of a process of this body with these arguments. The slot takes the number of the new process.
     Create(u32, Terms, u32),
-    /// It speaks with a tool.
+    /// An action that speaks with a tool.
     Speak(ToolAction),
-    /// The bus goes down for this reason.
+    /// The reason for which the bus shuts down.
     Shutdown(Term),
 }

@@ -1,4 +1,4 @@
-//! Theorems about the traces of a bus, and about the buses that a program reaches.
+//! Theorems about the traces of a bus, and about the reached buses. The calls change nothing: their contracts are the theorems.
 ghost use Rattle.std.specs.Prelude.{◌≡◌, ◌≢◌, ◌≤◌, ◌<◌, ◌++◌, ℕ, List, [], None, Contains, length, true, false};
 ghost use Rattle.std.specs.List.{All, AllPairs};
 ghost use Rattle.tb_log.specs.Lanes.{handed};
@@ -18,7 +18,8 @@ ghost use Rattle.tb_bus.specs.Traces.{IsLegal, IsTrace, after, fed, replay};
 ghost use Rattle.tb_bus.specs.Ends.{TakesDown};
 ghost use Rattle.tb_bus.specs.Reached.{Reaches};
 
-/// Each prefix of a trace is a trace; and where one trace leads, another may follow.
+/// States that each prefix of a trace is a trace, and that the remaining entries are a trace from the bus after the prefix. If a trace
+/// from this bus follows a trace, both together are a trace.
 pub fn prefixes_are_traces()
     ensures prefix { (bus : Bus) (log more : List Entry)
         → IsTrace bus (log ++ more) → IsTrace bus log }
@@ -28,8 +29,8 @@ pub fn prefixes_are_traces()
         → IsTrace (replay bus log) more → IsTrace bus (log ++ more) }
 {}
 
-/// In a bus that a program reaches the processes stand by their numbers: these ascend strictly, from above 0, and are
-/// below the next one.
+/// States that the processes of a reached bus are in order of their numbers. The numbers ascend strictly, are above 0, and are below the
+/// next number.
 pub fn processes_stand_by_their_numbers()
     ensures ascend { (origin : Origin) (bus : Bus) → Reaches origin bus
         → AllPairs (λ (one other : Proc). one.number < other.number) bus.procs }
@@ -39,45 +40,45 @@ pub fn processes_stand_by_their_numbers()
         → All (λ (proc : Proc). proc.number < bus.next_number) bus.procs }
 {}
 
-/// In a bus that a program reaches the labels of the steps differ, each from each.
+/// States that all steps of a reached bus have different labels.
 pub fn labels_differ()
     ensures { (origin : Origin) (bus : Bus) → Reaches origin bus
         → AllPairs (λ (one other : Step). one.label ≢ other.label) (steps bus) }
 {}
 
-/// In a bus that a program reaches, steps that are seen alike are the same step.
+/// States that two steps of a reached bus with the same label are the same step.
 pub fn one_step_a_label()
     ensures { (origin : Origin) (bus : Bus) (one other : Step) → Reaches origin bus
         → Contains (steps bus) one → Contains (steps bus) other
         → one.label ≡ other.label → one ≡ other }
 {}
 
-/// From a bus that a program reaches, an entry leads to one bus.
+/// States that an entry leads from a reached bus to at most one bus.
 pub fn one_bus_after_an_entry()
     ensures { (origin : Origin) (bus next : Bus) (entry : Entry) → Reaches origin bus
         → IsLegal bus entry next → next ≡ after bus entry }
 {}
 
-/// A bus that a program reaches has 16 lanes, where no more commands are started at its opening.
+/// States that a reached bus has 16 lanes if its origin has at most 16 commands for the first lanes.
 pub fn there_are_16_lanes()
     ensures { (origin : Origin) (bus : Bus) → length origin.connects ≤ lane_count
         → Reaches origin bus → HasLanes bus.bench }
 {}
 
-/// An input that is dropped leaves the bus as it was.
+/// States that a bus remains unchanged if it drops an input.
 pub fn dropped_inputs_change_nothing()
     ensures { (bus : Bus) (input : Input) (why : Why)
         → (fed bus input).reply ≡ Dropped why → (fed bus input).bus ≡ bus }
 {}
 
-/// Only the end of all processes, that none can do anything any more, and a process that shuts it down take a bus down.
+/// States that an entry shuts down a bus only if the entry is a step `finish`, `halt`, or `shutdown`.
 pub fn three_steps_take_a_bus_down()
     ensures { (bus next : Bus) (entry : Entry) → IsLegal bus entry next → bus.down ≡ false
         → next.down ≡ true → (label : Label) × (entry ≡ Did label) × TakesDown label.kind }
 {}
 
-/// A bus that is down makes no step, and along each trace it stays down. What is to be handed out on a lane of it is what
-/// the trace hands out there, and what is left then: so a lane with nothing to hand out keeps nothing.
+/// States that a bus that has shut down makes no step, and remains shut down along each trace. On each of its lanes, the queued output is
+/// the output of the trace, followed by the output that is still queued. So a lane without queued output remains without it.
 pub fn a_bus_that_is_down_stays_down()
     ensures steps { (bus : Bus) → bus.down ≡ true → steps bus ≡ [] }
     ensures stays { (bus : Bus) (log : List Entry) → IsTrace bus log → bus.down ≡ true

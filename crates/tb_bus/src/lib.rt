@@ -1,4 +1,4 @@
-//! The bus: its processes, all that may happen next and in which order, and which logs are its traces.
+//! The bus: its processes and lanes, its possible steps in order, and the logs that are its traces.
 #![tactic(auto)]
 
 mod action;

@@ -1,13 +1,14 @@
-//! The program, the commands and the limit with which a bus starts.
+//! The program, the commands, and the limit of the log with which a bus starts.
 use tb_body::Program;
 use tb_terms::Texts;
 
-/// What a bus was started from, which nothing changes.
+/// The program, the commands, and the limit of the log with which a bus starts. They never change.
 #[derive(Drop)]
 pub struct Origin {
+    /// The loaded script: its bodies, its kinds of tools, and the processes with which it starts.
     pub program: Program,
-    /// The commands with which the first lanes are started.
+    /// The commands that start the first lanes, from lane 1 on.
     pub connects: Texts,
-    /// How many entries the log may have.
+    /// The greatest number of entries in the log.
     pub limit: u32,
 }

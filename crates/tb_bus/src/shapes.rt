@@ -1,4 +1,4 @@
-//! Which entries a trace has, and how large they are. The calls change nothing: their contracts are the laws.
+//! Theorems about the shape and the size of the entries of traces. The calls change nothing: their contracts are the theorems.
 
 ghost use Rattle.std.specs.Prelude.{◌≡◌, ◌≤◌, ℕ, List, Some};
 ghost use Rattle.std.specs.List.{All};
@@ -14,7 +14,7 @@ ghost use Rattle.tb_bus.specs.Reached.{Reaches};
 ghost use Rattle.tb_bus.specs.Waiting.{IsBusInShape};
 ghost use Rattle.tb_bus.specs.Commands.{AreNamed, IsNamed, most_entry_size};
 
-/// Each entry that may follow on a bus that a program reaches is in shape, and so is each entry of a trace.
+/// States that each entry that can follow on a reached bus is in shape. Each entry of a trace from the initial bus is also in shape.
 pub fn entries_are_in_shape()
     ensures legal { (origin : Origin) (bus next : Bus) (entry : Entry) → Reaches origin bus
         → IsLegal bus entry next → InShape entry }
@@ -22,28 +22,27 @@ pub fn entries_are_in_shape()
         → IsTrace (start origin) log → All InShape log }
 {}
 
-/// What waits on a bus that a program reaches is in shape: the values of stores, the notes in queues, and what stands
-/// on the lanes.
+/// States that the values in stores, the notes in queues, and the contents of lanes are in shape on a reached bus.
 pub fn what_waits_is_in_shape()
     ensures { (origin : Origin) (bus : Bus) → Reaches origin bus → IsBusInShape bus }
 {}
 
-/// Each command that is to be handed out on a bus that a program reaches is one that its origin names: one with which a
-/// lane is started at the opening, or one of a kind of tool.
+/// States that each command that is queued on a lane of a reached bus is a command of the origin. The origin has the commands that start
+/// the first lanes, and the commands of the kinds of tools.
 pub fn commands_are_the_origins()
     ensures lanes { (origin : Origin) (bus : Bus) → Reaches origin bus → AreNamed origin bus.bench }
     ensures next { (origin : Origin) (bus : Bus) (lane : ℕ) (out : Out) → Reaches origin bus →
         next_out lane bus.bench ≡ Some out → IsNamed origin out }
 {}
 
-/// What is to be handed out next on a lane of a bus that a program reaches is in shape.
+/// States that the next output of each lane of a reached bus is in shape.
 pub fn what_is_handed_out_is_in_shape()
     ensures { (origin : Origin) (bus : Bus) (lane : ℕ) (out : Out) → Reaches origin bus →
         next_out lane bus.bench ≡ Some out → IsOutInShape out }
 {}
 
-/// Each entry that may follow on a bus that a program reaches is no larger than two terms may be together, or than the
-/// largest command that its origin names.
+/// States that the size of each entry that can follow on a reached bus is limited. The limit is the size of two terms of the largest size,
+/// or the size of the origin's largest command if that is larger.
 pub fn entries_are_limited()
     ensures { (origin : Origin) (bus next : Bus) (entry : Entry) → Reaches origin bus →
         IsLegal bus entry next → entry_size entry ≤ most_entry_size origin }

@@ -1,27 +1,27 @@
-//! The bytes that a text with escapes means.
+//! The bytes that a text with escapes represents.
 use std::alloc::{AllocError, Global};
 
-/// What the next byte belongs to.
+/// The role of the next byte.
 #[derive(Clone, Copy)]
 enum Mode {
     Text,
-    /// A backslash stands before it.
+    /// The byte after a backslash.
     Escape,
-    /// The first digit of a byte.
+    /// The first hexadecimal digit of a byte.
     High,
-    /// The second digit of a byte, whose first has this value.
+    /// The second hexadecimal digit of a byte. The first digit has this value.
     Low(u8),
-    /// The number of times.
+    /// A digit of the number of repetitions, or the space after this number.
     Count,
-    /// An escape was none.
+    /// An escape before the byte was invalid.
     Bad,
 }
 
-/// A piece of what comes several times.
+/// A piece of a repeated part.
 #[derive(Clone, Copy)]
 enum Piece {
     Byte(u8),
-    /// The number of the turn, from 0, and this much.
+    /// The number of the repetition, from 0, plus this number.
     Turn(usize),
 }
 
@@ -30,14 +30,14 @@ struct Reader {
     alloc: Global,
     bytes: Vec<u8>,
     mode: Mode,
-    /// What comes several times, and how often, where such a part has begun.
+    /// The part to repeat. If such a part has begun, `times` is the number of its repetitions.
     part: Vec<Piece>,
     times: Option<usize>,
 }
 
-/// The bytes that a text means; none where an escape in it is none. The escapes are `\\`, `\n`, `\r`, `\t`, `\s` (a blank),
-/// `\e` (nothing), `\xff` (a byte), and `\*3 ab\;` (three times `ab`, in which other escapes may stand: there `\#` is the number of the
-/// turn, from 0, and `\+` that of the next).
+/// Returns the bytes that a text represents, or `None` if an escape in it is invalid or incomplete. The escapes are `\\`, `\n`, `\r`, `\t`,
+/// `\s` (a space), `\e` (nothing), `\xff` (a byte), and `\*3 ab\;` (three times `ab`). The repeated part can have other escapes, and also
+/// `\#` (the number of the repetition, from 0) and `\+` (the next number).
 pub fn meant(alloc: Global, text: &str) -> Result<Option<Vec<u8>>, AllocError> {
     let mut reader = Reader {
         alloc,
@@ -135,7 +135,7 @@ impl Reader {
         }
     }
 
-    /// Reads the number of times, which ends with a blank.
+    /// Reads a byte of the number of repetitions. A space ends the number.
     fn count(&mut self, byte: u8) {
         match (byte, self.times) {
             (b'0'..=b'9', Some(times)) => {
@@ -147,14 +147,14 @@ impl Reader {
         }
     }
 
-    /// Puts the number of the turn and this much.
+    /// Adds the number of the repetition, plus `more`, to the part.
     fn turn(&mut self, more: usize) -> Result<(), AllocError> {
         self.mode = Mode::Text;
         self.part.push(Piece::Turn(more))?;
         Ok(())
     }
 
-    /// Puts the part as often as it is to come.
+    /// Appends the repeated part to the bytes, and ends the part.
     fn repeat(&mut self) -> Result<(), AllocError> {
         match self.times {
             Some(times) => {
@@ -171,7 +171,7 @@ impl Reader {
     }
 }
 
-/// Puts a part as it is at this turn.
+/// Appends a part with the number of this repetition.
 fn put_part(
     alloc: Global,
     part: &[Piece],
@@ -192,7 +192,7 @@ fn put_number(alloc: Global, number: usize, into: &mut Vec<u8>) -> Result<(), Al
     into.extend_from_slice(text.as_bytes())
 }
 
-/// The value of a hexadecimal digit.
+/// Returns the value of a hexadecimal digit in lower case.
 fn digit(byte: u8) -> Option<u8> {
     match byte {
         b'0'..=b'9' => Some(byte - b'0'),

@@ -1,4 +1,4 @@
-//! What the programs share that run the rows of data files: texts with escapes, and the count of rows.
+//! The parts that the test programs share: texts with escapes, and the count of tests.
 #![tactic(auto)]
 
 mod escapes;

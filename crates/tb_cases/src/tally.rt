@@ -1,13 +1,16 @@
-//! The count of the rows that passed and of the rows that failed.
+//! The count of passed and failed tests.
 
-/// How many rows passed and failed.
+/// The numbers of passed and failed tests.
 #[derive(Clone, Copy)]
 pub struct Tally {
+    /// The number of passed tests.
     pub passed: u64,
+    /// The number of failed tests.
     pub failed: u64,
 }
 
 impl Tally {
+    /// Returns the tally of no tests.
     pub fn new() -> Tally {
         Tally {
             passed: 0,
@@ -15,7 +18,7 @@ impl Tally {
         }
     }
 
-    /// Counts a row.
+    /// Counts a test.
     pub fn count(&mut self, passed: bool) {
         if passed {
             self.passed = self.passed.saturating_add(1);

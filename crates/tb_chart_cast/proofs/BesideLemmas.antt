@@ -1,4 +1,4 @@
--- Lemmas on items with others of the same position.
+-- Lemmas about items that are combined with other items at the same position.
 use Rattle.std.proofs.Common.{◌≡◌, ◌∙◌, ◌+◌, ◌<◌, ◌++◌, ◌∷◌, [], ℕ, List, length, drop, get_or, map, Option, ap, sym, refl}
 use Rattle.std.specs.Prelude.{slice_get}
 use Rattle.std.proofs.lemmas.List.{append_assoc, drop_more, map-append}

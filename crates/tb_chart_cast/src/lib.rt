@@ -1,4 +1,4 @@
-//! The cast of a script: what a chart needs of it.
+//! The cast of a script: the data that a chart needs of the script.
 #![tactic(auto)]
 
 ghost use Rattle.std.specs.Prelude.{◌≡◌, ℕ, List, IfErr, IfOk, map, option_copied};
@@ -25,7 +25,7 @@ pub fn load_cast(alloc: Global, bytes: &[u8]) -> Result<Cast, ScriptFault>
     }
 }
 
-/// The cast of a script whose program this is.
+/// Returns the cast of the script with these bytes and this program, or the error of the script.
 fn placed_cast(alloc: Global, bytes: &[u8], program: &Program) -> Result<Cast, ScriptFault>
     requires { IsFound bytes.now (Program' program.now) }
     ensures ok { IfOk result (IsCastOf bytes.now) }
@@ -67,7 +67,7 @@ fn tools_of(alloc: Global, tools: &[Tool]) -> Result<Vec<Name>, NoMemory>
     Ok(all)
 }
 
-/// The definitions, each with its place.
+/// Returns a role for each process definition, from its body and its place in the source.
 fn roles_of(alloc: Global, bodies: &[Body], places: &[ProcessPlace]) -> Result<Vec<Role>, NoMemory>
     ensures { IfOk result
         (λ roles. map seen_role roles.items ≡ beside role_of bodies.now 0 places.now) }
@@ -106,7 +106,7 @@ fn sites_of(alloc: Global, atoms: &[Atom], marks: &[Mark]) -> Result<Vec<Site>, 
     Ok(sites)
 }
 
-/// An atom with this mark, and the process that it creates.
+/// Returns the site of an atom: its place in the source, and the process that it creates.
 fn site_of(atom: Option<&Atom>, mark: Mark) -> Site
     ensures { result ≡ site_of (option_copied atom.entry) mark }
 {
@@ -126,7 +126,7 @@ fn created_by(atom: Option<&Atom>) -> Option<u32>
     }
 }
 
-/// The definition of the process that an act creates.
+/// Returns the process definition that an act instantiates, by its index.
 fn created_by_act(act: &Act) -> Option<u32>
     ensures { result ≡ created_by_act act.now }
 {

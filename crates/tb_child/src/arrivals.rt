@@ -1,14 +1,14 @@
-//! What an outlet says to the inlet of its lane: which programs were started there, and that the lane ends.
+//! The queue from the outlet of a lane to its inlet: the programs that were started, and the end of the lane.
 
 use std::alloc::{AllocError, Global};
 use std::process::ChildStdout;
 use std::sync::atomic::{AtomicBool, Ordering};
 use std::sync::{Condvar, Mutex, Wait};
 
-/// So many programs may be started on a lane before the inlet has come to the first of them.
+/// The largest number of started programs that wait for the inlet of their lane.
 const MOST_WAITING: usize = 64;
 
-/// What came of a start.
+/// The result of a start.
 #[derive(Drop)]
 pub enum Arrival {
     /// The output of the program that was started.
@@ -17,7 +17,7 @@ pub enum Arrival {
     Nothing,
 }
 
-/// What is between the two ends of a lane.
+/// The queue between the two ends of a lane.
 #[derive(Drop)]
 pub struct Arrivals {
     waiting: Mutex<Vec<Arrival>>,
@@ -34,7 +34,7 @@ impl Arrivals {
         })
     }
 
-    /// Hands one on, unless too many wait.
+    /// Appends a result, and returns true. If too many results wait, returns false.
     pub fn push<R: Wait>(&self, rt: &R, arrival: Arrival) -> bool {
         let mut waiting = self.waiting.lock(rt);
         if waiting.len() >= MOST_WAITING {
@@ -46,7 +46,7 @@ impl Arrivals {
         pushed
     }
 
-    /// Waits for the next, or for the end of the lane.
+    /// Waits for the next result. At the end of the lane, returns `None`.
     pub fn next<R: Wait>(&self, rt: &R) -> Option<Arrival> {
         let mut waiting = self.waiting.lock(rt);
         for _ in rt.forever() {

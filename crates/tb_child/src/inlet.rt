@@ -10,18 +10,19 @@ use std::process::ChildStdout;
 use std::sync::{Arc, Wait};
 use tb_edge::{Got, Inlet};
 
-/// How often a wait for output looks whether the lane has ended, in milliseconds.
+/// The time between two looks whether the lane has ended, while the inlet waits for output, in milliseconds.
 const LOOK_MILLIS: i32 = 100;
 
-/// What the programs on a lane write to their standard output, line by line. At the end of a program's output comes one
-/// `End`, whatever the program does then, and one for each start that failed; behind the lane's end comes `Over`.
+/// The inlet of a lane of child programs. It gives the lines that the programs write to their standard output. At the end of a
+/// program's output, it gives `End` once, whatever the program does afterwards. For each failed start, it gives `End` too. After the
+/// end of the lane, it gives `Over`.
 #[derive(Drop)]
 pub struct ChildInlet<R> {
     rt: R,
     arrivals: Arc<Arrivals>,
     source: Option<ChildStdout>,
     pending: Pending,
-    /// The output has ended behind a line that was given.
+    /// The output has ended after a line that was given.
     has_ended: bool,
     faults: u64,
 }
@@ -83,7 +84,7 @@ impl<R: Wait + Copy + Drop> ChildInlet<R> {
         unreachable!()
     }
 
-    /// Takes what was read, or reads more, or waits for the next program.
+    /// Takes bytes that were read. If there are none, reads more, or waits for the next program.
     fn go_on(&mut self, line: &mut Vec<u8>, is_long: &mut bool) -> Option<Got>
         requires { length line.old.items ≤ 65536 }
         ensures short { length line.new.items ≤ 65536 }
@@ -116,7 +117,7 @@ impl<R: Wait + Copy + Drop> ChildInlet<R> {
         }
     }
 
-    /// Reads more of a program's output, of which a line may have begun.
+    /// Reads more of a program's output. A line may have begun.
     fn read_more(&mut self, source: ChildStdout, is_empty: bool, is_long: bool) -> Option<Got>
         ensures { self.new.faults ≡ self.old.faults }
     {

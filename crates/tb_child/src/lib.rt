@@ -1,5 +1,5 @@
-//! Lanes on which child programs stand as tools: what they write comes from the inlet, and what is put to the outlet
-//! they read. No contract says what a real child gives or takes. The crate also reads the program's own command line.
+//! Lanes whose tools are child programs. The inlet gives the output of a child, and the outlet writes to its input. No contract says
+//! what a real child gives or takes. The crate also reads the program's own command line.
 #![tactic(auto)]
 
 mod arrivals;

@@ -1,4 +1,4 @@
-//! How the output of a program is parted into lines.
+//! How the output of a program is split into lines.
 ghost use Rattle.std.specs.Prelude.{◌≡◌, ◌≤◌, length};
 
 use std::alloc::{AllocError, Global};
@@ -6,10 +6,10 @@ use std::io;
 use std::io::Read;
 use tb_edge::MOST_LINE;
 
-/// So many bytes are read at once at most.
+/// The largest number of bytes that are read at once.
 const READ_BYTES: usize = 16_384;
 
-/// Bytes that were read and not yet taken.
+/// Bytes that were read, and not taken yet.
 #[derive(Drop)]
 pub struct Pending {
     bytes: Vec<u8>,
@@ -37,7 +37,7 @@ impl Pending {
         }
     }
 
-    /// Reads more, where all was taken, and says how much; nothing at the end.
+    /// Reads bytes in place of the earlier ones, which must all be taken. Returns their number, which is 0 at the end of the output.
     pub fn fill<R: Read>(&mut self, source: &mut R) -> io::Result<usize> {
         self.from = 0;
         self.to = 0;
@@ -47,16 +47,16 @@ impl Pending {
     }
 }
 
-/// A line of which perhaps only a part was read.
+/// How much of a line was read.
 #[derive(Clone, Copy, PartialEq, Eq)]
 pub enum Part {
-    /// It goes on.
+    /// A part of the line: its newline is missing.
     Open,
-    /// Its newline was read.
+    /// The whole line with its newline.
     Whole,
 }
 
-/// Moves what belongs to the line from the bytes that were read into it. A line that gets too long is emptied, and says so.
+/// Moves the bytes of the line from the bytes that were read to `line`. If the line gets too long, empties `line`, and sets `is_long`.
 pub fn take_part(
     pending: &mut Pending,
     line: &mut Vec<u8>,
@@ -78,7 +78,7 @@ pub fn take_part(
     Ok(end)
 }
 
-/// Appends a part to a line, unless it gets too long, and says whether it did.
+/// Appends a part to a line, and returns true. If the line would get too long, returns false.
 fn append(part: &[u8], line: &mut Vec<u8>) -> Result<bool, AllocError>
     requires { length line.old.items ≤ 65536 }
     ensures { length line.new.items ≤ 65536 }

@@ -12,25 +12,25 @@ use std::thread;
 use std::time::{Clock, Duration};
 use tb_edge::{Failed, Outlet};
 
-/// A piece of so many bytes is written at once, which a pipe takes whole where it takes anything.
+/// The size of a piece that is written at once, in bytes. A pipe takes a piece of this size whole, or takes nothing.
 const PIECE_BYTES: usize = 4_096;
 
-/// A write that makes no progress for so long has failed, in milliseconds.
+/// The time after which a write without progress has failed, in milliseconds.
 const MOST_WRITE_MILLIS: i32 = 10_000;
 
-/// A program is looked at so often, this many milliseconds apart, before it is ended by force: two seconds in all.
+/// The number of looks at a program before it is killed. With the pause between two looks, they take two seconds.
 const GRACE_LOOKS: u32 = 400;
 
 const GRACE_MILLIS: u64 = 5;
 
-/// The programs that are started on a lane, and their standard input.
+/// The outlet of a lane of child programs. It starts the programs, and writes to their standard input.
 #[derive(Drop)]
 pub struct ChildOutlet<R> {
     rt: R,
     alloc: Global,
     arrivals: Arc<Arrivals>,
     child: Option<Child<SystemProcess>>,
-    /// A write has failed, so no more is written to this program.
+    /// A write has failed, so nothing more is written to this program.
     is_broken: bool,
     faults: u64,
 }
@@ -84,7 +84,7 @@ impl<R: Processes<Started = SystemProcess> + Wait + Clock + Copy + Drop> ChildOu
         }
     }
 
-    /// Starts a program, and hands its output to the inlet; says whether it could.
+    /// Starts a program, and passes its output to the inlet. Returns whether the program was started.
     fn start_program(&mut self, command: &str) -> bool
         ensures { self.new.faults ≡ self.old.faults }
     {
@@ -110,7 +110,7 @@ impl<R: Processes<Started = SystemProcess> + Wait + Clock + Copy + Drop> ChildOu
         is_taken
     }
 
-    /// Writes a line and its newline; says whether all of it was taken.
+    /// Writes a line and its newline. Returns whether the program took the whole line.
     fn write_line(&mut self, bytes: &[u8]) -> bool
         ensures { self.new.faults ≡ self.old.faults }
     {
@@ -126,7 +126,7 @@ impl<R: Processes<Started = SystemProcess> + Wait + Clock + Copy + Drop> ChildOu
         }
     }
 
-    /// Closes the input of the program that stands here, gives it two seconds to end, and ends it by force then.
+    /// Closes the input of the current program. If the program doesn't end within two seconds, kills it.
     fn end_program(&mut self)
         ensures { self.new.faults ≡ self.old.faults }
     {
@@ -141,7 +141,7 @@ impl<R: Processes<Started = SystemProcess> + Wait + Clock + Copy + Drop> ChildOu
     }
 }
 
-/// Whether the program ends by itself within its grace.
+/// Returns whether the program ends by itself within two seconds.
 fn has_ended<R: Clock>(rt: &R, child: &mut Child<SystemProcess>) -> bool {
     for _ in 0..GRACE_LOOKS {
         match child.try_wait() {
@@ -160,7 +160,7 @@ fn put_line(input: &mut ChildStdin, bytes: &[u8]) -> bool {
     put_all(input, bytes) && put_all(input, b"\n")
 }
 
-/// Puts a line that goes into one piece with its newline.
+/// Writes a line that fits into one piece with its newline.
 fn put_short(input: &mut ChildStdin, bytes: &[u8]) -> bool
     requires { length bytes.now < 4096 }
 {
@@ -171,7 +171,7 @@ fn put_short(input: &mut ChildStdin, bytes: &[u8]) -> bool
     put_all(input, &piece[..bytes.len() + 1])
 }
 
-/// Puts all bytes, piece by piece.
+/// Writes all bytes, piece by piece.
 fn put_all(input: &mut ChildStdin, bytes: &[u8]) -> bool {
     let mut rest = bytes;
     for _ in 0..u64::MAX {
@@ -186,7 +186,7 @@ fn put_all(input: &mut ChildStdin, bytes: &[u8]) -> bool {
     false
 }
 
-/// Puts some bytes of the next piece and says how many, or that the program takes nothing.
+/// Writes some bytes of the next piece, and returns their number. If the program takes nothing, returns `None`.
 fn put_some(input: &mut ChildStdin, rest: &[u8]) -> Option<usize>
     requires { 0 < length rest.now }
     ensures { IfSome result (λ count. (0 < count) × (count ≤ length rest.now)) }

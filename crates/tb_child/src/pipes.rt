@@ -9,14 +9,14 @@ use std::process::{Processes, SystemProcess};
 use std::sync::{Arc, Wait};
 use std::time::Clock;
 
-/// The two ends of a lane on which child programs stand.
+/// The two ends of a lane whose tools are child programs.
 #[derive(Drop)]
 pub struct ChildPair<R> {
     pub inlet: ChildInlet<R>,
     pub outlet: ChildOutlet<R>,
 }
 
-/// A lane on which no program stands yet. Each end keeps the runtime, of which it needs its part.
+/// Makes a lane without a program. Each end keeps a copy of the runtime.
 pub fn child_pair<R: Processes<Started = SystemProcess> + Wait + Clock + Copy + Drop>(
     alloc: Global,
     rt: R,
@@ -29,7 +29,7 @@ pub fn child_pair<R: Processes<Started = SystemProcess> + Wait + Clock + Copy + 
     })
 }
 
-/// Makes this many lanes, without a program on any.
+/// Makes `n` lanes without programs.
 pub fn child_lanes<R: Processes<Started = SystemProcess> + Wait + Clock + Copy + Drop>(
     alloc: Global,
     rt: R,

@@ -1,15 +1,17 @@
-//! Whether a pipe may be read or written without waiting.
+//! Whether a pipe can be read or written without waiting.
 
 use libc::net::{POLLIN, POLLOUT, poll};
 use libc::types::pollfd;
 use std::os::fd::AsRawFd;
 
-/// Waits until there is something to be read, or the other side has closed the pipe, so many milliseconds at most.
+/// Waits until there are bytes to read, or the other side has closed the pipe, at most `millis` milliseconds. Returns whether a read
+/// doesn't wait.
 pub fn can_read<F: AsRawFd>(pipe: &F, millis: i32) -> bool {
     is_ready(pipe.as_raw_fd(), POLLIN, millis)
 }
 
-/// Waits until something may be written, or the other side has closed the pipe, so many milliseconds at most.
+/// Waits until bytes can be written, or the other side has closed the pipe, at most `millis` milliseconds. Returns whether a write
+/// doesn't wait.
 pub fn can_write<F: AsRawFd>(pipe: &F, millis: i32) -> bool {
     is_ready(pipe.as_raw_fd(), POLLOUT, millis)
 }

@@ -4,8 +4,8 @@ use std::alloc::Global;
 use std::io;
 use std::process::{Child, Command, Processes, Stdio, SystemProcess};
 
-/// Starts the program of a command, which is parted at blanks, tabs and ends of lines: the first word is the
-/// program, the others are its arguments. Its input and output are pipes; its standard error is the bus's own.
+/// Starts the program of a command. The command is split on whitespace: the first part is the program, and the others are its
+/// arguments. The program's input and output are pipes. Its standard error is that of the bus.
 pub fn start<R: Processes<Started = SystemProcess>>(
     rt: &R,
     alloc: Global,

@@ -1,11 +1,11 @@
-//! The words of the program's own command line.
+//! The arguments of the program's own command line.
 
 use std::env::Env;
 use std::io::ErrorKind;
 use std::{env, io};
 
-/// Returns the words of the command line, without the program's name. If one isn't UTF-8, a word that is no string
-/// of a script and names no command stands for all of them.
+/// Returns the arguments of the command line, without the program's name. If an argument isn't UTF-8, returns one argument in place of
+/// all: it is no string of a script and names no command, so the program rejects it.
 pub fn command_words<R: Env + AllocGlobal>(rt: &R) -> io::Result<Vec<String>> {
     let mut words = Vec::new(rt.alloc());
     match env::args(rt) {

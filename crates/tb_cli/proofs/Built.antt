@@ -37,7 +37,7 @@ value-built (Number least most) first position word =
 value-built (Factor most) first position word =
     number-built (is_digits word) (nat_le 1 (digits_value word) && nat_le (digits_value first * digits_value word) most) position
 
--- what the value is
+-- the kind of a value
 
 operand-built : (found : Option Kind) (position : ℕ) → IsBuilt Kind (operand_kind found position)
 operand-built None position place e = absurd cc
@@ -106,7 +106,7 @@ pub never_unbuilt : (words : List (List ℕ)) (place : ℕ) → asked words ≡ 
 never_unbuilt [] place e = absurd cc
 never_unbuilt (word ∷ words) place e = asked_by-built (row_named word) words place e
 
--- what is read of them: if memory doesn't run out, an error is their own
+-- The answer of the reader isn't that error either: if memory doesn't run out, its error is the error of the arguments.
 pub read-built : (words : List (List ℕ)) (result : Result Command WordFault) → IfErr result (λ f. f ≢ fault.NoMemory → asked words ≡ Err f) → IsBuilt Command result
 read-built words (Ok command) told place e = absurd cc
 read-built words (Err f) told place e =
@@ -114,7 +114,7 @@ read-built words (Err f) told place e =
     let other : f ≢ fault.NoMemory = λ none. absurd cc in
     never_unbuilt words place (told other ∙ ap Err same)
 
--- the same of the arguments of a pair
+-- the arguments of a pair
 
 made_pair-built : (parts : List Part) (answer : Answer) → IsBuilt ⊤ answer → IsBuilt PairCommand (made_pair parts answer)
 made_pair-built parts (Ok fine) built place e = absurd cc

@@ -35,7 +35,7 @@ other_asked = refl
 option_first : asked (codes "--steps" ∷ codes "5" ∷ codes "sim" ∷ []) ≡ Err (Unknown 1)
 option_first = refl
 
--- the script lacks
+-- the script is missing
 check_bare : asked (codes "check" ∷ []) ≡ Err Missing
 check_bare = refl
 
@@ -99,7 +99,7 @@ connect_odd = refl
 check_connect : asked (codes "check" ∷ codes "--connect" ∷ codes "k" ∷ []) ≡ Err (Unknown 2)
 check_connect = refl
 
--- so many times this option with a value
+-- the arguments that give this option with a value that many times
 abbrev connecting : ℕ → List (List ℕ) → List (List ℕ)
 connecting zero words = words
 connecting (suc n) words = codes "--connect" ∷ codes "k" ∷ connecting n words
@@ -122,7 +122,7 @@ no_value = refl
 option_as_value : asked (codes "sim" ∷ codes "--steps" ∷ codes "--steps" ∷ codes "5" ∷ []) ≡ Err (Number 3)
 option_as_value = refl
 
--- what is no number
+-- values that aren't numbers
 signed_steps : asked (codes "sim" ∷ codes "a.tb" ∷ codes "--steps" ∷ codes "+5" ∷ []) ≡ Err (Number 4)
 signed_steps = refl
 
@@ -145,7 +145,7 @@ past_most = refl
 far_past : asked (codes "sim" ∷ codes "--steps" ∷ codes "18446744073709551617" ∷ codes "a.tb" ∷ []) ≡ Err (Range 3)
 far_past = refl
 
--- the first of two faults
+-- the first of two errors
 extra_then_range : asked (codes "sim" ∷ codes "a.tb" ∷ codes "b.tb" ∷ codes "--steps" ∷ codes "0" ∷ []) ≡ Err (Extra 3)
 extra_then_range = refl
 
@@ -179,7 +179,7 @@ extra_before = refl
 other_digit : asked (codes "sim" ∷ codes "--steps" ∷ (217 ∷ 161 ∷ []) ∷ []) ≡ Err (Number 3)
 other_digit = refl
 
--- what lacks comes last
+-- a missing operand or value is reported last
 missing_last : asked (codes "sim" ∷ codes "--steps" ∷ codes "0" ∷ []) ≡ Err (Range 3)
 missing_last = refl
 

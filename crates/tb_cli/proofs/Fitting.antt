@@ -1,4 +1,4 @@
--- The values of arguments without an error are what they should be.
+-- The values of arguments that have no error fit the kinds of their form.
 use Rattle.std.proofs.Common.{◌≡◌, ◌≤◌, ◌<◌, ◌&&◌, ◌*◌, ◌+◌, ℕ, zero, suc, Bool, true, false, if◌then◌else◌, nat_le, bytes_eq, List, [], ◌∷◌, ◌++◌, length, get_or, slice_get, take, Option, Some, None, IsTrue, Result, Ok, Err, refl, sym, ap, subst, ◌∙◌, ◌⊎◌, inl, inr, ◌^◌, ◌-◌, min, arith}
 use Rattle.std.proofs.lemmas.Bool.{and_parts, leb-true, leb-false}
 use Rattle.std.proofs.lemmas.List.{append-nil, append_assoc, length-append}
@@ -40,7 +40,7 @@ value-fits (Factor most) before position value e =
     let product = digits_value (get_or before 0 []) * digits_value value in
     both 1 (digits_value value) product most (number-fits (is_digits value) (nat_le 1 (digits_value value) && nat_le product most) position e)
 
--- one value more
+-- values with one more value at the end
 
 all-snoc : (kind : Kind) (before values : List (List ℕ)) (value : List ℕ) → AllFit kind before values → Fits kind (before ++ values) value → AllFit kind before (values ++ value ∷ [])
 all-snoc kind before [] value all fit = (subst (λ (b : List (List ℕ)). Fits kind b value) (append-nil before) fit, tt)
@@ -56,7 +56,7 @@ operands-snoc (other ∷ kinds) before [] value kind all at fit =
 operands-snoc (other ∷ kinds) before (first ∷ values) value kind all at fit =
     (all.0, operands-snoc kinds (before ++ first ∷ []) values value kind all.1 at (subst (λ (b : List (List ℕ)). Fits kind b value) (sym (append_assoc before (first ∷ []) values)) fit))
 
--- an answer of a part
+-- the answer for a part
 
 checked-kind : (kind : Result Kind WordFault) (before : List (List ℕ)) (position : ℕ) (value : List ℕ) → checked_value kind (get_or before 0 []) position (Some value) ≡ Ok tt → (k : Kind) × (kind ≡ Ok k) × Fits k before value
 checked-kind (Ok k) before position value e = (k, refl, value-fits k before position value e)
@@ -161,7 +161,7 @@ part-fine form before position (AWord word) fine e = word-fine form before posit
 part-fine form before position (AnOption name (Some value)) fine e = option-fine form before position name value fine e
 part-fine form before position (AnOption name None) fine e = absurd (bare form before position name e)
 
--- an answer and the next one
+-- If two answers together have no error, neither of them has one.
 both-fine : (first next : Answer) → and_then first next ≡ Ok tt → (first ≡ Ok tt) × (next ≡ Ok tt)
 both-fine (Ok tt) next e = (refl, e)
 both-fine (Err f) next e = absurd cc
@@ -211,7 +211,7 @@ option_fits form parts option fits named = fits.option option named
 pub operand_fits : (form : Form) (parts : List Part) (place : ℕ) (kind : Kind) → FormFits form parts → slice_get form.operands place ≡ Some kind → OperandFits place kind parts
 operand_fits form parts place kind fits at = fits.operand place kind at
 
--- of all values of an option, each
+-- each value of an option fits
 
 fit-at : (kind : Kind) (before values : List (List ℕ)) (i : ℕ) (value : List ℕ) → AllFit kind before values → slice_get values i ≡ Some value → Fits kind (before ++ take i values) value
 fit-at kind before [] i value all at = absurd cc
@@ -231,14 +231,14 @@ number-is kind.Command value number fit = absurd number
 number-is (Factor most) value number fit = absurd number
 number-is (Number least most) value number fit = (omega (arith, number, fit.1), fit)
 
--- a number that is cut off at the greatest of 64 bits
+-- a number that is limited to the greatest number of 64 bits
 pub number-told : (n : ℕ) (value : List ℕ) → n ≡ min (digits_value value) (2 ^ 64 - 1) → digits_value value < 2 ^ 32 → n ≡ digits_value value
 number-told n value told small = told ∙ min-eq_left (omega (arith, small))
 
 pub number-at : (kind : Kind) (values : List (List ℕ)) (value : List ℕ) → IsNumber kind → AllFit kind [] values → Some value ≡ slice_get values 0 → (digits_value value < 2 ^ 32) × IsIn kind (digits_value value)
 number-at kind values value number all at = number-is kind value number (fit-at kind [] values 0 value all (sym at))
 
--- of the two operands of a ring, both numbers
+-- the ranges of both operands of a ring
 pub record RingNumbers (n k : ℕ) : Type 0 where
   pub processes : (2 ≤ n) × (n ≤ 10000)
   pub rounds : (1 ≤ k) × (n * k ≤ 1000000)

@@ -22,14 +22,14 @@ options_anywhere = refl
 options_behind : asked_pair (codes "a.tb" ∷ codes "b.tb" ∷ codes "--ticks" ∷ codes "010" ∷ []) ≡ Ok (both 10 1000000)
 options_behind = refl
 
--- one script lacks, or both
+-- one script is missing, or both
 one_word : asked_pair (codes "a.tb" ∷ []) ≡ Err Missing
 one_word = refl
 
 option_alone : asked_pair (codes "--ticks" ∷ codes "5" ∷ []) ≡ Err Missing
 option_alone = refl
 
--- the value of an option lacks
+-- the value of an option is missing
 no_value : asked_pair (codes "a.tb" ∷ codes "b.tb" ∷ codes "--ticks" ∷ []) ≡ Err Missing
 no_value = refl
 
@@ -84,7 +84,7 @@ most_events = refl
 past_events : asked_pair (codes "a.tb" ∷ codes "--events" ∷ codes "4000001" ∷ codes "b.tb" ∷ []) ≡ Err (Range 3)
 past_events = refl
 
--- the first of two faults
+-- the first of two errors
 number_then_extra : asked_pair (codes "a.tb" ∷ codes "b.tb" ∷ codes "--ticks" ∷ codes "x" ∷ codes "c.tb" ∷ []) ≡ Err (Number 4)
 number_then_extra = refl
 

@@ -49,7 +49,7 @@ pub asked-within : (words : List (List ℕ)) (command : Command) → asked words
 asked-within [] command e = absurd cc
 asked-within (word ∷ words) command e = found-within (row_named word) words command (row-by word) e
 
--- the same of the arguments of a pair
+-- the arguments of a pair
 
 pub pair-within : (parts : List Part) → FormFits pair parts → IsPairWithin (make_pair parts)
 pair-within parts fits = (

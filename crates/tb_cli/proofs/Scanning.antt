@@ -1,4 +1,4 @@
--- How arguments fall into parts, from any of them on, and up to any of them.
+-- How arguments are split into parts: the parts from an argument on, and the parts before an argument.
 use Rattle.std.proofs.Common.{Bor, Global, String, string_bytes, map, option_map, option_copied, IfSome, ◌≤◌, ◌≡◌, ◌-◌, option_to_list, ℕ, zero, suc, ◌+◌, ◌<◌, Bool, true, false, if◌then◌else◌, List, [], ◌∷◌, ◌++◌, Option, Some, None, Result, Ok, Err, slice_get, get_or, take, drop, length, refl, sym, ap, subst, ◌∙◌, arith}
 use Rattle.std.specs.Option.{MatchOption}
 use Rattle.std.specs.List.{HoldsAt}
@@ -22,12 +22,12 @@ first-drop [] (suc i) = refl
 first-drop (word ∷ words) zero = refl
 first-drop (word ∷ words) (suc i) = first-drop words i
 
--- what a look-up finds
+-- the item that a look-up finds
 pub looked-up : {X : Type 0} (found : Option (Bor X)) (xs : List X) (i : ℕ) → IfSome found (λ x. x.now ≡ get_or xs i x.now) → MatchOption found (length xs ≤ i) (λ x. (i < length xs) × HoldsAt (λ y. x.now ≡ y) xs i) → option_copied found ≡ slice_get xs i
 looked-up None xs i same past = sym (slice_get_past xs i past)
 looked-up (Some x) xs i same within = sym (slice_get_read xs (length xs) i x.now refl within.0 same)
 
--- the same of the bytes of arguments
+-- the bytes of the argument that a look-up finds
 pub bytes-looked-up : (found : Option (Bor (String Global))) (words : List (String Global)) (i : ℕ) → IfSome found (λ x. x.now ≡ get_or words i x.now) → MatchOption found (length words ≤ i) (λ x. (i < length words) × HoldsAt (λ y. x.now ≡ y) words i) → option_map string_bytes (option_copied found) ≡ slice_get (map string_bytes words) i
 bytes-looked-up found words i same matched = ap (option_map string_bytes) (looked-up found words i same matched) ∙ sym (slice_get-map string_bytes words i)
 
@@ -35,7 +35,7 @@ bytes-looked-up found words i same matched = ap (option_map string_bytes) (looke
 pub bytes-read : (words : List (String Global)) (i : ℕ) (word : String Global) (bytes : List ℕ) → i < length words → word ≡ get_or words i word → bytes ≡ string_bytes word → bytes ≡ get_or (map string_bytes words) i []
 bytes-read words i word bytes within read same = same ∙ ap string_bytes read ∙ sym (get_or-map string_bytes words i word [] within)
 
--- the first part of some arguments, and those after it
+-- the first part of arguments, and the parts after it
 parts-prefix : (word : List ℕ) (words : List (List ℕ)) → parts_of (word ∷ words) ≡ part_of word (first_of words) ∷ parts_of (drop (part_len word) (word ∷ words))
 parts-prefix word [] = by (is_option word) where
   by : (b : Bool) → (if b then AnOption word None ∷ [] else AWord word ∷ []) ≡ (if b then AnOption word None else AWord word) ∷ parts_of (drop (if b then 2 else 1) (word ∷ []))
@@ -46,7 +46,7 @@ parts-prefix word (next ∷ words) = by (is_option word) where
   by true = refl
   by false = refl
 
--- the part that begins at an argument, and those after it
+-- the part that begins at an argument, and the parts after it
 pub parts-at : (words : List (List ℕ)) (i : ℕ) (word : List ℕ) → i < length words → word ≡ get_or words i [] → parts_of (drop i words) ≡ part_of word (slice_get words (i + 1)) ∷ parts_of (drop (i + part_len word) words)
 parts-at words i word within is =
     let prefix : drop i words ≡ word ∷ drop (i + 1) words = drop_more words i [] within ∙ ap (λ (w : List ℕ). w ∷ drop (i + 1) words) (sym is) in
@@ -56,7 +56,7 @@ parts-at words i word within is =
     ∙ ap (λ (next : Option (List ℕ)). part_of word next ∷ parts_of (drop (part_len word) (word ∷ drop (i + 1) words))) (sym (first-drop words (i + 1)))
     ∙ ap (λ (others : List (List ℕ)). part_of word (slice_get words (i + 1)) ∷ parts_of others) rest
 
--- what the parts from an argument on give under a name
+-- the values that the parts from an argument on give under a name
 pub given-at : (name : Option (List ℕ)) (words : List (List ℕ)) (i len : ℕ) (word : List ℕ) (next : Option (List ℕ)) → i < length words → word ≡ get_or words i [] → len ≡ part_len word → next ≡ slice_get words (i + 1) →
     given name (parts_of (drop i words)) ≡ given_by name (part_of word next) ++ given name (parts_of (drop (i + len) words))
 given-at name words i len word next within is size comes =
@@ -65,11 +65,11 @@ given-at name words i len word next within is size comes =
     ∙ ap (λ (n : Option (List ℕ)). given_by name (part_of word n) ++ rest) (sym comes)
     ∙ ap (λ (n : ℕ). given_by name (part_of word next) ++ given name (parts_of (drop (i + n) words))) (sym size)
 
--- arguments that end where a part ends
+-- arguments whose end is the end of a part
 abbrev pub IsWhole : List (List ℕ) → Type 0
 IsWhole before = (rest : List (List ℕ)) → parts_of (before ++ rest) ≡ parts_of before ++ parts_of rest
 
--- arguments that are the arguments of one part
+-- arguments that make up one part
 abbrev IsChunk : List (List ℕ) → Part → Type 0
 IsChunk chunk part = (rest : List (List ℕ)) → parts_of (chunk ++ rest) ≡ part ∷ parts_of rest
 
@@ -107,7 +107,7 @@ bare-faulty form before position name fine = by fine where
     none (Ok kind) h = absurd cc
     none (Err f) h = absurd cc
 
--- the arguments up to a part without an error, and those up to its end
+-- the arguments before a part that has no error, and the arguments up to its end
 pub part-behind : (form : Form) (values : List (List ℕ)) (words : List (List ℕ)) (i position : ℕ) (word : List ℕ) (next : Option (List ℕ)) → i < length words → word ≡ get_or words i [] → next ≡ slice_get words (i + 1) → IsWhole (take i words) →
     part_answer form values position (part_of word next) ≡ Ok tt → Advanced (take i words) (take (i + part_len word) words) (part_of word next)
 part-behind form values words i position word next within is comes whole fine = by (is_option word) refl next comes fine where
@@ -136,7 +136,7 @@ size-of word next = by (is_option word) where
   by true = refl
   by false = refl
 
--- The part that begins at an argument has an answer, and so have all parts from it on.
+-- The answer for all parts from an argument on: the error of the first of these parts, or else the answer for the others.
 pub parts-answered : (form : Form) (words : List (List ℕ)) (first i : ℕ) (word : List ℕ) (next : Option (List ℕ)) (whole : Answer) → i < length words → word ≡ get_or words i [] → next ≡ slice_get words (i + 1) →
     parts_answer form (parts_of (take i words)) (i + first) (parts_of (drop i words)) ≡ whole →
     and_then (part_answer form (given (name_of (part_of word next)) (parts_of (take i words))) (i + first) (part_of word next)) (parts_answer form (parts_of (take i words) ++ part_of word next ∷ []) (i + first + part_len word) (parts_of (drop (i + part_len word) words))) ≡ whole
@@ -149,7 +149,7 @@ parts-answered form words first i word next whole within is comes all =
     ∙ ap (parts_answer form before (i + first)) (sym (parts-at words i word within is))
     ∙ all
 
--- what is found of the values that one part gives and those after it
+-- the value that a search finds among the values of one part and of the parts after it
 
 pub found-first : (value : Option (List ℕ)) (rest : List (List ℕ)) (left : ℕ) → is_found value left ≡ true → slice_get (option_to_list value ++ rest) left ≡ value
 found-first None rest left found = absurd cc
@@ -161,21 +161,21 @@ found-later None rest left other = let same : left ≡ left - 0 = omega arith in
 found-later (Some value) rest zero other = absurd cc
 found-later (Some value) rest (suc left) other = let same : left ≡ suc left - 1 = omega arith in ap (slice_get rest) same
 
--- a part has an argument
+-- a part has at least one argument
 pub part_len-some : (word : List ℕ) → 1 ≤ part_len word
 part_len-some word = by (is_option word) where
   by : (b : Bool) → 1 ≤ (if b then 2 else 1)
   by true = omega arith
   by false = omega arith
 
--- arguments to which bytes belong, up to one of them
+-- the bytes of the first arguments
 pub bytes-taken : (words : List (String Global)) (i : ℕ) → map string_bytes (take i words) ≡ take i (map string_bytes words)
 bytes-taken [] zero = refl
 bytes-taken [] (suc i) = refl
 bytes-taken (word ∷ words) zero = refl
 bytes-taken (word ∷ words) (suc i) = ap (λ (rest : List (List ℕ)). string_bytes word ∷ rest) (bytes-taken words i)
 
--- all values, where there is none at this place
+-- if there is no value at this place, the first values up to this place are all
 pub taken-all : (values : List (List ℕ)) (place : ℕ) → slice_get values place ≡ None → take place values ≡ values
 taken-all [] zero none = refl
 taken-all [] (suc place) none = refl

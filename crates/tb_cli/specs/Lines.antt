@@ -1,4 +1,4 @@
--- The text of the line of an error in the arguments, at its argument.
+-- The text of the line that reports an error in the arguments, with the position of the argument if the error has one.
 use Rattle.std.specs.Prelude.{ℕ, List, ◌++◌, codes}
 use Rattle.std.specs.Fmt.{decimal}
 use Rattle.tb_cli.specs.declared.fault.WordFault.{WordFault}

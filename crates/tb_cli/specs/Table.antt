@@ -1,4 +1,5 @@
--- The commands. Each has a row, which says how its arguments are read, and one way in which it is made of their values. The arguments of a pair have no command and a form of their own.
+-- The table of commands. Each command has a row, which says how its arguments are read, and one way to make the command of their values.
+-- The arguments of a pair have a form of their own, without a command.
 use Rattle.std.specs.Prelude.{ℕ, List, [], ◌∷◌, Option, Some, None, find, get_or, slice_get, codes, bytes_eq, length, ◌≤◌, ◌*◌, ⊤}
 use Rattle.tb_read.specs.Spelling.{digits_value}
 use Rattle.tb_cli.specs.declared.command.Command.{Command}
@@ -59,7 +60,7 @@ run = record { verb = verb.Run; word = codes "run"; form = record { operands = F
 abbrev pub verify : Row
 verify = record { verb = verb.Verify; word = codes "verify"; form = record { operands = File ∷ File ∷ []; options = connect ∷ [] } }
 
--- a tool's name is read as that of a file is
+-- the name of a tool is read like the name of a file
 abbrev pub iface : Row
 iface = record { verb = verb.Iface; word = codes "iface"; form = record { operands = File ∷ File ∷ []; options = [] } }
 
@@ -73,34 +74,38 @@ pair = record { operands = File ∷ File ∷ []; options = ticks ∷ events ∷ 
 abbrev pub table : List Row
 table = check ∷ sim ∷ run ∷ verify ∷ iface ∷ ring ∷ []
 
+-- the row of the command with this first argument
 abbrev pub row_named : List ℕ → Option Row
 row_named word = find (λ (row : Row). bytes_eq row.word word) table
 
+-- the first of these options with this name
 abbrev pub option_named : List Setting → List ℕ → Option Setting
 option_named options name = find (λ (option : Setting). bytes_eq option.name name) options
 
 -- the values of parts
 
+-- the operand at this place, from 0
 abbrev pub operand : ℕ → List Part → List ℕ
 operand place parts = get_or (operands_of parts) place []
 
--- the file of an option that may be given once
+-- the file that an option gives, if it is given
 abbrev pub file_of : Setting → List Part → Option (List ℕ)
 file_of option parts = slice_get (given (Some option.name) parts) 0
 
--- the commands of an option that may be given several times
+-- the commands that an option gives, in order
 abbrev pub commands_of : Setting → List Part → List (List ℕ)
 commands_of option parts = given (Some option.name) parts
 
+-- the number that these digits write, or the default if there are none
 abbrev pub number_or : ℕ → Option (List ℕ) → ℕ
 number_or usual None = usual
 number_or usual (Some digits) = digits_value digits
 
--- the number of an option that may be given once
+-- the number that an option gives, or its default
 abbrev pub number_of : Setting → List Part → ℕ
 number_of option parts = number_or option.usual (slice_get (given (Some option.name) parts) 0)
 
--- each command of its values
+-- the command that the values of these parts give
 abbrev pub make : Verb → List Part → Command
 make verb.Check parts = command.Check (operand 0 parts)
 make verb.Sim parts = command.Sim (operand 0 parts) (file_of feed parts) (commands_of connect parts) (number_of steps parts) (number_of events parts)
@@ -109,7 +114,7 @@ make verb.Verify parts = command.Verify (operand 0 parts) (operand 1 parts) (com
 make verb.Iface parts = command.Iface (operand 0 parts) (operand 1 parts)
 make verb.Ring parts = command.Ring (digits_value (operand 0 parts)) (digits_value (operand 1 parts))
 
--- a pair of its values
+-- the pair that the values of these parts give
 abbrev pub make_pair : List Part → PairCommand
 make_pair parts = record { first = operand 0 parts; second = operand 1 parts; ticks = number_of ticks parts; events = number_of events parts }
 
@@ -126,6 +131,6 @@ IsWithin (command.Verify script log commands) = length commands ≤ most_connect
 IsWithin (command.Iface script tool) = ⊤
 IsWithin (command.Ring n k) = ((2 ≤ n) × (n ≤ 10000)) × (1 ≤ k) × (n * k ≤ 1000000)
 
--- the same of a pair
+-- The numbers of a requested pair are in their ranges.
 abbrev pub IsPairWithin : PairCommand → Type 0
 IsPairWithin asked = (asked.ticks ≤ 10000000) × ((1 ≤ asked.events) × (asked.events ≤ 4000000))

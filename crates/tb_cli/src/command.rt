@@ -1,4 +1,4 @@
-//! The commands: the request of each, the row that says how its arguments are read, and how a command is made of their values.
+//! The commands: their requests, the rows of the table, and how a command is made of the values of its arguments.
 
 ghost use Rattle.std.specs.Prelude.{◌≡◌, map, option_map, option_copied, string_bytes, IfOk};
 ghost use Rattle.tb_cli.specs.Parts.{parts_of};
@@ -14,42 +14,56 @@ use tb_terms::{NoMemory, Text, Texts};
 /// The command that the arguments of the command line request.
 #[derive(Debug, Drop)]
 pub enum Command {
-    /// Whether the script in the file of this name is accepted.
+    /// A check whether a script is accepted.
     Check {
+        /// The name of the file with the script.
         script: Text,
     },
-    /// The log of the simulation of that script and of the feed in the file of this name, or of an empty feed. These commands are
-    /// connected. The simulation makes at most so many steps, and logs at most so many entries.
+    /// A simulation of a bus, whose log is written.
     Sim {
+        /// The name of the file with the script.
         script: Text,
+        /// The name of the file with the feed. Without one, the feed is empty.
         feed: Option<Text>,
+        /// The commands to connect, in order.
         connects: Texts,
+        /// The greatest number of steps.
         steps: u64,
+        /// The greatest number of entries of the log.
         events: u32,
     },
-    /// The log of a run of that script with live tools. These commands are connected. The clock ticks at most so many times, and at
-    /// most so many entries are logged.
+    /// A run of a bus with live tools, whose log is written.
     Run {
+        /// The name of the file with the script.
         script: Text,
+        /// The commands to connect, in order.
         connects: Texts,
+        /// The greatest number of ticks of the clock.
         ticks: u64,
+        /// The greatest number of entries of the log.
         events: u32,
     },
-    /// Whether the file of the name `log` is the text of a trace of that script, with these commands connected.
+    /// A check whether a file is the text of a trace of the script, with these commands connected.
     Verify {
+        /// The name of the file with the script.
         script: Text,
+        /// The name of the file with the log.
         log: Text,
+        /// The commands to connect, in order.
         connects: Texts,
     },
-    /// The interface of the tool of this name in that script: the lines that the tool may receive and send. Any string is accepted
-    /// as a name here.
+    /// The interface of a tool in a script: the lines that the tool can receive and send.
     Iface {
+        /// The name of the file with the script.
         script: Text,
+        /// The name of the tool. Any string is accepted as a name here.
         tool: Text,
     },
-    /// A summary of the simulation of a ring of `n` processes that a message goes round `k` times.
+    /// A simulation of a ring of `n` processes around which a message goes `k` times, and a summary of it.
     Ring {
+        /// The number of processes.
         n: u32,
+        /// The number of rounds.
         k: u32,
     },
 }
@@ -155,14 +169,14 @@ const RING: Row = Row {
 
 static TABLE: [Row; 6] = [CHECK, SIM, RUN, VERIFY, IFACE, RING];
 
-/// The row of the command with this first argument.
+/// Returns the row of the command with this first argument.
 pub(crate) fn row_named(word: &str) -> Option<&'static Row>
     ensures { option_map row_of (option_copied result) ≡ row_named word.now }
 {
     find_row(&TABLE, word)
 }
 
-/// Makes the command of this row, from the arguments after the first.
+/// Makes this command from the arguments after the first.
 pub(crate) fn make_command(alloc: Global, verb: Verb, words: &[String]) -> Result<Command, NoMemory>
     requires { FormFits (row_by verb).form (parts_of (map string_bytes words.now)) }
     ensures is { IfOk result

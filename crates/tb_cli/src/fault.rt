@@ -10,8 +10,9 @@ use tb_message::Message;
 pub enum WordFault {
     /// There were no arguments.
     NoCommand,
-    /// The argument at this position is no command, no option of its command, or isn't a string though it is the name of a file or of a
-    /// tool, or a command to connect.
+    /// The first argument isn't a command (then the position is 1), or the option at this position is none of the command's options. Or
+    /// the argument at this position gives the name of a file or of a tool, or a command to connect, and isn't a string. The arguments of
+    /// a pair have no command.
     Unknown(usize),
     /// An operand is missing, or the value of an option.
     Missing,
@@ -21,15 +22,15 @@ pub enum WordFault {
     Number(usize),
     /// The number at this position is out of its range, or the option there is the seventeenth `--connect`.
     Range(usize),
-    /// Out of memory. This says nothing of the arguments.
+    /// Memory ran out. The arguments may have no error.
     NoMemory,
-    /// The argument at this position names a command or an option that a later version builds. It never comes: every command and each
-    /// of its options is built.
+    /// The argument at this position names a command or an option that isn't built yet. This error never comes: every command and each of
+    /// its options is built.
     NotBuilt(usize),
 }
 
 impl WordFault {
-    /// The words of its line.
+    /// Returns the text of the line that reports this error, without a newline.
     pub fn message(&self) -> Message<'static>
         ensures { message_text result ≡ word_line self.now }
     {

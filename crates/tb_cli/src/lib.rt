@@ -1,4 +1,4 @@
-//! The arguments of the command line, and those of a pair.
+//! The arguments of the command line, and the arguments of a pair.
 #![tactic(auto)]
 
 mod command;

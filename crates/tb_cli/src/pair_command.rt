@@ -1,4 +1,4 @@
-//! The pair that arguments request, and how they are read.
+//! The pair that arguments request, and the form of these arguments.
 
 ghost use Rattle.std.specs.Prelude.{◌≡◌, map, string_bytes, IfOk};
 ghost use Rattle.tb_cli.specs.Parts.{parts_of};
@@ -14,9 +14,9 @@ use tb_terms::{NoMemory, Text};
 /// The pair that arguments request.
 #[derive(Drop)]
 pub struct PairCommand {
-    /// The name of the file that has the script of the first bus.
+    /// The name of the file with the script of the first bus.
     pub first: Text,
-    /// The name of the file that has the script of the second bus.
+    /// The name of the file with the script of the second bus.
     pub second: Text,
     /// The greatest number of ticks.
     pub ticks: u64,
@@ -29,7 +29,7 @@ pub(crate) static PAIR: Form = Form {
     options: &[TICKS, EVENTS],
 };
 
-/// The pair of arguments without an error.
+/// Makes the pair of arguments that have no error.
 pub(crate) fn make_pair(alloc: Global, words: &[String]) -> Result<PairCommand, NoMemory>
     requires { FormFits pair (parts_of (map string_bytes words.now)) }
     ensures is { IfOk result

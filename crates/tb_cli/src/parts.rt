@@ -1,10 +1,10 @@
-//! How the arguments after the first are split into parts, and the values of the parts.
+//! Splits arguments into parts (options with their values, and operands), and finds the values of the parts.
 
 ghost use Rattle.std.specs.Prelude.{◌≡◌, ◌≤◌, [], map, length, string_bytes, option_map, option_copied, option_to_list, slice_get, get_or, unwrap_or, Some};
 ghost use Rattle.tb_cli.specs.Parts.{is_option, parts_of, given_by, given};
 ghost use Rattle.tb_cli.specs.Helpers.Scanning.{part_of, part_len, is_found};
 
-/// The name of the operands, which have none.
+/// The name under which operands are looked up: they have none.
 pub(crate) const OPERANDS: Option<&str> = None;
 
 pub(crate) fn is_option(word: &str) -> bool
@@ -13,14 +13,14 @@ pub(crate) fn is_option(word: &str) -> bool
     word.as_bytes().starts_with(b"--")
 }
 
-/// The number of arguments of the part that begins with this one.
+/// Returns the number of arguments of the part that begins with this one.
 pub(crate) fn part_len(word: &str) -> usize
     ensures { result ≡ part_len word.now }
 {
     if is_option(word) { 2 } else { 1 }
 }
 
-/// The value under this name of the part that begins with this argument.
+/// Returns the value that the part which begins with `word` gives under this name. `next` is the argument after `word`.
 fn value_under<'w>(word: &'w str, next: Option<&'w String>, name: Option<&str>) -> Option<&'w str>
     ensures { option_to_list (option_copied result) ≡ given_by (option_copied name.entry)
         (part_of word.now (option_map string_bytes (option_copied next.entry))) }
@@ -42,7 +42,7 @@ fn option_under<'w>(word: &str, next: Option<&'w String>, name: &str) -> Option<
     }
 }
 
-/// The number of values under this name.
+/// Returns the number of values under this name.
 pub(crate) fn count_values(words: &[String], name: Option<&str>) -> usize
     ensures { result
         ≡ length (given (option_copied name.entry) (parts_of (map string_bytes words.now))) }
@@ -64,7 +64,7 @@ fn count_value(value: Option<&str>) -> usize
     if value.is_some() { 1 } else { 0 }
 }
 
-/// The value at this place, from 0, of those under this name.
+/// Returns the value at this place, from 0, among the values under this name.
 pub(crate) fn find_value<'w>(
     words: &'w [String],
     name: Option<&str>,
@@ -96,7 +96,7 @@ fn is_found(value: Option<&str>, left: usize) -> bool
     }
 }
 
-/// The same, or an empty one if there is none at this place.
+/// Returns the value at this place among the values under this name, or an empty string if there is none.
 pub(crate) fn find_or_empty<'w>(words: &'w [String], name: Option<&str>, place: usize) -> &'w str
     ensures { result.now ≡ get_or
         (given (option_copied name.entry) (parts_of (map string_bytes words.now))) place [] }

@@ -1,4 +1,4 @@
-//! How the arguments of the command line are read, and those of a pair.
+//! The reader of the arguments of the command line, and of the arguments of a pair.
 
 ghost use Rattle.std.specs.Prelude.{◌≡◌, ◌≢◌, ℕ, ◌+◌, ◌≤◌, ◌<◌, ◌^◌, ◌&&◌, ◌*◌, [], length, map, slice_get, nat_le, string_bytes, option_map, option_copied, Ok, IsOk, IfOk, IfErr, OnOk, Err, Some};
 ghost use Rattle.tb_read.specs.Spelling.{is_digits, digits_value};
@@ -69,7 +69,7 @@ fn read_row(alloc: Global, row: &Row, words: &[String]) -> Result<Command, WordF
     }
 }
 
-/// Returns the pair that the arguments of a pair request: two scripts, and limits. They have no command.
+/// Returns the pair that these arguments request: two scripts, and limits. The first argument isn't a command.
 pub fn read_pair_words(alloc: Global, words: &Vec<String>) -> Result<PairCommand, WordFault>
     ensures ok { IfOk result
         (λ command. asked_pair (map string_bytes words.now.items) ≡ Ok command) }
@@ -93,7 +93,7 @@ pub fn read_pair_words(alloc: Global, words: &Vec<String>) -> Result<PairCommand
     read_pair(alloc, words)
 }
 
-/// The same, wherever the arguments come from.
+/// Returns the pair that these arguments request. There is at least one argument.
 fn read_pair(alloc: Global, words: &[String]) -> Result<PairCommand, WordFault>
     ensures ok { IfOk result (λ command. made_pair (parts_of (map string_bytes words.now))
         (form_answer pair 1 (parts_of (map string_bytes words.now))) ≡ Ok command) }
@@ -112,7 +112,7 @@ fn read_pair(alloc: Global, words: &[String]) -> Result<PairCommand, WordFault>
     }
 }
 
-/// Returns the error in arguments of this form, if there is one. The first argument is at position `first`.
+/// Returns the first error in arguments of this form. The first argument is at position `first`.
 fn check_form(form: &Form, first: usize, words: &[String]) -> Result<(), WordFault>
     requires { first ≤ 2 }
     ensures is { result
@@ -123,6 +123,7 @@ fn check_form(form: &Form, first: usize, words: &[String]) -> Result<(), WordFau
     check_whole(form, words)
 }
 
+/// Returns `Missing` if the arguments have fewer operands than the form.
 fn check_whole(form: &Form, words: &[String]) -> Result<(), WordFault>
     ensures is { result ≡ whole_answer (form_of form.now) (parts_of (map string_bytes words.now)) }
     ensures told { result ≢ Err WordFault.NoMemory }
@@ -134,7 +135,7 @@ fn check_whole(form: &Form, words: &[String]) -> Result<(), WordFault>
     }
 }
 
-/// Returns the error in one of the parts of the arguments, if there is one.
+/// Returns the first error in a part of the arguments. A missing operand isn't an error of a part.
 fn check_parts(form: &Form, first: usize, words: &[String]) -> Result<(), WordFault>
     requires { first ≤ 2 }
     ensures is { result
@@ -150,7 +151,7 @@ fn check_parts(form: &Form, first: usize, words: &[String]) -> Result<(), WordFa
     Ok(())
 }
 
-/// The part that begins with this argument, after others.
+/// Returns the error of the part that begins with `word`, if it has one. `before` has the earlier arguments.
 fn check_part(
     form: &Form,
     first: usize,
@@ -173,6 +174,7 @@ fn check_part(
     }
 }
 
+/// Returns the error of the operand `word`, if it has one. `before` has the earlier arguments.
 fn check_operand(form: &Form, first: usize, before: &[String], word: &str) -> Result<(), WordFault>
     requires few { length before.now < 2 ^ 62 }
     requires first { first ≤ 2 }
@@ -187,7 +189,7 @@ fn check_operand(form: &Form, first: usize, before: &[String], word: &str) -> Re
     check_value(kind, earliest, position, word)
 }
 
-/// The kind of value of the operand at this position, after so many.
+/// Returns the kind of the operand at this position, after `place` other operands. If the form has no more operands, returns `Extra`.
 fn operand_kind(form: &Form, place: usize, position: usize) -> Result<Kind, WordFault>
     ensures is { result ≡ operand_kind (slice_get (form_of form.now).operands place) position }
     ensures told { result ≢ Err WordFault.NoMemory }
@@ -198,6 +200,7 @@ fn operand_kind(form: &Form, place: usize, position: usize) -> Result<Kind, Word
     }
 }
 
+/// Returns the error of an option and its value, if there is one. `before` has the earlier arguments.
 fn check_option(
     form: &Form,
     first: usize,
@@ -221,7 +224,8 @@ fn check_option(
     check_value(kind, earliest, position + 1, value.as_str())
 }
 
-/// The kind of value of the option of this name at this position. The option was given so many times before.
+/// Returns the kind of value of the option with this name. Returns an error if the form has no such option, or if the option was already
+/// given `times` times and can't be given again.
 fn option_kind(form: &Form, times: usize, position: usize, name: &str) -> Result<Kind, WordFault>
     ensures is { result
         ≡ setting_kind (option_named (form_of form.now).options name.now) times position }
@@ -237,7 +241,7 @@ fn option_kind(form: &Form, times: usize, position: usize, name: &str) -> Result
     }
 }
 
-/// How many times an option with such a value may be given.
+/// Returns how many times an option with such a value can be given.
 fn most_times(kind: Kind) -> usize
     ensures { result ≡ most_times kind }
 {
@@ -247,7 +251,7 @@ fn most_times(kind: Kind) -> usize
     }
 }
 
-/// The error of an option at this position that was already given as often as it may be.
+/// Returns the error of an option at this position that was already given as often as it can be.
 fn once_more(kind: Kind, position: usize) -> WordFault
     ensures is { result ≡ once_more kind position }
     ensures told { result ≢ WordFault.NoMemory }
@@ -258,7 +262,7 @@ fn once_more(kind: Kind, position: usize) -> WordFault
     }
 }
 
-/// The value at this position. The first value under the same name is `first`, or `first` is empty.
+/// Returns the error of the value at this position, if it has one. `first` is the first value under the same name, or empty.
 fn check_value(kind: Kind, first: &str, position: usize, word: &str) -> Result<(), WordFault>
     ensures is { result ≡ value_answer kind first.now position word.now }
     ensures told { result ≢ Err WordFault.NoMemory }
@@ -277,7 +281,7 @@ fn check_value(kind: Kind, first: &str, position: usize, word: &str) -> Result<(
     }
 }
 
-/// Whether the second number is 1 at least, and both multiplied are at most this.
+/// Returns whether the second number is at least 1, and the product of both is at most `most`.
 fn is_factor(first: &str, word: &str, most: u32) -> bool
     ensures { result ≡ nat_le 1 (digits_value word.now)
         && nat_le (digits_value first.now * digits_value word.now) most }

@@ -4,7 +4,7 @@ ghost use Rattle.std.specs.Prelude.{◌≡◌, option_map, option_copied, find, 
 ghost use Rattle.tb_cli.specs.Table.{Row as RowWords, option_named};
 ghost use Rattle.tb_cli.specs.Helpers.Tables.{row_of, setting_of};
 
-/// The command of the first argument.
+/// A command, as the first argument names it.
 #[derive(Clone, Copy)]
 pub(crate) enum Verb {
     Check,
@@ -24,11 +24,11 @@ pub(crate) enum Kind {
     Command,
     /// A number from `least` to `most`.
     Number { least: u32, most: u32 },
-    /// A number from 1. Multiplied by the operand before it, it is at most this.
+    /// A number from 1. Its product with the first value under the same name is at most `most`.
     Factor { most: u32 },
 }
 
-/// An option. If its value is a number, `usual` is the default.
+/// An option of a command: its name, and the kind of its value. If the value is a number, `usual` is the default.
 #[derive(Clone, Copy)]
 pub(crate) struct Setting {
     pub(crate) name: &'static str,
@@ -36,14 +36,14 @@ pub(crate) struct Setting {
     pub(crate) usual: u32,
 }
 
-/// How arguments are read: their operands in their order, and their options.
+/// The form of arguments: the kinds of their operands, in order, and their options.
 #[derive(Clone, Copy)]
 pub(crate) struct Form {
     pub(crate) operands: &'static [Kind],
     pub(crate) options: &'static [Setting],
 }
 
-/// How the arguments of a command are read: its first argument, and the form of those after it.
+/// A command: its first argument, and the form of the arguments after it.
 #[derive(Clone, Copy)]
 pub(crate) struct Row {
     pub(crate) verb: Verb,
@@ -51,7 +51,7 @@ pub(crate) struct Row {
     pub(crate) form: Form,
 }
 
-/// The row with this first argument among these.
+/// Returns the first of these rows whose first argument is this word, if there is one.
 pub(crate) fn find_row<'a>(rows: &'a [Row], word: &str) -> Option<&'a Row>
     ensures { option_map row_of (option_copied result)
         ≡ find (λ (row : RowWords). bytes_eq row.word word.now) (map row_of rows.now) }
@@ -64,7 +64,7 @@ pub(crate) fn find_row<'a>(rows: &'a [Row], word: &str) -> Option<&'a Row>
     None
 }
 
-/// The option with this name among these.
+/// Returns the first of these options with this name, if there is one.
 pub(crate) fn option_named<'a>(options: &'a [Setting], name: &str) -> Option<&'a Setting>
     ensures { option_map setting_of (option_copied result)
         ≡ option_named (map setting_of options.now) name.now }

@@ -1,4 +1,4 @@
-//! The values of arguments without an error.
+//! The values of arguments that have no error.
 
 ghost use Rattle.std.specs.Prelude.{◌≡◌, ◌≤◌, ◌<◌, ◌^◌, map, length, get_or, slice_get, string_bytes, option_copied, IsTrue, IfOk, OnOk, Some};
 ghost use Rattle.tb_read.specs.Spelling.{digits_value};
@@ -14,7 +14,7 @@ use std::alloc::Global;
 use tb_read::digits_value;
 use tb_terms::{Items, NoMemory, Text, Texts};
 
-/// The operand at this place, a string.
+/// Returns the operand at this place (from 0), a string.
 pub(crate) fn operand_text(alloc: Global, words: &[String], place: usize) -> Result<Text, NoMemory>
     requires { OperandFits place Kind.File (parts_of (map string_bytes words.now)) }
     ensures { IfOk result (λ text. text ≡ operand place (parts_of (map string_bytes words.now))) }
@@ -23,7 +23,7 @@ pub(crate) fn operand_text(alloc: Global, words: &[String], place: usize) -> Res
     make_text(alloc, word)
 }
 
-/// The operand at this place, a number.
+/// Returns the operand at this place (from 0), a number.
 pub(crate) fn operand_number(words: &[String], place: usize) -> u32
     requires { digits_value (operand place (parts_of (map string_bytes words.now))) < 2 ^ 32 }
     ensures { result ≡ digits_value (operand place (parts_of (map string_bytes words.now))) }
@@ -37,7 +37,7 @@ fn operand(words: &[String], place: usize) -> &str
     find_or_empty(words, OPERANDS, place)
 }
 
-/// The name of the file of this option, if it is given.
+/// Returns the name of the file that this option gives, if the option is given.
 pub(crate) fn option_file(
     alloc: Global,
     option: &Setting,
@@ -54,7 +54,7 @@ pub(crate) fn option_file(
     }
 }
 
-/// The commands of this option, in order.
+/// Returns the commands that this option gives, in order.
 pub(crate) fn option_commands(
     alloc: Global,
     option: &Setting,
@@ -75,7 +75,7 @@ pub(crate) fn option_commands(
     Ok(commands)
 }
 
-/// The number of this option, or the default.
+/// Returns the number that this option gives, or the default.
 pub(crate) fn option_number(option: &Setting, words: &[String]) -> u32
     requires kind { IsNumber option.now.kind }
     requires usual { IsIn option.now.kind option.now.usual }

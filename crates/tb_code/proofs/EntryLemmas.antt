@@ -1,4 +1,4 @@
--- What spans have of all entries, and which lists parts have.
+-- The entries within the spans of a code, and the lists of the parts of a term.
 use Rattle.std.proofs.Common.{◌≡◌, ℕ, true, false, zero, suc, ◌+◌, ◌<◌, ◌≤◌, List, [], ◌∷◌, ◌++◌, length, map, take, drop, slice_get, slice_set, Option, Some, None, option_map, refl, ap, sym, subst, ◌∙◌, arith, ◌⊎◌, inl, inr, append_assoc, length-append}
 use Rattle.std.proofs.lemmas.List.{append-nil, drop-append-le, drop_at, length-drop, length-take-le, take-append-le, take_all}
 use Rattle.std.proofs.lemmas.Option.{slice_get-map}
@@ -36,14 +36,14 @@ some_taken : (count : ℕ) (l : List Entry) → 0 < length (take count l) → 0 
 some_taken zero l h = h
 some_taken (suc count) l h = omega arith
 
--- a span that has some has as many as it counts
+-- a span with some entries has a count above 0
 pub some_count : (all : List Entry) (s : Span) → 0 < length (in_span all s) → 0 < s.count
 some_count all s h = some_taken s.count (drop s.first all) h
 
 pub grows_not : (all : List Entry) → Grows all all
 grows_not all = ([], sym (append-nil all))
 
--- what a span has stays when entries are added
+-- a span still has its list after entries are added
 pub grown_has : (old new : List Entry) (s : Span) (list : List Entry) → Grows old new → HasList old s list → HasList new s list
 grown_has old new s list g h =
     let long = length-append old g.0 in
@@ -51,14 +51,14 @@ grown_has old new s list g h =
     let bound = h.0 in
     (omega arith, λ some. h.1 some ∙ sym (ap (λ (l : List Entry). in_span l s) g.1 ∙ same_span old g.0 s bound))
 
--- a list of one entry
+-- the span of one added entry
 pub one_has : (old new : List Entry) (e : Entry) → new ≡ old ++ e ∷ [] → HasList new (span (length old) 1) (e ∷ [])
 one_has old new e is =
     let long = length-append old (e ∷ []) in
     let same = ap length is in
     (omega arith, λ some. sym (ap (take 1) (ap (drop (length old)) is ∙ drop_at old (e ∷ []) (length old) refl)))
 
--- entries of a part in the list of the whole
+-- the entries of a part, in the list of the whole
 
 length-led : (next : Behind) (l : List Entry) → length (map (led next) l) ≡ length l
 length-led next [] = refl
@@ -75,11 +75,11 @@ all-alike (e ∷ l) =
     let head : led behind.Ended e ≡ e = ap (λ (b : Behind). let one : Entry = record { position = e.position; what = e.what; behind = b } in one) (followed-ended e.behind) in
     ap (λ (one : Entry). one ∷ map (led behind.Ended) l) head ∙ ap (λ (rest : List Entry). e ∷ rest) (all-alike l)
 
--- a whole that goes on as its part has the part's list
+-- if the end of a part ends the whole, the entries of the part are unchanged in the list of the whole
 pub led-ended : (list : List Entry) → all_led behind.Ended list ≡ list
 led-ended list = all-alike list
 
--- the list of a part behind which something follows
+-- after a part's entries are added with this effect of the part's end, their span has their list
 pub first_has : (old new : List Entry) (x : Span) (next : Behind) (one : List Entry) →
     new ≡ old ++ map (led next) (in_span old x) → 0 < x.count → HasList old x one → HasList new (span (length old) x.count) (all_led next one)
 first_has old new x next one en sx hx =
@@ -91,7 +91,7 @@ first_has old new x next one en sx hx =
     let taken : take x.count (drop (length old) new) ≡ xs = ap (take x.count) behind_old ∙ take_all x.count xs (omega arith) in
     (omega arith, λ some. ap (all_led next) (hx.1 sx) ∙ sym taken)
 
--- the lists of two parts, one behind the other
+-- after the entries of two parts are added, one part after the other, their span has both lists
 pub both_have : (old middle new : List Entry) (x y : Span) (a b : Behind) (count : ℕ) (one other : List Entry) →
     middle ≡ old ++ map (led a) (in_span old x) → new ≡ middle ++ map (led b) (in_span middle y) → count ≡ x.count + y.count → 0 < x.count → 0 < y.count →
     HasList old x one → HasList old y other → HasList new (span (length old) count) (all_led a one ++ all_led b other)
@@ -110,7 +110,7 @@ both_have old middle new x y a b count one other em en ec sx sy hx hy =
     let lists : all_led a one ++ all_led b other ≡ xs ++ ys = ap (λ (o : List Entry). all_led a o ++ all_led b other) (hx.1 sx) ∙ ap (λ (o : List Entry). xs ++ all_led b o) (hy.1 sy) in
     (omega arith, λ some. lists ∙ sym taken)
 
--- the list of a position at which a part begins is the part's
+-- the list of a position at which a part begins is the list of the part
 
 pub outset_begins : (o : Op) → is_wait o ≡ false → outset o ≡ behind.Ended
 outset_begins (op.At atom) h = refl
@@ -149,7 +149,7 @@ blank_lists atoms whole all nodes old spans long none is =
           (none_has all (list_of atoms whole at)),
     )
 
--- a list more
+-- after one more list is kept
 
 length-put : (spans : List Span) (at : ℕ) (s : Span) → length (slice_set spans at s) ≡ length spans
 length-put [] at s = refl
@@ -189,12 +189,12 @@ first_within atoms whole all spans make at right lists two = (let long = lists.0
 pub second_within : (atoms : List Atom) (whole : Process) (all : List Entry) (spans : List Span) (make : Process → Process → Process) (at right : ℕ) → AreLists atoms whole all spans → IsTwo whole make at right → right < length spans
 second_within atoms whole all spans make at right lists two = (let long = lists.0 in let second = two.second in omega arith)
 
--- the list of a position, by those of its parts
+-- the list of a position, by the lists of its parts
 
 pub begins_at : (whole : Process) (nodes : List Node) (at : ℕ) (n : Node) (o : Op) → nodes ≡ positions whole → slice_get nodes at ≡ Some n → n.op ≡ o → is_wait o ≡ false → Begins whole at
 begins_at whole nodes at n o numbered here is begins = ap is_wait (op_here whole nodes at n numbered here ∙ is) ∙ begins
 
--- of a position at which a part begins with this list
+-- the list of a position at which a part with this list begins
 as_list : (atoms : List Atom) (whole : Process) (at : ℕ) (w : Process) (l : List Entry) → Begins whole at → part whole at ≡ w → l ≡ entries_of atoms at w → l ≡ list_of atoms whole at
 as_list atoms whole at w l begins here is = is ∙ sym (ap (entries_of atoms at) here) ∙ sym (list_begins atoms whole at begins)
 
@@ -224,7 +224,7 @@ list_of_seq atoms whole at right first f begins two =
     (ap (all_led (behind.Entered right)) (first_list atoms whole at first f two.first_begins)
     ∙ ap (λ (n : ℕ). all_led (behind.Entered n) (entries_of atoms (suc at) (part whole (suc at)))) two.behind)
 
--- of an operator over two parts that go on as these
+-- the lists of the two parts of an operator, with these effects of their ends, are together the operator's list
 two_lists : (atoms : List Atom) (whole : Process) (make : Process → Process → Process) (a b : Behind) (at right first : ℕ) → first ≡ suc at →
     ((x y : Process) → all_led a (entries_of atoms (suc at) x) ++ all_led b (entries_of atoms (suc at + size x) y) ≡ entries_of atoms at (make x y)) → Begins whole at → IsTwo whole make at right →
     all_led a (list_of atoms whole first) ++ all_led b (list_of atoms whole right) ≡ list_of atoms whole at

@@ -1,4 +1,4 @@
--- What stands at each position of a term, and of which parts it is built.
+-- The operator at each position of a term, and the parts of the term at this position.
 use Rattle.std.proofs.Common.{◌≡◌, ℕ, zero, suc, ◌+◌, ◌-◌, ◌<◌, ◌≤◌, Bool, true, false, nat_lt, List, [], ◌∷◌, ◌++◌, length, slice_get, Option, Some, None, IfSome, refl, ap, sym, subst, ◌∙◌, arith, ◌⊎◌, inl, inr}
 use Rattle.std.proofs.lemmas.Bool.{ltb-true, lt-ltb}
 use Rattle.tb_process_steps.specs.Processes.{Process, At, Seq, Alt, Star, Par, Disrupt, If, When, Let}
@@ -30,7 +30,7 @@ get-right (x ∷ xs) ys i =
     let e : suc (length xs) + i ≡ suc (length xs + i) = omega arith in
     ap (slice_get (x ∷ (xs ++ ys))) e ∙ get-right xs ys i
 
--- These nodes are those of a part of the whole, from its first position on.
+-- These nodes are the table of a part of the whole, from the part's first position on.
 pub record Stands (whole : Process) (at : ℕ) (x : Process) (nodes : List Node) : Type 0 where
   pub nodes_are : (i : ℕ) → i < size x → slice_get (positions whole) (at + i) ≡ slice_get nodes i
   pub parts_are : (i : ℕ) → i < size x → part whole (at + i) ≡ part x i
@@ -94,7 +94,7 @@ module _ (whole : Process) (at : ℕ) where
         within = (let k = s.within in omega arith);
       }
 
--- the second part of a disrupt stands behind the position at which it waits
+-- the right side of a disrupt begins after the position at which it waits
 pub stands_behind : (whole : Process) (at : ℕ) (x y : Process) (frame : Option ℕ) → Stands whole at (Disrupt x y) (table (Disrupt x y) at frame) → Stands whole (suc (suc at + size x)) y (table y (suc (suc at + size x)) frame)
 stands_behind whole at x y frame s =
     let xs = table x (suc at) (Some at) in
@@ -125,7 +125,7 @@ stands_until whole at x y frame s =
       within = (let k = s.within in omega arith);
     }
 
--- what stands where it waits
+-- the node and the part at the position at which a right side waits
 pub waits_there : (whole : Process) (at : ℕ) (x y : Process) (frame : Option ℕ) → Stands whole at (Disrupt x y) (table (Disrupt x y) at frame) → (slice_get (positions whole) (suc at + size x) ≡ Some (node (op.Waits at) frame)) × (part whole (suc at + size x) ≡ y)
 waits_there whole at x y frame s =
     let xs = table x (suc at) (Some at) in
@@ -173,7 +173,7 @@ root_begins (op.If test right) at h = refl
 root_begins (op.When test) at h = refl
 root_begins (op.Let settings) at h = refl
 
--- the whole, and what stands at each of its positions
+-- the whole, and the node at each of its positions
 
 pub stands_whole : (whole : Process) → Stands whole 0 whole (table whole 0 None)
 unfolding positions
@@ -201,7 +201,7 @@ pub record WaitAt (whole : Process) (at : ℕ) : Type 0 where
   pub later : disrupt < at
   pub stands : Stands whole (suc at) y (table y (suc at) frame)
 
--- at a position there is a part, or a right side waits there
+-- at a position, a part begins, or a right side waits
 abbrev pub PlaceAt : Process → ℕ → Type 0
 PlaceAt whole at = PartAt whole at ⊎ WaitAt whole at
 
@@ -290,7 +290,7 @@ place_at whole at (Let settings x) frame (suc i) b s h =
 pub whole_at : (whole : Process) (at : ℕ) → at < size whole → PlaceAt whole at
 whole_at whole at h = (let e : 0 + at ≡ at = omega arith in subst (PlaceAt whole) e (place_at whole 0 whole None at tt (stands_whole whole) h))
 
--- the parts of what stands at a position
+-- the parts of the operator at a position
 
 two_parts : (whole : Process) (at : ℕ) (make : Process → Process → Process) (x y : Process) (f g : Option ℕ) → part whole at ≡ make x y → Stands whole (suc at) x (table x (suc at) f) → Stands whole (suc at + size x) y (table y (suc at + size x) g) → IsTwo whole make at (suc at + size x)
 two_parts whole at make x y f g e s t =
@@ -409,15 +409,15 @@ place_of whole at n (inr w) k =
 pub op_here : (whole : Process) (nodes : List Node) (at : ℕ) (n : Node) → nodes ≡ positions whole → slice_get nodes at ≡ Some n → op_at whole at ≡ n.op
 op_here whole nodes at n e k = ap (λ (l : List Node). op_in (slice_get l at)) (sym e) ∙ ap op_in k
 
--- the operator that stands at a position has its parts
+-- the part at a position consists of the parts of the operator there
 pub has_parts : (whole : Process) (nodes : List Node) (at : ℕ) (n : Node) → nodes ≡ positions whole → at < size whole → slice_get nodes at ≡ Some n → HasParts whole at n.op
 has_parts whole nodes at n e h k = (place_of whole at n (whole_at whole at h) (ap (λ (l : List Node). slice_get l at) (sym e) ∙ k)).0
 
--- a frame stands before each position that it has
+-- the frame of a position, if it has one, is an earlier position
 pub frame_before : (whole : Process) (nodes : List Node) (at : ℕ) (n : Node) → nodes ≡ positions whole → at < size whole → slice_get nodes at ≡ Some n → IfSome n.frame (λ f. f < at)
 frame_before whole nodes at n e h k = (place_of whole at n (whole_at whole at h) (ap (λ (l : List Node). slice_get l at) (sym e) ∙ k)).1
 
--- the part at a position, with the frame of that position, where it begins
+-- the part at a position, with the frame of that position; its nodes begin at the position's root
 pub record RootAt (whole : Process) (at : ℕ) : Type 0 where
   pub x : Process
   pub frame : Option ℕ

@@ -1,4 +1,4 @@
--- How a table grows, and what stands in it.
+-- The growth of a table, and its nodes.
 use Rattle.std.proofs.Common.{◌≡◌, ℕ, suc, ◌+◌, List, [], ◌∷◌, ◌++◌, length, slice_set, Option, Some, None, refl, ap, sym, ◌∙◌, arith, append_assoc, length-append}
 use Rattle.std.proofs.Math.Seq.{set-append_seam}
 use Rattle.tb_process_steps.specs.Processes.{Process, At, Seq, Alt, Star, Par, Disrupt, If, When, Let}
@@ -13,7 +13,7 @@ use Rattle.tb_code.specs.declared.two.Two.TheVariants as two
 length_two : (xs ys : List Node) (s t : ℕ) → length xs ≡ s → length ys ≡ t → suc (length (xs ++ ys)) ≡ suc (s + t)
 length_two xs ys s t e f = let l = length-append xs ys in omega arith
 
--- as many positions as the term has
+-- a table has as many positions as its term
 pub length-table : (term : Process) (at : ℕ) (frame : Option ℕ) → length (table term at frame) ≡ size term
 length-table (At atom age) at frame = refl
 length-table (Seq x y) at frame = length_two (table x (suc at) (Some at)) (table y (suc at + size x) frame) (size x) (size y) (length-table x (suc at) (Some at)) (length-table y (suc at + size x) frame)
@@ -26,7 +26,7 @@ length-table (If test x y) at frame = length_two (table x (suc at) frame) (table
 length-table (When test x) at frame = ap suc (length-table x (suc at) frame)
 length-table (Let settings x) at frame = ap suc (length-table x (suc at) frame)
 
--- an operator is pushed, then its parts, and then it is set
+-- an operator is added, then its parts, and then the operator is set
 set-two : (old : List Node) (first last : Node) (xs ys : List Node) → slice_set (((old ++ first ∷ []) ++ xs) ++ ys) (length old) last ≡ old ++ (last ∷ (xs ++ ys))
 set-two old first last xs ys =
     ap (λ (l : List Node). slice_set l (length old) last) (append_assoc (old ++ first ∷ []) xs ys ∙ append_assoc old (first ∷ []) (xs ++ ys))
@@ -41,7 +41,8 @@ table-joined two.Star x y at frame = refl
 table-joined two.Par x y at frame = refl
 table-joined (two.If test) x y at frame = refl
 
--- the nodes before, the operator's position, and the nodes behind its first part and its second
+-- The table of an operator is added. The arguments have the nodes before, and the nodes after the operator's position, after its first
+-- part, and after its second part.
 pub added_two : (two : Two) (old opened behind_x behind_y new : List Node) (first : Node) (made : Op) (x y : Process) (frame_x frame : Option ℕ) (here right : ℕ) →
     here ≡ length old → opened ≡ old ++ first ∷ [] → frame_x ≡ frame_of_first two here frame →
     behind_x ≡ opened ++ table x (length opened) frame_x → right ≡ length behind_x →
@@ -64,8 +65,8 @@ added_two two old opened behind_x behind_y new first made x y frame_x frame here
     ∙ ap (λ (l : List Node). slice_set l (length old) last) by ∙ set-two old first last xs ys
     ∙ ap (λ (l : List Node). old ++ l) (sym (table-joined two x y (length old) frame))
 
--- the nodes before, the disrupt's position, and the nodes behind its left side, behind the position at which its right side waits, and behind
--- that side
+-- The table of a disrupt is added. The arguments have the nodes before, and the nodes after the disrupt's position, after its left side,
+-- after the position at which its right side waits, and after its right side.
 pub added_until : (old opened behind_x waiting behind_y new : List Node) (first : Node) (x y : Process) (frame : Option ℕ) (here waits : ℕ) →
     here ≡ length old → opened ≡ old ++ first ∷ [] → behind_x ≡ opened ++ table x (length opened) (Some here) → waits ≡ length behind_x →
     waiting ≡ behind_x ++ node (op.Waits here) frame ∷ [] → behind_y ≡ waiting ++ table y (length waiting) frame →

@@ -1,3 +1,3 @@
--- Definitions that proofs and private functions need, and that nobody has to believe.
+-- Definitions that proofs and private functions need. Nobody has to trust them.
 pub mod Blanks
 pub mod Twos

@@ -1,11 +1,11 @@
--- How the positions of a process term are numbered: how many it has, what stands at each, and what each stands for.
+-- The table of a process term: the number of its positions, the operator and the frame at each position, and the part at each position.
 use Rattle.std.specs.Prelude.{◌≡◌, ◌<◌, ℕ, zero, suc, ◌+◌, ◌-◌, Bool, true, false, nat_lt, List, [], ◌∷◌, ◌++◌, slice_get, Option, Some, None, if◌then◌else◌}
 use Rattle.tb_process_steps.specs.Processes.{Process, At, Seq, Alt, Star, Par, Disrupt, If, When, Let}
 use Rattle.tb_code.specs.declared.node.Node.{Node}
 use Rattle.tb_code.specs.declared.node.Op.{Op}
 use Rattle.tb_code.specs.declared.node.Op.TheVariants as op
 
--- One position for each operator and each atom. Each disrupt has one position more, at which its right side waits.
+-- The number of positions: one for each operator and each atom. Each disrupt has one position more, at which its right side waits.
 abbrev pub size : Process → ℕ
 size (At atom age) = 1
 size (Seq x y) = suc (size x + size y)
@@ -20,9 +20,9 @@ size (Let settings x) = suc (size x)
 abbrev pub node : Op → Option ℕ → Node
 node op frame = record { op = op; frame = frame }
 
--- The positions of a term whose first is this one, in text order: an operator before its parts. The frame of the first
--- part of a sequence, of a star or of a disrupt is that operator; every other part has the frame of the whole. A disrupt has one
--- position between its parts. There its right side waits. It has the frame of the whole.
+-- The table of a term whose first position and frame are given, in the order of the source: an operator is before its parts. The frame
+-- of the first part of a sequence, a star, or a disrupt is this operator. Each other part has the frame of the whole. Between its parts,
+-- a disrupt has one position at which its right side waits. This position has the frame of the whole.
 abbrev pub table : Process → ℕ → Option ℕ → List Node
 table (At atom age) at frame = node (op.At atom) frame ∷ []
 table (Seq x y) at frame = node (op.Seq (suc at + size x)) frame ∷ (table x (suc at) (Some at) ++ table y (suc at + size x) frame)
@@ -34,15 +34,16 @@ table (If test x y) at frame = node (op.If test (suc at + size x)) frame ∷ (ta
 table (When test x) at frame = node (op.When test) frame ∷ table x (suc at) frame
 table (Let settings x) at frame = node (op.Let settings) frame ∷ table x (suc at) frame
 
+-- the table of a whole body: its first position is 0, without a frame
 unfoldable pub positions : Process → List Node
 positions term = table term 0 None
 
--- the part of one of two parts that stands so many positions behind the first one's first
+-- the first of two parts if the position, counted from the first part's start, is within its size; otherwise the second
 abbrev pub of_two : ℕ → ℕ → Process → Process → Process
 of_two first at x y = if nat_lt at first then x else y
 
--- The part that stands at a position, from 0; behind the last position, some part. The right side of a disrupt stands at its own first
--- position and at the one at which it waits.
+-- The part at a position, counted from 0. After the last position, the result is an arbitrary part. The right side of a disrupt is the
+-- part at its own first position and at the position at which it waits.
 abbrev pub part : Process → ℕ → Process
 part whole zero = whole
 part (At atom age) (suc at) = At atom age
@@ -55,20 +56,22 @@ part (If test x y) (suc at) = of_two (size x) at (part x at) (part y (at - size 
 part (When test x) (suc at) = part x at
 part (Let settings x) (suc at) = part x at
 
--- the operator that stands at a position; behind the last position, some operator
+-- the operator of a position; without a position, an arbitrary operator
 abbrev pub op_in : Option Node → Op
 op_in None = op.At 0
 op_in (Some node) = node.op
 
+-- the operator at a position; after the last position, an arbitrary operator
 abbrev pub op_at : Process → ℕ → Op
 op_at whole at = op_in (slice_get (positions whole) at)
 
--- whether a right side waits at the position of this operator
+-- a right side waits at a position with this operator
 abbrev pub is_wait : Op → Bool
 is_wait (op.Waits disrupt) = true
 is_wait _ = false
 
--- Where the part begins for which a position with this operator stands: at the next position if a right side waits here, else here.
+-- The position at which the part of a position with this operator begins: the next position if a right side waits here, otherwise this
+-- position.
 abbrev pub root : Op → ℕ → ℕ
 root (op.Waits disrupt) at = suc at
 root _ at = at
@@ -77,7 +80,7 @@ root _ at = at
 abbrev pub Begins : Process → ℕ → Type 0
 Begins whole at = is_wait (op_at whole at) ≡ false
 
--- the part at a position is built of the part at the next one and of that at its second position
+-- The part at a position is an operator, applied to the parts at the next position and at the operator's second position (`right`).
 pub record IsTwo (whole : Process) (make : Process → Process → Process) (at right : ℕ) : Type 0 where
   pub here : part whole at ≡ make (part whole (suc at)) (part whole right)
   pub first : suc at < size whole
@@ -86,7 +89,7 @@ pub record IsTwo (whole : Process) (make : Process → Process → Process) (at 
   pub first_begins : Begins whole (suc at)
   pub second_begins : Begins whole right
 
--- A disrupt is built of the part at the next position, and of that behind the position at which its right side waits.
+-- The part at a position is a disrupt. Its left side is at the next position. Its right side is after the position at which it waits.
 pub record IsUntil (whole : Process) (at waits : ℕ) : Type 0 where
   pub here : part whole at ≡ Disrupt (part whole (suc at)) (part whole (suc waits))
   pub first : suc at < size whole
@@ -95,20 +98,21 @@ pub record IsUntil (whole : Process) (at waits : ℕ) : Type 0 where
   pub first_begins : Begins whole (suc at)
   pub second_begins : Begins whole (suc waits)
 
--- A right side waits here. Its part is that of the next position, and its disrupt is at an earlier one.
+-- A right side waits at a position. The part here is the part at the next position. The disrupt is at an earlier position.
 pub record IsWait (whole : Process) (at disrupt : ℕ) : Type 0 where
   pub here : part whole at ≡ part whole (suc at)
   pub first : suc at < size whole
   pub before : disrupt < at
   pub first_begins : Begins whole (suc at)
 
--- the part at a position is built of that at the next one
+-- The part at a position is an operator, applied to the part at the next position.
 pub record IsOne (whole : Process) (make : Process → Process) (at : ℕ) : Type 0 where
   pub here : part whole at ≡ make (part whole (suc at))
   pub first : suc at < size whole
   pub first_begins : Begins whole (suc at)
 
--- the operator at a position is that of its part
+-- The part at a position is the given operator, applied to the parts at its positions. If the right side of a disrupt waits there, the
+-- part is the part at the next position.
 abbrev pub HasParts : Process → ℕ → Op → Type 0
 HasParts whole at (op.At atom) = (age : ℕ) × (part whole at ≡ At atom age)
 HasParts whole at (op.Seq right) = IsTwo whole Seq at right

@@ -1,20 +1,20 @@
-//! What comes of a part when one of its atoms happens.
+//! The effect on a part when one of its atoms happens.
 ghost use Rattle.std.specs.Prelude.{◌≡◌};
 ghost use Rattle.tb_code.specs.Entries.{followed};
 
-/// What comes of a part where one of its atoms happens.
+/// The effect on a part when one of its atoms happens.
 #[derive(Clone, Copy, Drop)]
 pub enum Behind {
-    /// It has ended.
+    /// The part has ended.
     Ended,
-    /// This position is entered instead.
+    /// The process enters this position instead of the part.
     Entered(usize),
-    /// A merge or a disrupt is parted.
+    /// A merge or a disrupt is parted into branches, or a waiting right side takes a step. The effect doesn't state the branches.
     Parted,
 }
 
 impl Behind {
-    /// What comes of a whole where this comes of a part of it, and that once the part has ended.
+    /// Returns the combined effect on a whole. `self` is the effect on a part of the whole, and `next` is the effect of the part's end.
     pub fn followed(self, next: Behind) -> Behind
         ensures { result ≡ followed self next }
     {

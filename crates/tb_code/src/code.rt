@@ -1,4 +1,4 @@
-//! The code of a body: its numbered positions, and the compiler that makes them.
+//! The code of a body: the table of its positions, and the compiler that makes the table.
 ghost use Rattle.std.specs.Prelude.{◌≡◌, ◌++◌, ◌∷◌, [], ◌-◌, ◌<◌, Some, IfOk, IfSome, OnOk, length, suc, slice_get, slice_set};
 ghost use Rattle.std.specs.Coded.{codes, coded_list};
 ghost use Rattle.std.specs.Option.{option_copied};
@@ -16,23 +16,23 @@ use std::alloc::Global;
 use tb_body::{Atom, Body, Tree, copy_settings};
 use tb_terms::{Items, NoMemory};
 
-/// What a body is compiled to: its positions, with what stands at each.
+/// A compiled body: the table of its positions, with the lists of the atoms that can be next.
 #[derive(Drop)]
 pub struct Code {
-    /// The body of which it is.
+    /// The body of the code.
     pub body: Body,
-    /// What stands at each position, in order.
+    /// The operator and the frame of each position, in the order of the positions.
     pub nodes: Items<Node>,
-    /// The entries of all lists that are kept.
+    /// The entries of all lists that the code keeps.
     pub entries: Items<Entry>,
-    /// Which of them the list of each position has.
+    /// For each position, the span of its list within `entries`. An empty span means that the code keeps no list.
     pub spans: Items<Span>,
     ghost numbered: { nodes ≡ positions
         (fresh body.tree) } by { Prim.hlevel (codes, coded_list, node_row.the_row.coded) },
     ghost listed: { AreLists body.atoms (fresh body.tree) entries spans } by { Prim.hlevel props },
 }
 
-/// Numbers the positions of a body.
+/// Compiles a body: makes the table of its positions, and their lists as far as there is room.
 pub fn compile(alloc: Global, body: &Body) -> Result<Code, NoMemory>
     ensures body { IfOk result (λ code. code.body ≡ body.now) }
 {
@@ -51,7 +51,7 @@ pub fn compile(alloc: Global, body: &Body) -> Result<Code, NoMemory>
 }
 
 impl Code {
-    /// What stands at this position.
+    /// Returns the operator and the frame of this position.
     pub fn node(&self, at: usize) -> &Node
         requires { at < size (fresh self.now.body.tree) }
         ensures node { slice_get self.now.nodes at ≡ Some result.now }
@@ -62,7 +62,7 @@ impl Code {
         self.node_of(at)
     }
 
-    /// The position of an operator's first part.
+    /// Returns the position of an operator's first part.
     pub fn first(&self, at: usize) -> usize
         requires { at < size (fresh self.now.body.tree) }
         ensures { result ≡ suc at }
@@ -71,8 +71,8 @@ impl Code {
         at + 1
     }
 
-    /// What may come next at a position, in text order, where a list of it is kept. An empty one says
-    /// nothing.
+    /// Returns the list of a position, if the code keeps one: the atoms that can be next, in the order of the source. Otherwise, returns
+    /// an empty list, which doesn't state that no atom can be next.
     pub fn list(&self, at: usize) -> &[Entry]
         requires { at < size (fresh self.now.body.tree) }
         ensures { 0 < length result.now
@@ -89,7 +89,7 @@ impl Code {
         &self.nodes.as_slice()[at]
     }
 
-    /// The atom with this number, from 1, where there is one.
+    /// Returns the atom with this number, counted from 1, if there is one.
     pub fn atom(&self, number: u32) -> Option<&Atom>
         ensures { option_copied result ≡ slice_get self.now.body.atoms (number - 1) }
     {
@@ -132,7 +132,7 @@ fn add_tree(
     }
 }
 
-/// Adds the position of an operator that has this frame, and those of its two parts.
+/// Adds the position of an operator with this frame, and the positions of its two parts.
 #[cycle(add_tree)]
 fn add_two(
     alloc: Global,
@@ -153,7 +153,7 @@ fn add_two(
     Ok(())
 }
 
-/// Adds the positions of a disrupt that has this frame. Its right side waits at the position before its own first.
+/// Adds the positions of a disrupt with this frame. Its right side waits at the position directly before its own first position.
 #[cycle(add_tree)]
 fn add_until(
     alloc: Global,
@@ -181,7 +181,7 @@ fn push_node(nodes: &mut Items<Node>, op: Op, frame: Option<usize>) -> Result<()
     Ok(())
 }
 
-/// Adds a position at which an operator is set once its parts are there.
+/// Adds a position, and returns it. Its operator is set after its parts are added.
 fn open_node(nodes: &mut Items<Node>, frame: Option<usize>) -> Result<usize, NoMemory>
     ensures here { IfOk result (λ here. here ≡ length nodes.old) }
     ensures opened { OnOk result (nodes.new ≡ nodes.old ++ node (Op.At 0) frame ∷ []) }

@@ -1,30 +1,34 @@
-//! The entries of a list: what may come next at a position.
+//! The entries of a list: the atoms that can be next at a position, and the gates.
 use crate::Behind;
 
-/// What may come next, and where it stands.
+/// An entry of a list: an atom that can be next, or a gate.
 #[derive(Clone, Copy)]
 pub struct Entry {
+    /// The position of the atom or the gate.
     pub position: usize,
+    /// The atom, or a gate.
     pub what: What,
-    /// What comes of the part that has the list where the atom happens; of a gate, where an atom behind it happens and the gate's own
+    /// The effect on the part of the list when the atom happens. For a gate: the effect when an atom of the gate happens and the gate's own
     /// part has ended.
     pub behind: Behind,
 }
 
-/// What stands at the position of an entry.
+/// The atom or the gate at the position of an entry.
 #[derive(Clone, Copy)]
 pub enum What {
-    /// The atom of this number, which has no times.
+    /// The atom with this number, which has no times.
     Atom(u32),
-    /// The atom of this number, which has times.
+    /// The atom with this number, which has times.
     Timed(u32),
-    /// A test or settings. What may come next behind it is found once it has been worked out.
+    /// A gate: a test or settings. Only the store determines which atoms of its part can be next.
     Gate,
 }
 
-/// Which of all entries the list of a position has. None says nothing of it.
+/// The list of a position, as a range of all entries. An empty span means that the code keeps no list of the position.
 #[derive(Clone, Copy)]
 pub struct Span {
+    /// The index of the first entry.
     pub first: usize,
+    /// The number of entries.
     pub count: usize,
 }

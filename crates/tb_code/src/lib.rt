@@ -1,4 +1,4 @@
-//! Codes: the operators of a body in one table, each at a numbered position.
+//! Compiles the body of a process to a table of positions, with one position for each operator and each atom.
 #![tactic(auto)]
 
 mod behind;

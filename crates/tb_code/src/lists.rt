@@ -1,4 +1,4 @@
-//! The lists of what may come next at each position of a code, as far as they are kept.
+//! The lists of the atoms that can be next at each position of a code, as far as there is room.
 ghost use Rattle.std.specs.Prelude.{◌≡◌, ◌<◌, ◌≤◌, ◌+◌, ◌++◌, ◌∷◌, [], List, Some, IfOk, IfSome, OnOk, length, map, slice_get};
 ghost use Rattle.tb_process_steps.specs.Atoms.{times_of};
 ghost use Rattle.tb_process_steps.specs.Processes.{fresh};
@@ -12,12 +12,13 @@ use std::alloc::Global;
 use tb_body::Body;
 use tb_terms::{Items, NoMemory};
 
-/// How many entries all lists have together, for each position.
+/// The limit for all lists together: this number of entries for each position of the table.
 const MOST_ENTRIES: usize = 8;
 
+/// The span of a position whose list the code doesn't keep.
 const NOT_KEPT: Span = Span { first: 0, count: 0 };
 
-/// Keeps the list of each position, from the last one on, as long as there is room.
+/// Adds the list of each position, from the last position to the first, as far as there is room.
 pub(crate) fn add_lists(
     alloc: Global,
     body: &Body,
@@ -46,14 +47,14 @@ fn add_blanks(nodes: &[Node], spans: &mut Items<Span>) -> Result<(), NoMemory>
     Ok(())
 }
 
-/// No list is kept yet of any position.
+/// Returns the span of a position that has no list yet.
 fn blank(_node: &Node) -> Span
     ensures { result ≡ blank _node.now }
 {
     NOT_KEPT
 }
 
-/// Keeps the list of a position, where those of its parts are kept and there is room.
+/// Adds the list of a position, if the lists of its parts are kept and there is room.
 fn add_list(
     alloc: Global,
     body: &Body,
@@ -72,6 +73,7 @@ fn add_list(
     Ok(())
 }
 
+/// Adds the entries of a position's list, and returns their span. Returns an empty span if a list of a part is missing or there is no room.
 fn list_at(
     alloc: Global,
     body: &Body,
@@ -145,7 +147,7 @@ pub(crate) fn span_at(spans: &[Span], at: usize) -> Span
     spans[at]
 }
 
-/// Whether the atom with this number has times.
+/// Returns whether the atom with this number has times.
 fn is_timed(body: &Body, number: u32) -> bool
     ensures { result ≡ is_timed (times_of body.now.atoms number) }
 {
@@ -155,7 +157,7 @@ fn is_timed(body: &Body, number: u32) -> bool
     }
 }
 
-/// What stands where an atom does.
+/// Returns the entry's kind for an atom, by whether the atom has times.
 fn what_by(timed: bool, number: u32) -> What
     ensures { result ≡ what_by timed number }
 {
@@ -166,7 +168,7 @@ fn what_by(timed: bool, number: u32) -> What
     }
 }
 
-/// A test or settings that stand here.
+/// Returns the entry for a test or settings at this position.
 fn gate(at: usize) -> Entry
     ensures { result ≡ gate at }
 {
@@ -177,7 +179,7 @@ fn gate(at: usize) -> Entry
     }
 }
 
-/// A list with this entry alone.
+/// Adds a list with only this entry, if there is room.
 fn add_one(entries: &mut Items<Entry>, room: usize, entry: Entry) -> Result<Span, NoMemory>
     ensures list { IfOk result (λ span. HasList entries.new span (entry ∷ [])) }
     ensures grows { OnOk result (Grows entries.old entries.new) }
@@ -190,7 +192,7 @@ fn add_one(entries: &mut Items<Entry>, room: usize, entry: Entry) -> Result<Span
     Ok(Span { first, count: 1 })
 }
 
-/// The list of a part, and what comes once the part has ended.
+/// The list of a part, and the effect of the part's end.
 #[derive(Clone, Copy)]
 struct Side {
     span: Span,
@@ -198,7 +200,7 @@ struct Side {
 }
 
 impl Span {
-    /// The list, and what comes once its part has ended.
+    /// Returns the list with the effect of its part's end.
     fn then(self, next: Behind) -> Side
         ensures { result ≡ record { span = self; next = next } }
     {
@@ -206,7 +208,7 @@ impl Span {
     }
 }
 
-/// The list of a part behind which something follows.
+/// Adds the entries of one part's list, as entries of the whole. Returns an empty span if the part has no list or there is no room.
 fn add_first(
     alloc: Global,
     entries: &mut Items<Entry>,
@@ -227,7 +229,7 @@ fn add_first(
     Ok(Span { first, count })
 }
 
-/// The lists of two parts, one behind the other.
+/// Adds the entries of two parts' lists, as entries of the whole. Returns an empty span if a part has no list or there is no room.
 fn add_both(
     alloc: Global,
     entries: &mut Items<Entry>,
@@ -257,7 +259,7 @@ fn add_both(
     }
 }
 
-/// How many entries two lists have together, where both are kept.
+/// Returns the total number of entries of two lists, if both are kept.
 fn joint_count(x: Span, y: Span) -> Option<usize>
     ensures { IfSome result (λ count. (count ≡ x.count + y.count) × (0 < x.count) × (0 < y.count)) }
 {
@@ -286,7 +288,7 @@ fn add_led(entries: &mut Items<Entry>, list: &[Entry], next: Behind) -> Result<(
     Ok(())
 }
 
-/// An entry of a part, in the list of a whole in which this comes once the part has ended.
+/// Returns an entry of a part in the list of the whole, where `next` is the effect of the part's end.
 fn led(entry: &Entry, next: Behind) -> Entry
     ensures { result ≡ led next entry.now }
 {
@@ -297,7 +299,7 @@ fn led(entry: &Entry, next: Behind) -> Entry
     }
 }
 
-/// What a span has of all entries.
+/// Returns the entries within a span.
 pub(crate) fn in_span(entries: &[Entry], span: Span) -> &[Entry]
     requires { span.first + span.count ≤ length entries.now }
     ensures { result.now ≡ in_span entries.now span }

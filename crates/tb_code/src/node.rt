@@ -1,40 +1,39 @@
-//! The nodes of a code: the operator at each position, and the frame in which it lies.
+//! The nodes of a code: the operator and the frame of each position.
 use tb_body::Settings;
 use tb_terms::Expr;
 
-/// What stands at a position. The first part of an operator stands at the next position, and its second
-/// part at the position that it names.
+/// The operator at a position. Its first part is at the next position. Its second part is at the given position.
 #[derive(Drop)]
 pub enum Op {
-    /// The atom of this number.
+    /// The atom with this number.
     At(u32),
-    /// One part, and then the other.
+    /// The first part, then the second.
     Seq(usize),
-    /// One part or the other.
+    /// The first part or the second.
     Alt(usize),
-    /// One part again and again, and then the other.
+    /// The first part any number of times, then the second.
     Star(usize),
-    /// Both parts beside each other.
+    /// Both parts, with their atoms in any order.
     Par(usize),
-    /// The left side, until the right side begins. The right side waits at the given position and begins at
-    /// the next one.
+    /// The left side, until the right side takes a step. The right side waits at the given position. Its own first position is the position
+    /// after it.
     Disrupt(usize),
-    /// The right side of the disrupt at the given position, while it waits.
+    /// The waiting right side of the disrupt at the given position.
     Waits(usize),
-    /// The first part where the test is true, the other where it is false.
+    /// The first part if the test is true, the second if it is false.
     If(Expr, usize),
-    /// Its part where the test is true.
+    /// The part at the next position, if the test is true.
     When(Expr),
-    /// Its part, in the store with the settings made.
+    /// The part at the next position, in the store after the settings.
     Let(Settings),
 }
 
 /// A position of a code.
 #[derive(Drop)]
 pub struct Node {
-    /// What stands there.
+    /// The operator at the position.
     pub op: Op,
-    /// The innermost sequence, star or disrupt in whose first part it stands. Where all of that part has
-    /// ended, the second part of that sequence follows, or that star anew. A disrupt ends with it.
+    /// The innermost sequence, star, or disrupt in whose first part the position is. When this first part has ended completely, the second
+    /// part of the sequence follows, or the star again. A disrupt ends with its first part.
     pub frame: Option<usize>,
 }

@@ -1,11 +1,11 @@
-//! An operator over two parts while the position of its second part isn't known.
+//! Operators with two parts, while the position of the second part isn't known yet.
 ghost use Rattle.std.specs.Prelude.{◌≡◌};
 ghost use Rattle.tb_code.specs.Helpers.Twos.{frame_of_first, op_of};
 
 use crate::Op;
 use tb_terms::Expr;
 
-/// An operator over two parts of which it isn't known yet where the second stands.
+/// An operator with two parts. The position of its second part isn't known yet.
 #[derive(Drop)]
 pub(crate) enum Two {
     Seq,
@@ -16,7 +16,7 @@ pub(crate) enum Two {
 }
 
 impl Two {
-    /// The frame of the first part, where the operator stands here and has this frame.
+    /// Returns the frame of the first part, if the operator is at position `here` and has this frame.
     pub(crate) fn frame_of_first(&self, here: usize, frame: Option<usize>) -> Option<usize>
         ensures { result ≡ frame_of_first self.now here frame }
     {
@@ -29,7 +29,7 @@ impl Two {
         }
     }
 
-    /// The operator, where its second part stands there.
+    /// Returns the operator whose second part is at position `right`.
     pub(crate) fn op(self, right: usize) -> Op
         ensures { result ≡ op_of self right }
     {

@@ -1,4 +1,4 @@
--- A process that goes on among the others: it is put in its place, or taken away.
+-- A process that advances among the others: it stays in its place, or is removed if it has ended.
 use Rattle.std.proofs.Common.{◌≡◌, ℕ, ◌<◌, ◌≤◌, ◌==◌, ◌&&◌, zero, suc, List, [], ◌∷◌, ◌++◌, length, refl, ap, sym, subst, ◌∙◌, arith, Option, Some, None, Bool, true, false, Contains, slice_get, slice_set, remove, get_or, take, drop, nat_lt, if◌then◌else◌, eq-eqb, inr, map, option_map, unwrap_or}
 use Rattle.tb_living.proofs.RestLemmas.{rested-kept, rested-stale}
 use Rattle.std.proofs.lemmas.Bool.{lt-ltb, eqb-true, false_from_ne_true}
@@ -111,7 +111,7 @@ pub record Went {W P T : Type 0} (view : View P W T) (plan : P) (before : Living
   pub stale : after.fresh ≡ false
   pub marks : after.marks ≡ before.marks
 
--- what is left of the process is what the one that went on stands for
+-- the process that is left after the offer is the one that the advanced running process represents
 left-moved : {W P T : Type 0} (view : View P W T) (plans : List P) (plan : P) (before : Living W) (offered : Offered) (binds : List Bind) (after : Living W) →
     Went view plan before offered binds after → slice_get plans before.body ≡ Some plan → is_end (view.walking plan after.walker).term ≡ false →
     proc_left (proc_in view plans before) (with_binds offered.store binds) offered.residual ≡ proc_in view plans after ∷ []

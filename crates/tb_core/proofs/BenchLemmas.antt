@@ -1,4 +1,4 @@
--- A bus whose lanes change, and nothing else but that it may go down.
+-- A bus whose lanes change. It may also shut down, but nothing else changes.
 use Rattle.std.proofs.Common.{◌≡◌, ℕ, ◌<◌, ◌||◌, List, length, refl, ap, sym, subst, ◌∙◌, Bool, true, false, Contains}
 use Rattle.std.specs.Global.{Vec}
 use Rattle.tb_terms.specs.declared.term.Term.{Term}
@@ -68,7 +68,7 @@ or-false : (b : Bool) → (b || false) ≡ b
 or-false true = refl
 or-false false = refl
 
--- whoever speaks with tools is judged again, where not all that sleep rest by the lanes as they are now
+-- the bus stays sound with other lanes if `stirred` is set, or if each sleeping process rests by these lanes
 pub sound-if : {W P T : Type 0} (view : View P W T) (bus : LiveBus W P T) (bench : BenchState) (stirs : Bool) → IsSound view bus → length bench.lanes ≡ 16 → (stirs ≡ false → IsSound view (record bus { bench = bench })) →
     IsSound view (record bus { bench = bench; stirred = bus.stirred || stirs })
 sound-if view bus bench true sound long quiet = subst (λ b. IsSound view (record bus { bench = bench; stirred = b })) (sym (or-true bus.stirred)) (sound-bench view bus bench sound long)

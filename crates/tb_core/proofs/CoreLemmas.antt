@@ -1,4 +1,4 @@
--- What the fields of a core say of its bus, and what each call logs.
+-- What follows from the fields of a core about its bus, and the entry that each call logs.
 use Rattle.std.proofs.Common.{◌≡◌, ◌≤◌, ◌+◌, ℕ, List, [], ◌∷◌, ◌++◌, length, refl, ap, sym, ◌∙◌, subst, arith, Some, Bool, true, false, not, nat_le, if◌then◌else◌, length-append}
 use Rattle.tb_process_steps.specs.WalkerViews.{View}
 use Rattle.std.proofs.lemmas.Bool.{and_parts, leb-true}

@@ -1,4 +1,4 @@
--- A process that is created stands behind all others.
+-- A created process becomes the last one.
 use Rattle.std.proofs.Common.{◌≡◌, ℕ, ◌+◌, ◌<◌, zero, suc, List, [], ◌∷◌, ◌++◌, length, refl, ap, sym, subst, ◌∙◌, arith, Some, true, slice_get, get_or, inl, inr, Contains}
 use Rattle.tb_living.proofs.RestLemmas.{rested-kept, rested-stale}
 use Rattle.std.specs.Global.{Vec}

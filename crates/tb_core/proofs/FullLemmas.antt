@@ -1,4 +1,4 @@
--- A log that had no room for an entry is at its limit, and so is each that goes on from it.
+-- A log without capacity for an entry is at its limit. Each log that begins with it and is within the limit is at its limit too.
 use Rattle.std.proofs.Common.{◌≡◌, ◌≤◌, ◌<◌, ◌+◌, ◌⊎◌, inl, inr, ℕ, max, nat_le, Bool, true, false, ◌&&◌, not, List, [], ◌∷◌, ◌++◌, map, length, length-append, append-nil, Option, Some, None, refl, sym, subst, arith}
 use Rattle.std.proofs.lemmas.Bool.{leb-false}
 use Rattle.std.proofs.lemmas.List.Sums.{sum_by-cons}
@@ -95,7 +95,7 @@ full-later core call more trace may full within = by (would_log core call) refl 
     by None e h = cc
     by (Some entry) e h = which entry e (no-room core.origin.limit core.log entry h)
 
--- and so is the log itself.
+-- a log without capacity for an entry is at its limit
 pub full-now : (core : CoreState) (call : Call) → IsTrace (start core.origin) core.log → MayCall call → is_full core call ≡ true → length core.log ≤ core.origin.limit →
     IsAtLimit (largest_command core.origin) core.origin core.log
 full-now core call trace may full within =

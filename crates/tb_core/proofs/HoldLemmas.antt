@@ -1,4 +1,4 @@
--- A bus of which inboxes change: the other parts of each of the living stay, and so does what rests on them.
+-- A bus whose inboxes change: the other parts of each running process stay, with the facts that depend on them only.
 use Rattle.std.proofs.Common.{◌≡◌, ℕ, ◌<◌, ◌≤◌, ◌⊎◌, zero, suc, List, [], ◌∷◌, length, map, refl, ap, sym, subst, ◌∙◌, arith, Option, Some, None, Bool, true, false, slice_get, slice_set, get_or, option_map, nat_lt, ◌&&◌, ◌==◌, if◌then◌else◌, eq-eqb, Contains}
 use Rattle.std.specs.Global.{Vec}
 use Rattle.std.specs.List.{All}

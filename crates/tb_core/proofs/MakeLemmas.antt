@@ -374,7 +374,7 @@ own-plain store (own.Create process actuals slot) fits = tt
 own-plain store (own.Speak does) fits = tt
 own-plain store (own.Shutdown reason) fits = tt
 
--- once it was begun, the same is found of it, and it comes to the same
+-- after an action was begun, it has the same finding and the same effect
 module _ {W P T : Type 0} (view : View P W T) (old begun : LiveBus W P T) (at : ℕ) (same : StandsAs view old begun) (kept : IsKept old.living.items begun.living.items at) where
   abbrev old_row : Row
   old_row = row_at (rows_of old.living.items) at

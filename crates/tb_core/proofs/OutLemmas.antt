@@ -1,4 +1,4 @@
--- What is to be handed out next on a lane of a core, and what a call that takes it logs.
+-- The next item that is queued on a lane of a core, and the entry of a call that takes it.
 use Rattle.std.proofs.Common.{◌≡◌, ℕ, ap, sym, subst, ◌∙◌, Some, None, Bool, true, false, if◌then◌else◌}
 use Rattle.tb_log.specs.declared.entry.Out.{Out}
 use Rattle.tb_log.specs.declared.entry.Entry.TheVariants.{Gave}

@@ -1,4 +1,4 @@
--- What is subscribed to takes no term: the expressions of such an atom have no result variable, and so neither have their patterns.
+-- Subscribed patterns take no terms: the expressions of such an atom have no result variables, so the patterns have none either.
 use Rattle.std.proofs.Common.{◌≡◌, ℕ, Bool, true, List, [], ◌∷◌, map, Option, Some, None, IfSome, option_map, option_and_then, refl, ap, sym, ◌∙◌, subst}
 use Rattle.std.proofs.lemmas.Bool.{and_from, and_parts, false≢true}
 use Rattle.std.specs.List.{AllByRecursion, list_all}

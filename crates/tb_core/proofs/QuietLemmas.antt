@@ -1,4 +1,4 @@
--- A bus stays sound where a value or an event of a tool comes or goes, a tool is asked or told, or something is handed out.
+-- A bus stays sound when a tool's value or event comes or is taken, when a tool receives a question or an order, and when an item is sent.
 use Rattle.std.proofs.Common.{◌≡◌, ◌-◌, ℕ, List, [], ◌∷◌, length, sym, subst, ◌∙◌, arith, Option, Some, None, Bool, false, IsTrue, codes}
 use Rattle.std.proofs.lemmas.List.{length-set}
 use Rattle.tb_terms.specs.declared.term.Term.{Term}

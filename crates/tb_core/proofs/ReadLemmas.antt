@@ -1,4 +1,4 @@
--- What stands at an index of a sound bus: one of the living, its plan and its process.
+-- A running process at an index of a sound bus, its plan, and the process that it represents.
 use Rattle.std.proofs.Common.{◌≡◌, ℕ, ◌<◌, length, ap, ◌∙◌, Some, slice_get, get_or}
 use Rattle.tb_process_steps.specs.WalkerViews.{View}
 use Rattle.tb_search.specs.Candidates.{row_at, row_of, rows_of, no_row}

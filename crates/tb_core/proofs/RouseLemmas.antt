@@ -1,4 +1,5 @@
--- Whoever the index has under a mark is awake, place by place; and whoever sleeps rests, where a change of a lane lets nobody else begin.
+-- The processes that the index names under a mark are awake, place by place. Each sleeping process rests if a change of a lane lets no
+-- other process begin.
 use Rattle.std.proofs.Common.{◌≡◌, ◌<◌, ◌≤◌, ◌+◌, ⊎_elim, ℕ, List, [], ◌∷◌, length, refl, ap, sym, subst, ◌∙◌, arith, Option, Some, None, true, false, ◌||◌, get_or, slice_get}
 use Rattle.std.specs.List.{All}
 use Rattle.std.proofs.lemmas.Bool.{and_from, and_parts, cases_eq, cases_lt, false_from_ne_true, false≢true}
@@ -27,11 +28,11 @@ use Rattle.tb_living.proofs.LaneLemmas.{IsApart, StaysSilent}
 use Rattle.tb_core.specs.Helpers.LiveBuses.{AreRoused, IsAwakeUnder, IsSound, settings_in}
 use Rattle.tb_core.specs.declared.bus.LiveBus.{LiveBus}
 
--- of those in front of an index, whoever the index has under a mark is awake
+-- of the processes before an index of the list, each that the index names as a receiver of a mark is awake
 abbrev pub AreAwakeBelow : {W : Type 0} → Mark → IndexState → ℕ → List (Living W) → Type 0
 AreAwakeBelow {W = W} mark index at all = (k : ℕ) (d : Living W) → k < at → k < length all → IsAwakeUnder mark index (get_or all k d)
 
--- right indexes have the same of one
+-- two right indexes agree whether a process is a receiver of a mark
 same-heard : {W : Type 0} (mark : Mark) (old new : IndexState) (living : Living W) → IsRightFor old living → IsRightFor new living → is_receiver old mark living.number ≡ is_receiver new mark living.number
 same-heard mark old new living was is =
     ap (λ b. b || receives old (wide mark) living.number) (was.received mark ∙ sym (is.received mark))
@@ -44,7 +45,7 @@ module _ {W : Type 0} (mark : Mark) (all : List (Living W)) where
       (λ (l : at ≤ k). absurd (false≢true (sym (ap (λ (r : Row). is_receiver index mark r.number) (sym (row-read all k d within)) ∙ deaf k l less) ∙ heard)))
       (cases_lt k at)
 
-  -- one more is awake, to which the index has none of those between
+  -- the next receiver is awake too, and no process between is a receiver: all receivers up to this place are awake
   pub awake-then : (old new : IndexState) (at place : ℕ) → All (IsRightFor old) all → All (IsRightFor new) all → AreStillAwake old new → IsNextPlace (is_receiver old mark) (rows_of all) at (Some place) → IsAwakeAt new all place →
       AreAwakeBelow mark old at all → AreAwakeBelow mark new (place + 1) all
   awake-then old new at place was is still next here h k d less within heard = ⊎_elim
@@ -53,7 +54,7 @@ module _ {W : Type 0} (mark : Mark) (all : List (Living W)) where
       (awake-between old at place next.2 h k d (omega arith) within (same-heard mark old new (get_or all k d) (was k d within) (is k d within) ∙ heard)))
       (cases_eq k place)
 
-  -- it has none behind
+  -- the index names no further receiver: all receivers are awake
   pub awake-none : (index : IndexState) (at : ℕ) → IsNextPlace (is_receiver index mark) (rows_of all) at None → AreAwakeBelow mark index at all → All (IsAwakeUnder mark index) all
   awake-none index at next h k d within =
       let many = length-map all row_of in
@@ -62,7 +63,7 @@ module _ {W : Type 0} (mark : Mark) (all : List (Living W)) where
   pub awake-end : (index : IndexState) (at : ℕ) → length all ≤ at → AreAwakeBelow mark index at all → All (IsAwakeUnder mark index) all
   awake-end index at past h k d within = h k d (omega arith) within
 
--- whoever sleeps speaks with other tools
+-- a sleeping process names other tools
 
 deaf-asleep : {W : Type 0} (mark : Mark) (index : IndexState) (living : Living W) → IsAwakeUnder mark index living → is_awake index living.number ≡ false → receives index mark living.number ≡ false
 deaf-asleep mark index living roused asleep =
@@ -116,7 +117,7 @@ module _ (before after : Setting) (stays : (does : ToolAction) → is_silent bef
       and_from (rests_among after ready.action) (rest_among after others) (among-still ready.action t.0) (all-still others t.1)
 
 module _ {W P T : Type 0} (view : View P W T) (bus : LiveBus W P T) (bench : BenchState) (sound : IsSound view bus) (long : length bench.lanes ≡ 16) where
-  -- with lanes by which whoever sleeps rests
+  -- with lanes by which each sleeping process rests
   sound-rested : All (IsRested (settings_in (record bus { bench = bench })) bus.stirred bus.index) bus.living.items → IsSound view (record bus { bench = bench })
   sound-rested rested = record {
     in_order = sound.in_order;

@@ -1,4 +1,4 @@
--- The rows of a sound bus whose processes were looked at say what each is ready to do.
+-- If all processes of a sound bus are fresh, its rows have the ready actions of each process.
 use Rattle.std.proofs.Common.{◌≡◌, ◌<◌, ℕ, List, [], ◌∷◌, length, map, refl, ap, sym, subst, ◌∙◌, true, get_or}
 use Rattle.std.proofs.lemmas.List.Elements.{All-head, All-tail}
 use Rattle.tb_body.specs.declared.body.Body.{Body}

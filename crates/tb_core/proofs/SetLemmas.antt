@@ -1,4 +1,4 @@
--- One of the living is replaced by another that stands for the same process.
+-- A running process is replaced by another that represents the same process.
 use Rattle.std.proofs.Common.{◌≡◌, ◌+◌, drop, drop-cons, add-one, ◌<◌, ◌≢◌, ◌&&◌, ℕ, zero, suc, List, [], ◌∷◌, length, map, refl, ap, sym, subst, ◌∙◌, Some, nat_lt, slice_get, slice_set, get_or, Contains, false, inl, inr, Bool}
 use Rattle.tb_living.proofs.RestLemmas.{rested-kept, rested-one}
 use Rattle.std.specs.Global.{Vec}
@@ -50,7 +50,7 @@ pub record IsInPlace {W P T : Type 0} (view : View P W T) (bus : LiveBus W P T) 
 pub in-place : {W P T : Type 0} (view : View P W T) (bus : LiveBus W P T) (plan its : P) (living one : Living W) → plan ≡ its → IsLiveOn view plan bus.ticks one → proc_by view (Some plan) one ≡ proc_by view (Some plan) living → (bus.aged ≡ false → IsFreshOr bus.stale.items one) → IsInPlace view bus its living one
 in-place view bus plan its living one e live proc fresh = subst (λ p. IsInPlace view bus p living one) e (record { live = live; proc = proc; fresh = fresh })
 
--- one that isn't fresh is named, and so is another with its number
+-- if the list has the number of each process that isn't fresh, a process that isn't fresh can be replaced by any with its number
 pub named-as : {W : Type 0} (stale : List ℕ) (living one : Living W) → IsFreshOr stale living → living.fresh ≡ false → one.number ≡ living.number → IsFreshOr stale one
 named-as stale living one (inl fresh) e number = cc
 named-as stale living one (inr named) e number = inr (subst (Contains stale) (sym number) named)
@@ -146,7 +146,7 @@ stands-turned view bus index roused at living awake sound here turned rested = r
   calm = λ e. e;
 }
 
--- whoever is to sleep again is named elsewhere
+-- the fields represent the same bus with any list of woken processes
 pub stands-roused : {W P T : Type 0} (view : View P W T) (old bus : LiveBus W P T) (roused : Vec ℕ) → StandsAs view old bus → StandsAs view old (record bus { roused = roused })
 stands-roused view old bus roused same = record {
   sound = record {
@@ -166,7 +166,7 @@ stands-roused view old bus roused same = record {
   calm = same.calm;
 }
 
--- and whoever sleeps rests by the tools as they are now
+-- if each sleeping process rests by the tools as they are now, the fields represent the same bus without `stirred`
 pub stands-settled : {W P T : Type 0} (view : View P W T) (old bus : LiveBus W P T) → StandsAs view old bus → AreSettled bus → StandsAs view old (record bus { stirred = false })
 stands-settled view old bus same settled = record {
   sound = record {

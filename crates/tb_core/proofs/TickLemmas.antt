@@ -1,4 +1,4 @@
--- The bus for which the living stand once a tick has passed for each.
+-- The bus that the running processes represent after a tick for each.
 use Rattle.std.proofs.Common.{◌≡◌, ◌<◌, ◌+◌, ◌⊎◌, ◌&&◌, ◌||◌, ◌==◌, ℕ, List, [], ◌∷◌, ◌++◌, length, map, get_or, refl, ap, sym, subst, ◌∙◌, arith, inl, inr, Option, Some, None, Bool, true, false, not, nat_lt, option_map, slice_get, slice_set}
 use Rattle.tb_bus.specs.Exchanges.{Setting}
 use Rattle.tb_notes.specs.Inboxes.{Contents}

@@ -1,4 +1,4 @@
--- A step, and an input, give a number to one tool at most.
+-- A step or an input gives a number to at most one tool.
 use Rattle.std.proofs.Common.{◌≡◌, ◌≤◌, ◌+◌, ℕ, List, [], ◌∷◌, length, refl, ap, arith, Option, Some, None, Bool, true, false, if◌then◌else◌, is_some, option_map}
 use Rattle.std.specs.List.{list_all}
 use Rattle.tb_terms.specs.declared.term.Term.{Term}
@@ -108,7 +108,7 @@ move-tools bus rows (candidate.Handshake at index partner) = omega arith
 move-tools bus rows candidate.Finish = omega arith
 move-tools bus rows candidate.Halt = omega arith
 
--- so does a line
+-- a line from a tool gives at most one tool a number
 line-tools : (line : ToolLine) (lane : ℕ) (bench : BenchState) → (with_line line lane bench).next_tool ≤ bench.next_tool + 1
 line-tools (Value value) lane bench = omega arith
 line-tools (Event terms) lane bench = omega arith

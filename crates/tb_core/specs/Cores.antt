@@ -1,4 +1,4 @@
--- What a core stands for, what each of its calls logs and answers, and when the log has no room for it.
+-- What contracts see of a core, what each of its calls logs and answers, and when the log has no capacity for an entry.
 use Rattle.std.specs.Prelude.{◌≡◌, ◌≤◌, ℕ, List, [], ◌∷◌, ◌++◌, ◌+◌, ◌-◌, length, slice_get, Option, Some, None, Bool, true, false, not, option_to_list, refl}
 use Rattle.std.specs.Coded.{Coded, code_by, coded×, coded_ℕ, coded_bool, coded_list}
 use Rattle.tb_log.specs.Limits.{has_room}
@@ -19,7 +19,7 @@ use Rattle.tb_core.specs.declared.answers.Stepped.TheVariants as stepped
 use Rattle.tb_core.specs.declared.answers.TakeOut.{TakeOut}
 use Rattle.tb_core.specs.declared.answers.TakeOut.TheVariants as taken
 
--- where a core was started, what it has logged, whether it was stopped, and for how many entries more there is memory
+-- the origin of a core, its log, whether it was stopped, and the number of further entries for which it has memory
 pub record CoreState : Type 0 where
   pub origin : Origin
   pub log : List Entry
@@ -31,15 +31,15 @@ core_code =
     code_by (Origin × (List Entry × (Bool × ℕ))) (coded× origin.the_row.coded (coded× (coded_list entry.the_row.coded) (coded× coded_bool coded_ℕ)))
     (λ c. (c.origin, (c.log, (c.stopped, c.spare)))) (λ t. record { origin = t.0; log = t.1.0; stopped = t.1.1.0; spare = t.1.1.1 }) (λ _. refl)
 
--- its bus is the one to which its log leads
+-- the bus of a core: the bus to which its log leads from the initial bus
 unfoldable pub bus_now : CoreState → Bus
 bus_now core = replay (start core.origin) core.log
 
--- how many entries the log of a core may have
+-- the greatest limit of a log, in entries
 abbrev pub most_entries : ℕ
 most_entries = 4000000
 
--- a core as it is started
+-- a core immediately after its start
 abbrev pub started : Origin → CoreState
 started origin = record { origin = origin; log = []; stopped = false; spare = 0 }
 
@@ -49,6 +49,7 @@ pub data Call : Type 0 where
   MakeStep : Call
   HandOut : ℕ → Call
 
+-- whether there is an entry, and it is `quiet`
 abbrev pub says_quiet : Option Entry → Bool
 says_quiet None = false
 says_quiet (Some Quiet) = true
@@ -56,36 +57,37 @@ says_quiet (Some (Did label)) = false
 says_quiet (Some (Fed input reply)) = false
 says_quiet (Some (Gave lane out)) = false
 
--- the last entry says quiet
+-- whether the last entry is `quiet`
 abbrev pub ends_quiet : List Entry → Bool
 ends_quiet log = says_quiet (slice_get log (length log - 1))
 
--- what a step logs, on a bus that is down or not, after a log that says quiet or not
+-- the entry that a call of `step` logs, from: whether the bus has shut down, whether the last entry is `quiet`, and the possible steps
 abbrev pub step_entry : Bool → Bool → List Step → Option Entry
--- nothing on a bus that is down
+-- no entry if the bus has shut down
 step_entry true quiet steps = None
--- the first of the steps
+-- the label of the first step
 step_entry false quiet (step ∷ rest) = Some (Did step.label)
--- that nothing is possible, unless that was said last
+-- `quiet` if no step is possible, unless the last entry is `quiet`
 step_entry false true [] = None
 step_entry false false [] = Some Quiet
 
--- what a call logs that takes from a lane what is to be handed out next: nothing where nothing is
+-- the entry that a call of `take_out` logs: the next item that is queued on the lane, or no entry if none is queued
 abbrev pub out_entry : ℕ → Option Out → Option Entry
 out_entry lane None = None
 out_entry lane (Some out) = Some (Gave lane out)
 
--- What a call logs, where it isn't refused: a function of the core and the call.
+-- the entry that a call logs if it succeeds, if any: a function of the core and the call
 abbrev pub would_log : CoreState → Call → Option Entry
 would_log core (HandIn input) = Some (Fed input (fed (bus_now core) input).reply)
 would_log core MakeStep = step_entry (bus_now core).down (ends_quiet core.log) (steps (bus_now core))
 would_log core (HandOut lane) = out_entry lane (next_out lane (bus_now core).bench)
 
--- the log has no room for what a call would log
+-- whether the log has no capacity for an entry
 abbrev pub lacks_room : CoreState → Option Entry → Bool
 lacks_room core None = false
 lacks_room core (Some entry) = not (has_room core.origin.limit core.log entry)
 
+-- whether the log has no capacity for the entry of a call
 abbrev pub is_full : CoreState → Call → Bool
 is_full core call = lacks_room core (would_log core call)
 
@@ -93,7 +95,7 @@ is_full core call = lacks_room core (would_log core call)
 abbrev pub entries_of : CoreState → Call → List Entry
 entries_of core call = option_to_list (would_log core call)
 
--- whether an input may take memory of the bus, beside that of its entry
+-- whether the bus may take memory for an input, in addition to the memory of its entry
 abbrev pub takes_memory : Input → Bool
 takes_memory Tick = false
 takes_memory NoTicks = false
@@ -101,8 +103,8 @@ takes_memory (Line lane line) = true
 takes_memory (Gone lane) = false
 takes_memory (Cut lane) = false
 
--- A call logs these entries, which are a trace from the bus before it, and changes nothing else. Each takes the memory
--- of one at most.
+-- A call adds these entries to the log, and changes nothing else. They are a trace from the bus before the call. Each uses the spare
+-- memory of at most one entry.
 pub record Logs (old new : CoreState) (entries : List Entry) : Type 0 where
   pub origin : new.origin ≡ old.origin
   pub log : new.log ≡ old.log ++ entries
@@ -110,21 +112,22 @@ pub record Logs (old new : CoreState) (entries : List Entry) : Type 0 where
   pub trace : IsTrace (bus_now old) entries
   pub spare : old.spare ≤ new.spare + length entries
 
--- Nothing changes, but that there may be memory for more entries.
+-- Nothing changes, except that there may be memory for more entries.
 pub record Stays (old new : CoreState) : Type 0 where
   pub origin : new.origin ≡ old.origin
   pub log : new.log ≡ old.log
   pub stopped : new.stopped ≡ old.stopped
   pub spare : old.spare ≤ new.spare
 
--- When a step answers so: where there is a step, where there is none and the bus isn't down, and where it is down.
+-- The condition for an answer of `step`. `Did`: a step is possible. `Quiet`: no step is possible, and the bus hasn't shut down. `Down`: the
+-- bus has shut down.
 abbrev pub IsStep : CoreState → Stepped → Type 0
 IsStep core stepped.Did = (first : Step) × (rest : List Step) × (steps (bus_now core) ≡ first ∷ rest)
 IsStep core stepped.Quiet = (steps (bus_now core) ≡ []) × ((bus_now core).down ≡ false)
 IsStep core stepped.Down = (bus_now core).down ≡ true
 
--- When a call to take from a lane answers so: what was to be handed out next; that there was nothing, on a bus that isn't
--- down and on one that is.
+-- The condition for an answer of `take_out`. `Out`: the item is the next one that is queued on the lane. `Nothing`: no item is queued, and
+-- the bus hasn't shut down. `Closed`: no item is queued, and the bus has shut down.
 abbrev pub IsTakenOut : CoreState → ℕ → TakeOut → Type 0
 IsTakenOut core lane (taken.Out out) = next_out lane (bus_now core).bench ≡ Some out
 IsTakenOut core lane taken.Nothing = (next_out lane (bus_now core).bench ≡ None) × ((bus_now core).down ≡ false)
@@ -135,12 +138,13 @@ abbrev pub has_any : List Step → Bool
 has_any [] = false
 has_any (step ∷ rest) = true
 
--- The outcome of following an entry. If the entry may come next, it is logged, and the bus is the one that follows. Else nothing changes.
+-- The outcome of `follow`. `true`: the entry can come next, and the call adds it to the log. `false`: the entry can't come next, and
+-- nothing changes.
 abbrev pub Follows : CoreState → Entry → Bool → CoreState → Type 0
 Follows old entry true new = Logs old new (entry ∷ [])
 Follows old entry false new = (new ≡ old) × ((next : Bus) → IsLegal (bus_now old) entry next → ⊥)
 
--- The entry may come next, but the log has no room for it.
+-- The entry may come next, but the log has no capacity for it.
 pub record IsCrowded (core : CoreState) (entry : Entry) : Type 0 where
   pub legal : IsLegal (bus_now core) entry (after (bus_now core) entry)
   pub full : lacks_room core (Some entry) ≡ true

@@ -1,3 +1,4 @@
--- Definitions that proofs and private functions need, and that nobody has to believe.
+-- Definitions for proofs, private functions, and the contracts of `LiveBus` and of `Core::bus`. A reader of the other contracts of a core
+-- doesn't need to trust them.
 pub mod Makings
 pub mod LiveBuses

@@ -1,4 +1,5 @@
-//! The results of steps that print, create a process or shut the bus down, and the entries of steps in the log.
+//! The results of steps that print, create a process, or shut down the bus. Also the labels of steps that end the bus, the reasons for
+//! its end, and the entry of a step in the log.
 ghost use Rattle.std.specs.Prelude.{◌≡◌, ◌∷◌, [], IfOk};
 ghost use Rattle.tb_bus.specs.Effects.{number_term};
 ghost use Rattle.tb_bus.specs.Steps.{finish_reason, halt_reason, nowhere};
@@ -10,9 +11,10 @@ use tb_log::{Label, LabelKind, Log, Place};
 use tb_match::Bind;
 use tb_terms::{Items, Name, NoMemory, Term, Terms};
 
+/// The place in a label where no process takes part.
 pub const NOWHERE: Place = Place { proc: 0, atom: 0 };
 
-/// What was done, where no term is seen and nothing is bound.
+/// Returns the result of a step whose label has no terms, and that binds nothing.
 pub fn kind_alone(alloc: Global, kind: LabelKind) -> Done
     ensures { result ≡ record { kind = kind; shown = []; binds = [] } }
 {
@@ -23,7 +25,7 @@ pub fn kind_alone(alloc: Global, kind: LabelKind) -> Done
     }
 }
 
-/// A text was printed.
+/// Returns the result of a step that printed a text.
 pub fn printed(alloc: Global, text: Term) -> Result<Done, NoMemory>
     ensures { IfOk result
         (λ done. done ≡ record { kind = LabelKind.Printf; shown = text ∷ []; binds = [] }) }
@@ -33,7 +35,7 @@ pub fn printed(alloc: Global, text: Term) -> Result<Done, NoMemory>
     Ok(done)
 }
 
-/// A process with this number began, and the slot takes the number.
+/// Returns the result of a step that created the process with this number: the step binds the number to the slot.
 pub fn created(alloc: Global, number: u32, slot: u32) -> Result<Done, NoMemory>
     ensures { IfOk result (λ done. done ≡ record {
       kind = LabelKind.Create;
@@ -50,13 +52,14 @@ pub fn created(alloc: Global, number: u32, slot: u32) -> Result<Done, NoMemory>
     Ok(done)
 }
 
+/// Returns the term of a process number.
 fn number_term(number: u32) -> Term
     ensures { result ≡ number_term number }
 {
     Term::Int(i64::from(number))
 }
 
-/// The bus goes down for this reason.
+/// Returns the result of a step that shuts down the bus for this reason.
 pub fn shut_down(alloc: Global, reason: Term) -> Result<Done, NoMemory>
     ensures { IfOk result
         (λ done. done ≡ record { kind = LabelKind.Shutdown; shown = reason ∷ []; binds = [] }) }
@@ -66,7 +69,7 @@ pub fn shut_down(alloc: Global, reason: Term) -> Result<Done, NoMemory>
     Ok(done)
 }
 
-/// What is seen of the end of a bus.
+/// Returns the label of a step that ends the bus without a process.
 pub fn end_label(alloc: Global, kind: LabelKind) -> Label
     ensures { result ≡ record { kind = kind; from = nowhere; to = nowhere; terms = [] } }
 {
@@ -78,7 +81,7 @@ pub fn end_label(alloc: Global, kind: LabelKind) -> Label
     }
 }
 
-/// Logs a step, and hands back what held its terms. This takes no memory.
+/// Logs a step, and returns the emptied list of its terms. This takes no memory.
 #[inline(always)]
 pub fn put_label(log: &mut Log, label: Label) -> Terms
     requires { CanLog log.old label }
@@ -95,14 +98,14 @@ pub fn put_label(log: &mut Log, label: Label) -> Terms
     terms
 }
 
-/// Why the bus goes down where no process is left.
+/// Returns the reason `finish`, for which the bus shuts down if no process is left.
 pub fn finish_reason(alloc: Global) -> Result<Term, NoMemory>
     ensures { IfOk result (λ reason. reason ≡ finish_reason) }
 {
     Ok(Term::Appl(Name::new(alloc, b"finish")?, Items::new(alloc)))
 }
 
-/// Why it goes down where none can do anything any more.
+/// Returns the reason `halt`, for which the bus shuts down if no process can do anything any more.
 pub fn halt_reason(alloc: Global) -> Result<Term, NoMemory>
     ensures { IfOk result (λ reason. reason ≡ halt_reason) }
 {

@@ -1,4 +1,4 @@
-//! Takes what a process does, and lets the process go on.
+//! Takes the action of a process in a move, and advances the process.
 
 ghost use Rattle.std.specs.Prelude.{◌≡◌, ℕ, ◌<◌, ◌≤◌, ◌+◌, ◌≢◌, [], length, Contains, IfOk, OnOk, slice_get};
 ghost use Rattle.tb_search.specs.Views.{own_in, sent_in, ready_at, offer_of};
@@ -18,15 +18,17 @@ use tb_process_steps::Walker;
 use tb_search::Ready;
 use tb_terms::{Items, NoMemory, Terms};
 
-/// What a process does by itself, and where that stands.
+/// The own action with which a process takes part in a move, and the place of the action.
 #[derive(Drop)]
 pub struct Begun {
+    /// The number of the process, and the atom of the action.
     pub from: Place,
+    /// The action.
     pub own: OwnAction,
 }
 
 impl<W: Walker> LiveBus<W> {
-    /// Takes the offer of one of the actions of a process, and changes nothing yet.
+    /// Takes the offer of a ready action from the walker of its process. The process remains unchanged until `advance_at`.
     pub fn take_at(&self, alloc: Global, at: usize, index: usize) -> Result<W::Taken, NoMemory>
         requires sound { IsSound W.view self.now }
         requires fresh { AreFresh self.now.living.items }
@@ -40,7 +42,7 @@ impl<W: Walker> LiveBus<W> {
         living.walker.take(alloc, plan, living.ready[index].offer)
     }
 
-    /// One of the actions of a process, which has to be looked at anew from then on.
+    /// Takes a ready action out of its process. The process isn't fresh afterwards.
     fn take_ready(&mut self, at: usize, index: usize) -> Ready
         requires sound { IsSound W.view self.old }
         requires within { at < length self.old.living.items }
@@ -61,7 +63,7 @@ impl<W: Walker> LiveBus<W> {
         living.ready.swap_remove(index)
     }
 
-    /// A process has to be looked at anew from then on.
+    /// Marks a process as not fresh.
     fn outdate(&mut self, at: usize)
         requires sound { IsSound W.view self.old }
         requires within { at < length self.old.living.items }
@@ -74,7 +76,7 @@ impl<W: Walker> LiveBus<W> {
         self.living[at].get_mut().fresh = false;
     }
 
-    /// What one of the actions of a process sends. The process has to be looked at anew from then on.
+    /// Takes the terms that a ready action sends. Its process isn't fresh afterwards.
     pub fn take_sent(&mut self, alloc: Global, at: usize, index: usize) -> Terms
         requires sound { IsSound W.view self.old }
         requires within { at < length self.old.living.items }
@@ -94,7 +96,7 @@ impl<W: Walker> LiveBus<W> {
         sent_of(alloc, &mut living.ready[index].action)
     }
 
-    /// Where one of the actions of a process stands. The process has to be looked at anew from then on.
+    /// Returns the place of a ready action. Its process isn't fresh afterwards, and `stale` has its number.
     #[inline(always)]
     pub fn leave(&mut self, at: usize, index: usize) -> Result<Place, NoMemory>
         requires sound { IsSound W.view self.old }
@@ -115,7 +117,7 @@ impl<W: Walker> LiveBus<W> {
         Ok(from)
     }
 
-    /// What one of the actions of a process does by itself. The process has to be looked at anew from then on.
+    /// Takes a ready own action out of its process, with its place. The process isn't fresh afterwards, and `stale` has its number.
     pub fn begin(&mut self, at: usize, index: usize) -> Result<Begun, NoMemory>
         requires sound { IsSound W.view self.old }
         requires within { at < length self.old.living.items }
@@ -138,7 +140,7 @@ impl<W: Walker> LiveBus<W> {
         Ok(Begun { from, own })
     }
 
-    /// A process goes on with what was taken of it, and is gone where nothing is left.
+    /// Advances a process after the taken offer, with these binds. If the process has ended, removes it from the bus and the index.
     pub fn advance_at(&mut self, at: usize, taken: W::Taken, binds: &mut Binds)
         requires sound { IsSound W.view self.old }
         requires within { at < length self.old.living.items }
@@ -160,7 +162,7 @@ impl<W: Walker> LiveBus<W> {
         }
     }
 
-    /// Both parties of a handshake go on: the one at the first index, and the other with its binds.
+    /// Advances both processes of a handshake: the sender at `at`, and the receiver at `other` with the binds.
     pub fn advance_both(
         &mut self,
         alloc: Global,
@@ -186,7 +188,7 @@ impl<W: Walker> LiveBus<W> {
             → AreAdvanced W.view self.old at offered other its binds.old self.new }
     {
         let mut none = Items::new(alloc);
-        // The one behind goes first, so that the other keeps its index.
+        // The process with the higher index advances first: if it is removed, the other process keeps its index.
         if at < other {
             self.advance_at(other, received, binds);
             self.advance_at(at, sent, &mut none);
@@ -197,7 +199,7 @@ impl<W: Walker> LiveBus<W> {
     }
 }
 
-/// Takes the terms that an action sends. It sends none from then on.
+/// Takes the terms that an action sends, and leaves an empty list. Returns no terms for any other action.
 fn sent_of(alloc: Global, action: &mut Action) -> Terms
     ensures { result ≡ sent_in action.old }
 {
@@ -209,7 +211,7 @@ fn sent_of(alloc: Global, action: &mut Action) -> Terms
     sent
 }
 
-/// What an action does by itself; a tau where it needs another process.
+/// Returns the own action, or a tau if the action sends or receives.
 fn own_of(action: Action) -> OwnAction
     ensures { result ≡ own_in action }
 {

@@ -6,34 +6,34 @@ use std::alloc::AllocError;
 use tb_log::Out;
 use tb_terms::NoMemory;
 
-/// What a step found.
+/// The answer of `Core::step`.
 #[derive(Clone, Copy, Debug, PartialEq, Eq)]
 pub enum Stepped {
-    /// The first of the steps was made.
+    /// The core made the first of the possible steps.
     Did,
-    /// There was none, and the bus isn't down.
+    /// No step is possible, and the bus hasn't shut down.
     Quiet,
-    /// The bus is down.
+    /// The bus has shut down.
     Down,
 }
 
-/// What was taken from a lane.
+/// The answer of `Core::take_out`.
 #[derive(Drop)]
 pub enum TakeOut {
-    /// What was to be handed out next.
+    /// The next item that was queued on the lane.
     Out(Out),
-    /// Nothing was to be handed out, and the bus isn't down.
+    /// No item is queued, and the bus hasn't shut down.
     Nothing,
-    /// Nothing was to be handed out, and the bus is down: nothing more comes.
+    /// No item is queued, and the bus has shut down: no more items come.
     Closed,
 }
 
-/// Why a core refused a call. It is as it was before.
+/// The reason why a core rejects a call. After a rejected call, only the spare memory may have grown.
 #[derive(Clone, Copy, Debug, PartialEq, Eq)]
 pub enum CoreFault {
-    /// The log has no room for the entry that the call would add.
+    /// The log has no capacity for the entry that the call would add.
     Full,
-    /// Memory ran out.
+    /// The call ran out of memory.
     NoMemory,
     /// The core was stopped.
     Stopped,

@@ -1,4 +1,4 @@
-//! Compares a move that was found with a label: its kind, its places, its terms. Nothing is copied.
+//! Compares the parts of a found move with a label: its kind, its places, its terms. Copies nothing.
 
 ghost use Rattle.std.specs.Prelude.{◌≡◌, ◌↔◌, ◌∷◌, ◌++◌, ℕ, [], List, IfSome, IsTrue, Some, length};
 ghost use Rattle.std.specs.Option.{option_copied};
@@ -36,18 +36,21 @@ pub fn is_end(kind: LabelKind) -> bool
     matches!(kind, LabelKind::Finish | LabelKind::Halt)
 }
 
+/// Returns whether two label kinds are the same.
 pub fn same_kind(a: LabelKind, b: LabelKind) -> bool
     ensures { IsTrue result ↔ (a ≡ b) }
 {
     a == b
 }
 
+/// Returns whether two replies are the same.
 pub fn same_reply(a: Reply, b: Reply) -> bool
     ensures { IsTrue result ↔ (a ≡ b) }
 {
     a == b
 }
 
+/// Returns whether two items for a lane are the same.
 pub fn same_out(a: &Out, b: &Out) -> bool
     ensures { IsTrue result ↔ (a.now ≡ b.now) }
 {
@@ -59,6 +62,7 @@ pub fn same_out(a: &Out, b: &Out) -> bool
     }
 }
 
+/// Returns whether two places are the same.
 pub fn same_place(a: Place, b: Place) -> bool
     ensures { IsTrue result ↔ (a ≡ b) }
 {
@@ -82,7 +86,7 @@ fn tool_kind(does: &ToolAction) -> LabelKind
     }
 }
 
-/// Returns the kind that a label shows for an action that a process does by itself.
+/// Returns the kind that a label shows for an own action of a process.
 pub fn own_kind(own: &OwnAction) -> LabelKind
     ensures { (next : ℕ) (held : Held) (setting : Setting) (found : Finding)
         → result ≡ (effect_by next held setting own.now found).kind }
@@ -117,7 +121,7 @@ fn are_values(binds: &[Bind], terms: &[Term]) -> bool
     true
 }
 
-/// Returns whether a list has only the value with which the tool of a lane has replied, or nothing if there is no reply.
+/// Returns whether a list has only the value that the tool of a lane has sent, or is empty if there is no value.
 fn is_value(bench: &Bench, lane: u8, terms: &[Term]) -> bool
     requires { IsLane lane }
     ensures { IsTrue result ↔ (values_on lane bench.now ≡ terms.now) }
@@ -140,7 +144,7 @@ fn is_event(bench: &Bench, lane: u8, event: usize, terms: &[Term]) -> bool
     }
 }
 
-/// Returns the rest of a list behind these terms, if the list begins with them.
+/// Returns the rest of a list after these terms, if the list begins with these terms.
 fn behind_front<'a>(front: &[Term], terms: &'a [Term]) -> Option<&'a [Term]>
     ensures parts { IfSome result (λ rest. front.now ++ rest.now ≡ terms.now) }
     ensures only { (rest : List SeenTerm) → front.now ++ rest ≡ terms.now

@@ -1,4 +1,4 @@
-//! Makes the change of a move beside the process that goes on: notes, tools, creation, and the end of the bus.
+//! Makes the changes of a move, except the advance of its process: notes, tools, creation, and the end of the bus.
 
 ghost use Rattle.std.specs.Prelude.{◌≡◌, ◌||◌, ℕ, ◌<◌, ◌≤◌, length, IfOk, IsTrue, OnOk, OnErr, Some, slice_get, true, false};
 ghost use Rattle.std.specs.List.{All};
@@ -30,8 +30,8 @@ use tb_search::Finding;
 use tb_terms::{Items, NoMemory, Term, Terms};
 
 impl<W: Walker> LiveBus<W> {
-    /// Makes the change of what a process does by itself, as was found; no other finding comes with such an
-    /// action. The process has to be looked at anew already. Where memory ran out nothing has changed.
+    /// Makes the change of an own action of a process, with its finding. The process itself doesn't advance yet. If out of memory, the
+    /// represented bus remains unchanged. No action has a finding of another kind, so the branches for such findings never run.
     pub fn act(
         &mut self,
         alloc: Global,
@@ -91,7 +91,7 @@ impl<W: Walker> LiveBus<W> {
         }
     }
 
-    /// The process at an index is asked at the next step, and may sleep again after that.
+    /// Wakes the process at an index, and notes its number in `roused`, so that the next `settle` judges the process again.
     fn rouse_at(&mut self, at: usize) -> Result<(), NoMemory>
         requires sound { IsSound W.view self.old }
         requires within { at < length self.old.living.items }
@@ -108,7 +108,7 @@ impl<W: Walker> LiveBus<W> {
         Ok(())
     }
 
-    /// So are those at these indices.
+    /// Wakes the processes at these indices, and notes their numbers in `roused`.
     fn rouse(&mut self, indices: &[usize]) -> Result<(), NoMemory>
         requires sound { IsSound W.view self.old }
         requires within { All (λ at. at < length self.old.living.items) indices.now }
@@ -124,7 +124,7 @@ impl<W: Walker> LiveBus<W> {
         Ok(())
     }
 
-    /// So are those that the index has under a mark.
+    /// Wakes the processes that the index names as receivers of a mark, and notes their numbers in `roused`.
     fn rouse_marked(&mut self, mark: Mark) -> Result<(), NoMemory>
         requires sound { IsSound W.view self.old }
         ensures same { StandsAs W.view self.old self.new }
@@ -146,7 +146,7 @@ impl<W: Walker> LiveBus<W> {
         Ok(())
     }
 
-    /// So are those that speak with the tool of a lane.
+    /// Wakes the processes that name the tool of a lane, if it has one, and notes their numbers in `roused`.
     pub fn rouse_lane(&mut self, lane: u8) -> Result<(), NoMemory>
         requires sound { IsSound W.view self.old }
         requires lane { IsLane lane }
@@ -165,8 +165,8 @@ impl<W: Walker> LiveBus<W> {
         }
     }
 
-    /// Wakes whom an exchange with a tool may concern. The result says whether it may concern whoever speaks with any
-    /// tool. What a tool is asked or told lets nobody begin anything.
+    /// Wakes the processes that an exchange with a tool may concern. If the exchange may concern any process that speaks with tools,
+    /// returns `true`, and wakes none. `Eval`, `Do`, and `Acknowledge` let no process begin anything.
     fn disturb_by(&mut self, does: &ToolAction, exchange: &Exchange) -> Result<bool, NoMemory>
         requires sound { IsSound W.view self.old }
         requires lane { IsLane exchange.now.lane }
@@ -201,7 +201,7 @@ impl<W: Walker> LiveBus<W> {
         }
     }
 
-    /// Notes, if so, that a lane has changed: who speaks with tools may sleep though a tool would answer.
+    /// Sets `stirred` if a change of a lane may concern all processes that speak with tools.
     pub fn stir_if(&mut self, stirs: bool)
         ensures { self.new ≡ record self.old { stirred = self.old.stirred || stirs } }
     {
@@ -210,7 +210,7 @@ impl<W: Walker> LiveBus<W> {
         }
     }
 
-    /// These get a note, which they want.
+    /// Wakes the processes at these indices, which want a note, and gives each a copy of the note.
     fn send_note(
         &mut self,
         alloc: Global,
@@ -234,7 +234,7 @@ impl<W: Walker> LiveBus<W> {
         })
     }
 
-    /// A process takes a note that was found in its queue. It has to be looked at anew already.
+    /// Takes a found note out of the queue of a process.
     fn take_note(&mut self, at: usize, found: Found) -> Done
         requires sound { IsSound W.view self.old }
         requires within { at < length self.old.living.items }
@@ -254,7 +254,7 @@ impl<W: Walker> LiveBus<W> {
         }
     }
 
-    /// A process speaks with a tool, as was found.
+    /// Executes a found exchange with a tool, and wakes the processes that the exchange may concern.
     fn speak_with_tool(
         &mut self,
         alloc: Global,
@@ -285,7 +285,7 @@ impl<W: Walker> LiveBus<W> {
         Ok(done)
     }
 
-    /// A process of this body begins with these actuals, behind all others, and its number goes to the slot.
+    /// Creates a process of this body with these arguments, as the last process. The result binds its number to the slot.
     fn create(
         &mut self,
         alloc: Global,
@@ -317,7 +317,7 @@ impl<W: Walker> LiveBus<W> {
         Ok(done)
     }
 
-    /// The bus goes down, and each tool that is there is told why.
+    /// Shuts down the bus, and queues the reason for each tool that is there.
     pub fn go_down(&mut self, reason: &Term) -> Result<(), NoMemory>
         requires { IsSound W.view self.old }
         ensures sound { IsSound W.view self.new }

@@ -40,7 +40,8 @@ impl<W: Walker> LiveBus<W> {
     ghost use Rattle.tb_core.specs.Helpers.LiveBuses.{bus_of, move_in, scene_in, IsSound};
     ghost use Rattle.tb_core.specs.Helpers.Makings.{effect_in, finding_in};
 
-    /// Returns the move that begins and is received where a label says. For the end of the bus it is the first of all moves.
+    /// Returns the first move that begins and is received at the places of a label. If the label's kind is `finish` or `halt`, returns the
+    /// first of all moves.
     fn named(
         &self,
         alloc: Global,
@@ -89,7 +90,7 @@ impl<W: Walker> LiveBus<W> {
         )
     }
 
-    /// Returns what the bus would reply to an input. Nothing changes.
+    /// Returns the reply of the bus to an input, without delivering the input.
     pub fn reply_to(&self, input: &Input) -> Reply
         requires { IsInputInShape input.now }
         ensures { result ≡ (fed (bus_of W.view self.now) input.now).reply }
@@ -118,7 +119,7 @@ impl<W: Walker> LiveBus<W> {
         }
     }
 
-    /// Returns whether a label shows these terms for an action that a process does by itself.
+    /// Returns whether a label shows these terms for an own action of a process with its finding.
     fn shows_own(&self, at: usize, own: &OwnAction, finding: &Finding, terms: &[Term]) -> bool
         requires sound { IsSound W.view self.now }
         requires within { at < length self.now.living.items }
@@ -152,7 +153,7 @@ impl<W: Walker> LiveBus<W> {
         }
     }
 
-    /// Returns whether a label shows these terms for a move that was found.
+    /// Returns whether a label shows these terms for a found move.
     fn shows_terms(&self, candidate: &Candidate, terms: &[Term]) -> bool
         requires sound { IsSound W.view self.now }
         requires fresh { AreFresh self.now.living.items }
@@ -177,7 +178,7 @@ impl<W: Walker> LiveBus<W> {
         }
     }
 
-    /// Returns what a label shows of a move that was found, except its terms.
+    /// Returns the kind and the places that a label shows of a found move.
     fn sight(&self, candidate: &Candidate) -> Sight
         requires sound { IsSound W.view self.now }
         requires fresh { AreFresh self.now.living.items }
@@ -213,7 +214,7 @@ impl<W: Walker> LiveBus<W> {
         }
     }
 
-    /// Returns whether a label shows exactly a move that was found.
+    /// Returns whether a label is that of a found move.
     fn shows(&self, candidate: &Candidate, label: &Label) -> bool
         requires sound { IsSound W.view self.now }
         requires fresh { AreFresh self.now.living.items }

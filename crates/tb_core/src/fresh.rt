@@ -1,4 +1,4 @@
-//! Looks at processes anew, so that the bus knows what each is ready to do. Puts those to sleep that rest.
+//! Looks at processes again, so that the bus knows the ready actions of each. Makes resting processes sleep.
 
 ghost use Rattle.std.specs.Prelude.{◌≡◌, ℕ, ◌<◌, ◌∷◌, List, length, OnOk, true, false};
 ghost use Rattle.std.specs.List.{All};
@@ -17,7 +17,7 @@ use tb_search::{all_rest, place_of};
 use tb_terms::NoMemory;
 
 impl<W: Walker> LiveBus<W> {
-    /// Looks at a process anew, where it has to be.
+    /// Looks at the process at an index again, if it isn't fresh.
     #[inline(never)]
     fn freshen_at(
         &mut self,
@@ -50,7 +50,7 @@ impl<W: Walker> LiveBus<W> {
         )
     }
 
-    /// Looks at the process with this number anew, where it is there and has to be.
+    /// Looks at the process with this number again, if it isn't fresh. If the process has ended, looks at the next one in its place.
     fn freshen_number(
         &mut self,
         alloc: Global,
@@ -70,7 +70,7 @@ impl<W: Walker> LiveBus<W> {
         Ok(())
     }
 
-    /// Looks at those that have to be looked at, where no tick has passed: their numbers are noted.
+    /// Looks again at the processes in `stale`. If no tick has passed, all others are fresh.
     fn freshen_noted(&mut self, alloc: Global, buffers: &mut Buffers) -> Result<(), NoMemory>
         requires sound { IsSound W.view self.old }
         requires young { self.old.aged ≡ false }
@@ -84,7 +84,7 @@ impl<W: Walker> LiveBus<W> {
         Ok(())
     }
 
-    /// Looks at those that have to be looked at, of all.
+    /// Looks again at each process that isn't fresh.
     #[inline(never)]
     fn freshen_all(&mut self, alloc: Global, buffers: &mut Buffers) -> Result<(), NoMemory>
         requires { IsSound W.view self.old }
@@ -97,7 +97,8 @@ impl<W: Walker> LiveBus<W> {
         Ok(())
     }
 
-    /// The process at an index sleeps where all that it is ready for rests, as its notes and the tools are now.
+    /// Makes the process at an index sleep if all its ready actions rest, with its notes and the tools as they are now. Wakes it if not.
+    /// Changes nothing if the process isn't fresh.
     fn settle_at(&mut self, alloc: Global, at: usize) -> Result<(), NoMemory>
         requires sound { IsSound W.view self.old }
         requires within { at < length self.old.living.items }
@@ -114,7 +115,7 @@ impl<W: Walker> LiveBus<W> {
         Ok(())
     }
 
-    /// The one with this number sleeps or wakes; where it is gone, the next behind it is judged.
+    /// Judges by `settle_at` whether the process with this number sleeps. If the process has ended, judges the next one in its place.
     #[inline(never)]
     fn settle_number(&mut self, alloc: Global, number: u32) -> Result<(), NoMemory>
         requires { IsSound W.view self.old }
@@ -128,7 +129,7 @@ impl<W: Walker> LiveBus<W> {
         Ok(())
     }
 
-    /// So do those that were woken by notes and tools.
+    /// Judges by `settle_at` whether the processes that notes and tools woke can sleep again.
     fn settle_roused(&mut self, alloc: Global) -> Result<(), NoMemory>
         requires { IsSound W.view self.old }
         ensures same { StandsAs W.view self.old self.new }
@@ -141,7 +142,7 @@ impl<W: Walker> LiveBus<W> {
         Ok(())
     }
 
-    /// The next process, from one index on, that the index has under a mark.
+    /// Returns the next process, from one index on, that the index names as a receiver of a mark.
     pub fn next_marked(&self, mark: Mark, from: usize) -> Option<usize>
         requires sound { IsSound W.view self.now }
         requires within { from < length self.now.living.items }
@@ -154,7 +155,7 @@ impl<W: Walker> LiveBus<W> {
         place_of(self.living.as_slice(), from, found)
     }
 
-    /// So do those that may speak with tools.
+    /// Judges by `settle_at` whether the processes that speak with tools sleep.
     #[inline(never)]
     fn settle_speakers(&mut self, alloc: Global) -> Result<(), NoMemory>
         requires { IsSound W.view self.old }
@@ -174,7 +175,8 @@ impl<W: Walker> LiveBus<W> {
         Ok(())
     }
 
-    /// Whoever sleeps has nothing to begin alone from then on, with the notes and the tools that there are.
+    /// Judges again which processes sleep: the processes in `roused`, and if a lane has changed, all that speak with tools. After this, no
+    /// fresh process that sleeps can begin a move alone, with the notes and the tools as they are now.
     fn settle(&mut self, alloc: Global) -> Result<(), NoMemory>
         requires { IsSound W.view self.old }
         ensures same { StandsAs W.view self.old self.new }
@@ -189,7 +191,7 @@ impl<W: Walker> LiveBus<W> {
         Ok(())
     }
 
-    /// Looks at all processes that have to be looked at.
+    /// Looks again at each process that isn't fresh: at those in `stale`, or after a tick, at all.
     #[inline(always)]
     fn look_anew(&mut self, alloc: Global, buffers: &mut Buffers) -> Result<(), NoMemory>
         requires { IsSound W.view self.old }
@@ -206,7 +208,7 @@ impl<W: Walker> LiveBus<W> {
         Ok(())
     }
 
-    /// What each process is ready to do is known from then on, and whoever sleeps rests.
+    /// Prepares a search: afterwards each process is fresh, and each sleeping process rests.
     #[inline(always)]
     pub fn freshen(&mut self, alloc: Global, buffers: &mut Buffers) -> Result<(), NoMemory>
         requires { IsSound W.view self.old }

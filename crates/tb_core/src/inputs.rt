@@ -1,4 +1,4 @@
-//! Receives inputs, and takes what is to be handed out.
+//! Receives inputs, and takes items that are queued for sending.
 
 ghost use Rattle.std.specs.Prelude.{◌≡◌, ◌<◌, ◌≤◌, ◌+◌, Bool, IfOk, IsSome, OnOk, OnErr, Some, false, map};
 ghost use Rattle.tb_process_steps.specs.Walks.{most_ticks};
@@ -19,7 +19,7 @@ use tb_terms::NoMemory;
 use tb_tools::Handout;
 
 impl<W: Walker> LiveBus<W> {
-    /// Takes an input, or drops it: what became of it. Only a line takes memory.
+    /// Takes an input, or drops it, and returns the reply. Only a line takes memory. If out of memory, the bus remains unchanged.
     pub fn feed(&mut self, alloc: Global, input: &Input) -> Result<Reply, NoMemory>
         requires sound { IsSound W.view self.old }
         requires few { self.old.ticks < most_ticks }
@@ -52,7 +52,7 @@ impl<W: Walker> LiveBus<W> {
         }
     }
 
-    /// A tick passes: all processes age. This takes no memory.
+    /// Makes each process one tick older. This takes no memory.
     fn tick(&mut self)
         requires sound { IsSound W.view self.old }
         requires few { self.old.ticks < most_ticks }
@@ -66,7 +66,7 @@ impl<W: Walker> LiveBus<W> {
         self.aged = true;
     }
 
-    /// The tool of a lane has put a line.
+    /// Receives a line from the tool of a lane.
     fn put_line(&mut self, alloc: Global, lane: u8, line: &ToolLine) -> Result<Reply, NoMemory>
         requires sound { IsSound W.view self.old }
         requires tools { self.old.bench.next_tool ≤ most_tools }
@@ -88,8 +88,8 @@ impl<W: Walker> LiveBus<W> {
         Ok(reply)
     }
 
-    /// Wakes whom a line of the tool of a lane may concern. The result says whether it may concern whoever speaks with
-    /// any tool.
+    /// Wakes the processes that a line from the tool of a lane may concern. If the line may concern any process that speaks with tools,
+    /// returns `true`, and wakes none.
     fn disturb(&mut self, lane: u8, line: &ToolLine) -> Result<bool, NoMemory>
         requires sound { IsSound W.view self.old }
         requires lane { IsLane lane }
@@ -114,7 +114,7 @@ impl<W: Walker> LiveBus<W> {
         }
     }
 
-    /// The tool of a lane has ended. This takes no memory.
+    /// Receives the end of the program on a lane. This takes no memory.
     fn lose(&mut self, lane: u8) -> Reply
         requires sound { IsSound W.view self.old }
         requires lane { IsLane lane }
@@ -130,7 +130,7 @@ impl<W: Walker> LiveBus<W> {
         reply
     }
 
-    /// What was handed out on a lane couldn't be put. This takes no memory.
+    /// Receives the failure of a write to a lane. This takes no memory.
     fn cut(&mut self, lane: u8) -> Reply
         requires sound { IsSound W.view self.old }
         requires lane { IsLane lane }
@@ -146,7 +146,7 @@ impl<W: Walker> LiveBus<W> {
         reply
     }
 
-    /// Takes what is to be handed out next on a lane, twice. This takes no memory.
+    /// Takes the next item that is queued on a lane, and returns it twice: to send and to log. This takes no memory.
     pub fn hand_out(&mut self, lane: u8) -> Handout
         requires sound { IsSound W.view self.old }
         requires lane { IsLane lane }

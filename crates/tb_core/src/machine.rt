@@ -1,4 +1,4 @@
-//! The core: a bus with its log, of which each call makes one event at most.
+//! The core: a bus with its log. Each call makes at most one event of the bus, and logs it.
 ghost use Rattle.std.specs.Option.{ForSome, is_some};
 ghost use Rattle.std.below.core.specs.declared.int.usize.TheConstants.{MAX};
 ghost use Rattle.std.specs.Prelude.{◌≡◌, IsSome, Some, min, ◌≤◌, ◌<◌, ◌+◌, ◌↔◌, ◌∷◌, [], ◌++◌, length, IsTrue, IfOk, OnOk, OnErr, IsErrOf, true, false, if◌then◌else◌};
@@ -31,8 +31,8 @@ use tb_search::Candidate;
 use tb_terms::{Items, NoMemory, Text, Texts};
 use tb_tools::{Handout, LaneState};
 
-/// A bus with its log: each call makes at most one event, and logs it. Contracts see where it was
-/// started, its log, whether it was stopped, and its spare memory, and nothing of the walkers.
+/// A bus with its log. Each call makes at most one event, and logs it. Contracts see the origin of the core, its log, whether it was
+/// stopped, and its spare memory. They see nothing of the walkers.
 #[derive(Drop)]
 pub struct Core<W: Walker> {
     alloc: Global,
@@ -61,8 +61,8 @@ impl<W: Walker> Model for Core<W> {
 }
 
 impl<W: Walker> Core<W> {
-    /// The opening bus of a program, whose first lanes are started with these commands, with an empty log for at most so
-    /// many entries, of which there may be 4,000,000.
+    /// Returns a core with the initial bus of a program and an empty log. The first lanes are started with these commands, at most 16. The
+    /// log has at most `limit` entries, and the limit is at most 4,000,000.
     pub fn start(
         alloc: Global,
         program: Program,
@@ -90,7 +90,7 @@ impl<W: Walker> Core<W> {
         })
     }
 
-    /// What was logged so far, which is a trace of the program.
+    /// Lends the log, which is a trace of the program.
     pub fn log(&self) -> &Log
         ensures value { result.now.entries ≡ self.now.log }
         ensures limit { result.now.limit ≡ self.now.origin.limit }
@@ -109,26 +109,28 @@ impl<W: Walker> Core<W> {
         &self.bus
     }
 
+    /// Returns whether the bus has shut down.
     pub fn is_down(&self) -> bool
         ensures { result ≡ (bus_now self.now).down }
     {
         self.bus.marks.down
     }
 
+    /// Returns whether the core was stopped.
     pub fn is_stopped(&self) -> bool
         ensures { result ≡ self.now.stopped }
     {
         self.stopped
     }
 
-    /// From now on no call makes an event.
+    /// Stops the core: from now on no call makes an event.
     pub fn stop(&mut self)
         ensures { self.new ≡ record self.old { stopped = true } }
     {
         self.stopped = true;
     }
 
-    /// Takes memory for so many entries more, but for the terms of steps.
+    /// Takes memory for at least `n` further entries, apart from the terms of steps.
     pub fn reserve(&mut self, n: usize) -> Result<(), NoMemory>
         ensures stays { Stays self.old self.new }
         ensures spare { OnOk result (n ≤ self.new.spare) }
@@ -136,14 +138,14 @@ impl<W: Walker> Core<W> {
         self.log.reserve(n)
     }
 
-    /// For how many entries more there is memory, but for the terms of steps.
+    /// Returns the number of further entries for which there is memory, apart from the terms of steps.
     pub fn spare(&self) -> usize
         ensures { result ≡ self.now.spare }
     {
         self.log.spare()
     }
 
-    /// Whether a step is possible.
+    /// Returns whether a step is possible. The call may look at processes again, and take memory for this.
     pub fn has_step(&mut self) -> Result<bool, NoMemory>
         ensures value { IfOk result (λ any. any ≡ has_any (steps (bus_now self.old))) }
         ensures unchanged { self.new ≡ self.old }
@@ -156,7 +158,7 @@ impl<W: Walker> Core<W> {
         )
     }
 
-    /// Hands in what comes from outside.
+    /// Delivers an input to the bus, logs it with the reply, and returns the reply.
     pub fn hand_in(&mut self, input: Input) -> Result<Reply, CoreFault>
         requires { IsInputInShape input }
         ensures reply { IfOk result (λ reply. reply ≡ (fed (bus_now self.old) input).reply) }
@@ -176,7 +178,8 @@ impl<W: Walker> Core<W> {
         Ok(reply)
     }
 
-    /// Makes the first of the steps. Where there is none it logs that once, unless the bus is down.
+    /// Makes the first of the possible steps, and logs it. If no step is possible and the bus hasn't shut down, logs `quiet`, unless the
+    /// last entry is `quiet`.
     pub fn step(&mut self) -> Result<Stepped, CoreFault>
         ensures found { IfOk result (IsStep self.old) }
         ensures logs { IfOk result (λ _. Logs self.old self.new (entries_of self.old MakeStep)) }
@@ -211,10 +214,10 @@ impl<W: Walker> Core<W> {
         }
     }
 
-    /// Follows an entry of another log. If the entry can come next, the call logs it, makes its step and returns `true`. If it
-    /// can't, the call returns `false`, and nothing changes. A label names its processes, so the call asks only those. The end of
-    /// the bus and `quiet` speak of all processes, so the call searches all moves for these. Unlike `step`, the call logs a `quiet`
-    /// after a `quiet`. After an error nothing has changed.
+    /// Follows an entry of another log. If the entry can come next, the call logs the entry, makes its event, and returns `true`. If the
+    /// entry can't come next, the call returns `false`, and nothing changes. A label names its processes, so the call asks only those.
+    /// `finish`, `halt`, and `quiet` depend on all processes, so the call searches all moves for them. Unlike `step`, the call logs a
+    /// `quiet` after a `quiet`. After an error, only the spare memory may have grown.
     pub fn follow(&mut self, entry: &Entry) -> Result<bool, CoreFault>
         ensures follows { IfOk result (λ legal. Follows self.old entry.now legal self.new) }
         ensures room { IfOk result
@@ -309,7 +312,7 @@ impl<W: Walker> Core<W> {
         Ok(true)
     }
 
-    /// Follows an item that a lane was sent.
+    /// Follows an item that was sent to a lane.
     fn follow_out(&mut self, lane: u8, out: &Out) -> Result<bool, CoreFault>
         requires { self.old.stopped ≡ false }
         ensures follows { IfOk result
@@ -331,8 +334,8 @@ impl<W: Walker> Core<W> {
         Ok(true)
     }
 
-    /// Takes what is to be handed out next on a lane, and logs it. Where nothing is, it logs nothing. With spare memory for
-    /// an entry it takes none.
+    /// Takes the next item that is queued on a lane, and logs it. If no item is queued, the call logs nothing. If there is spare memory
+    /// for an entry, the call takes no memory.
     pub fn take_out(&mut self, lane: u8) -> Result<TakeOut, CoreFault>
         requires { IsLane lane }
         ensures found { IfOk result (IsTakenOut self.old lane) }
@@ -356,7 +359,7 @@ impl<W: Walker> Core<W> {
         }
     }
 
-    /// The state of a lane.
+    /// Returns the state of a lane.
     pub fn lane_state(&self, lane: u8) -> LaneState
         requires { IsLane lane }
         ensures { result ≡ lane_state (lane_at lane (bus_now self.now).bench) }
@@ -364,7 +367,7 @@ impl<W: Walker> Core<W> {
         self.bus.bench.lane_state(lane)
     }
 
-    /// Whether something is to be handed out on a lane.
+    /// Returns whether an item is queued for sending on a lane.
     pub fn has_out(&self, lane: u8) -> bool
         requires { IsLane lane }
         ensures { result ≡ is_some (next_out lane (bus_now self.now).bench) }
@@ -375,7 +378,7 @@ impl<W: Walker> Core<W> {
         }
     }
 
-    /// The lowest lane on which something is to be handed out.
+    /// Returns the lowest lane on which an item is queued for sending, if there is one.
     pub fn first_out(&self) -> Option<u8>
         ensures lane { result ≡ first_out (bus_now self.now).bench }
         ensures within { ForSome result IsLane }
@@ -385,7 +388,7 @@ impl<W: Walker> Core<W> {
     }
 }
 
-/// What is answered where nothing is to be handed out.
+/// Returns the answer of `take_out` if no item is queued.
 fn nothing_left(down: bool) -> TakeOut
     ensures { result ≡ (if down then TakeOut.Closed else TakeOut.Nothing) }
 {
@@ -396,7 +399,7 @@ fn nothing_left(down: bool) -> TakeOut
     }
 }
 
-/// Logs an input with what becomes of it, and receives it. All memory is taken before anything changes.
+/// Delivers an input to the bus, and logs the input with its reply. Takes all memory before the bus changes or the log grows.
 fn hand<W: Walker>(
     alloc: Global,
     bus: &mut LiveBus<W>,
@@ -436,7 +439,8 @@ fn hand<W: Walker>(
     Ok(reply)
 }
 
-/// Logs what is handed out next on a lane, which has this size, and takes it. All memory is taken before anything changes.
+/// Takes the next item that is queued on a lane, and logs it. The item has this size. Takes all memory before the bus changes or the log
+/// grows.
 fn take<W: Walker>(
     bus: &mut LiveBus<W>,
     log: &mut Log,
@@ -475,7 +479,7 @@ fn take<W: Walker>(
     Ok(given)
 }
 
-/// The same texts in memory of their own.
+/// Returns a copy of the texts.
 fn copy_texts(alloc: Global, texts: &Texts) -> Result<Texts, NoMemory>
     ensures { IfOk result (λ copies. copies ≡ texts.now) }
 {
@@ -486,7 +490,7 @@ fn copy_texts(alloc: Global, texts: &Texts) -> Result<Texts, NoMemory>
     Ok(copies)
 }
 
-/// Logs a move that was found, and makes it. All memory is taken before anything changes.
+/// Makes a found move, and logs it. Takes all memory before the bus changes or the log grows.
 fn make<W: Walker>(
     alloc: Global,
     bus: &mut LiveBus<W>,
@@ -525,7 +529,7 @@ fn make<W: Walker>(
     Ok(())
 }
 
-/// Logs that nothing is possible, unless the log says so last.
+/// Logs `quiet`, unless the last entry is `quiet`.
 fn say_quiet(log: &mut Log) -> Result<(), CoreFault>
     ensures ok { OnOk result (log.new.entries
         ≡ log.old.entries ++ (if ends_quiet log.old.entries then [] else Entry.Quiet ∷ [])) }
@@ -571,6 +575,7 @@ fn put_quiet(log: &mut Log) -> Result<(), CoreFault>
     Ok(())
 }
 
+/// Returns whether the last entry is `quiet`.
 fn says_quiet(log: &Log) -> bool
     ensures { result ≡ ends_quiet log.now.entries }
 {

@@ -1,4 +1,4 @@
-//! Finds the first of all moves, makes a move, and logs it.
+//! Finds the first of all moves, makes a found move, and logs it.
 
 ghost use Rattle.std.specs.Prelude.{◌≡◌, ◌<◌, ◌≤◌, ◌+◌, length, vec_len, vec_capacity, Contains, IfOk, IfSome, OnOk, OnErr, true, false, option_map};
 ghost use Rattle.tb_process_steps.specs.Offers.{Offered};
@@ -22,7 +22,7 @@ use tb_search::{Candidate, Finding, Partner, Received, first_candidate};
 use tb_terms::NoMemory;
 
 impl<W: Walker> LiveBus<W> {
-    /// The first of all moves.
+    /// Returns the first of all moves, if there is one. `room` lends memory for binds.
     #[inline(always)]
     pub fn first_candidate(
         &self,
@@ -48,7 +48,7 @@ impl<W: Walker> LiveBus<W> {
         )
     }
 
-    /// Makes a move that was found, and logs it. All memory is taken before anything changes.
+    /// Makes a found move, and logs it. Takes all memory before the represented bus or the log changes.
     pub fn make(
         &mut self,
         alloc: Global,
@@ -84,7 +84,7 @@ impl<W: Walker> LiveBus<W> {
         }
     }
 
-    /// Whether one of the actions of a process is seen by its kind alone, and changes nothing.
+    /// Returns whether a ready action is a tau: its label has no terms, and only its process advances.
     fn is_tau(&self, at: usize, index: usize) -> bool
         requires within { at < length self.now.living.items }
         requires index_within { index < length (row_at (rows_of self.now.living.items) at).ready }
@@ -97,7 +97,7 @@ impl<W: Walker> LiveBus<W> {
         }
     }
 
-    /// A process goes on by itself; the log tells no terms of it.
+    /// Makes the tau of a process, and logs it without terms.
     #[inline(always)]
     fn make_tau(
         &mut self,
@@ -127,7 +127,7 @@ impl<W: Walker> LiveBus<W> {
         Ok(())
     }
 
-    /// A process goes on by itself, as one of its actions says, and as was found.
+    /// Makes an own action of a process with its finding, and logs it.
     #[inline(never)]
     fn make_own(
         &mut self,
@@ -159,7 +159,7 @@ impl<W: Walker> LiveBus<W> {
         Ok(())
     }
 
-    /// A process sends, and another receives, as was found.
+    /// Makes a found handshake, and logs it. Takes all memory first.
     fn shake(
         &mut self,
         alloc: Global,
@@ -190,7 +190,7 @@ impl<W: Walker> LiveBus<W> {
         Ok(())
     }
 
-    /// A process sends, and another receives.
+    /// Makes a handshake after both offers were taken, and logs it. This takes no memory.
     fn make_handshake(
         &mut self,
         alloc: Global,
@@ -240,7 +240,8 @@ impl<W: Walker> LiveBus<W> {
         buffers.give_back(emptied, binds);
     }
 
-    /// A process whose change was made goes on with what was taken of it and its binds, and is the last starter.
+    /// Advances a process after the taken offer and with its binds, and makes it the last starter. The change of its action was already
+    /// made. Returns the label of the step.
     #[inline(always)]
     fn finish(&mut self, at: usize, taken: W::Taken, from: Place, done: Done) -> Label
         requires sound { IsSound W.view self.old }
@@ -268,7 +269,7 @@ impl<W: Walker> LiveBus<W> {
         }
     }
 
-    /// No process is left: the bus goes down by a step of its own.
+    /// Shuts down the bus for the reason `finish`, because no process is left, and logs this step.
     #[inline(never)]
     fn finish_bus(&mut self, alloc: Global, log: &mut Log) -> Result<(), NoMemory>
         requires sound { IsSound W.view self.old }
@@ -284,7 +285,7 @@ impl<W: Walker> LiveBus<W> {
         Ok(())
     }
 
-    /// No process can do anything, and no more ticks come: likewise.
+    /// Shuts down the bus for the reason `halt`, because no process can do anything and no more ticks come, and logs this step.
     #[inline(never)]
     fn halt_bus(&mut self, alloc: Global, log: &mut Log) -> Result<(), NoMemory>
         requires sound { IsSound W.view self.old }

@@ -1,4 +1,4 @@
-//! Measures what the log shows of a move, before the bus makes the move.
+//! Measures the terms in the label of a move, before the bus makes the move.
 
 ghost use Rattle.std.specs.Prelude.{◌≡◌, min, ◌<◌, length, Some};
 ghost use Rattle.std.below.core.specs.declared.int.usize.TheConstants.{MAX};
@@ -17,7 +17,7 @@ use tb_search::{Candidate, Finding};
 use tb_terms::{size, total_size};
 
 impl<W: Walker> LiveBus<W> {
-    /// How large the terms are that are seen of a move that was found, or the greatest usize where that is greater.
+    /// Returns the total size of the terms in the label of a found move, at most `usize::MAX`.
     pub fn shown_size(&self, candidate: &Candidate) -> usize
         requires sound { IsSound W.view self.now }
         requires fresh { AreFresh self.now.living.items }
@@ -39,7 +39,7 @@ impl<W: Walker> LiveBus<W> {
         }
     }
 
-    /// How large the terms are that are seen of what a process does by itself, as was found.
+    /// Returns the total size of the terms in the label of an own action with its finding, at most `usize::MAX`.
     fn own_size(&self, at: usize, own: &OwnAction, finding: &Finding) -> usize
         requires sound { IsSound W.view self.now }
         requires within { at < length self.now.living.items }
@@ -68,7 +68,7 @@ impl<W: Walker> LiveBus<W> {
     }
 }
 
-/// How large the terms are that an action sends.
+/// Returns the total size of the terms that an action sends, at most `usize::MAX`.
 fn sent_size(action: &Action) -> usize
     ensures { result ≡ min (terms_size (sent_in action.now)) MAX }
 {

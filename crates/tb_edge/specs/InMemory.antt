@@ -1,4 +1,4 @@
--- What the files, sinks and clocks in memory hold, and what a call of each answers and changes.
+-- The state of the files, sinks, and clocks in memory, and the answer of each call and the state after it.
 use Rattle.std.specs.Prelude.{◌≡◌, ℕ, ◌+◌, ◌-◌, ◌==◌, nat_le, nat_lt, Bool, true, if◌then◌else◌, Option, Result, Ok, Err, List, [], ◌∷◌, ◌++◌, length, take, unwrap_or}
 use Rattle.std.specs.List.{find, list_any}
 use Rattle.std.specs.Option.{option_map, ok_or}
@@ -12,19 +12,19 @@ use Rattle.tb_edge.specs.declared.files.FilesFault.TheVariants.{Failed, NoMemory
 use Rattle.tb_edge.specs.declared.clock.Beat.{Beat}
 use Rattle.tb_edge.specs.declared.clock.Beat.TheVariants as beat
 
--- what a name holds: the bytes of the first file of that name
+-- the bytes of the first file with this name
 abbrev pub held_in : List HeldFile → List ℕ → Option (List ℕ)
 held_in files name = option_map (λ file. file.bytes) (find (λ file. bytes_eq file.name name) files)
 
--- what a load gives of these bytes
+-- the answer of a load of these bytes
 abbrev pub loaded_of : ℕ → List ℕ → Loaded
 loaded_of most bytes = if nat_le (length bytes) most then Bytes bytes else TooLong (length bytes)
 
--- whether the call of this number is to fail
+-- the call with this number must fail
 abbrev pub fails_at : List ℕ → ℕ → Bool
 fails_at fails call = list_any (λ fail. fail == call) fails
 
--- the answer is this one, unless memory runs out
+-- the answer is this one, or out of memory
 abbrev pub IsUnlessNoMemory : Result Loaded FilesFault → Result Loaded FilesFault → Type 0
 IsUnlessNoMemory (Ok loaded) answer = answer ≡ Ok loaded
 IsUnlessNoMemory (Err Failed) answer = answer ≡ Err Failed
@@ -37,7 +37,7 @@ pub record MemFilesView : Type 0 where
   pub asked : List (List ℕ)
   pub faults : ℕ
 
--- it fails at the calls that are to fail, and for a name that it doesn't hold
+-- a call fails if its number is one of the given ones, or if no file has its name
 abbrev pub mem_answer : MemFilesView → List ℕ → ℕ → Result Loaded FilesFault
 mem_answer files name most =
     if fails_at files.fails (length files.asked + 1) then Err Failed else ok_or (option_map (loaded_of most) (held_in files.held name)) Failed
@@ -52,7 +52,7 @@ pub record SureFilesView : Type 0 where
   pub held : List HeldFile
   pub asked : List (List ℕ)
 
--- a name that it doesn't hold has no bytes
+-- if no file has the name, no bytes are loaded
 abbrev pub surely_held_in : List HeldFile → List ℕ → List ℕ
 surely_held_in files name = unwrap_or (held_in files name) []
 
@@ -68,11 +68,11 @@ pub record MemSinkView : Type 0 where
   pub calls : ℕ
   pub faults : ℕ
 
--- of a piece it takes the prefix that there is room for, and nothing in a call that is to fail
+-- the bytes that are taken of a piece: the prefix that fits, or none in a call that must fail
 abbrev pub prefix_put : MemSinkView → List ℕ → List ℕ
 prefix_put sink piece = if fails_at sink.fails (risen sink.calls) then [] else take (sink.room - length sink.taken) piece
 
--- a call fails where it doesn't take all
+-- a call fails if it doesn't take the whole piece
 abbrev pub is_put : MemSinkView → List ℕ → Bool
 is_put sink piece = length (prefix_put sink piece) == length piece
 
@@ -92,11 +92,11 @@ pub record MemClockView : Type 0 where
   pub calls : ℕ
   pub faults : ℕ
 
--- what a clock of so many ticks that gave some of them answers next
+-- the next answer of a clock with this number of ticks, of which it has given some
 abbrev pub next_beat : ℕ → ℕ → Beat
 next_beat ticks gave = if nat_lt gave ticks then beat.Tick else beat.End
 
--- once it has ended it answers nothing else; before that it fails in a call that is to fail
+-- after its end, a clock answers only `End`; before, it fails in a call that must fail
 abbrev pub mem_beat : MemClockView → Beat
 mem_beat clock =
     if clock.ended then beat.End else if fails_at clock.fails (risen clock.calls) then beat.Failed else next_beat clock.ticks clock.gave

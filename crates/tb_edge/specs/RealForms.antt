@@ -1,4 +1,4 @@
--- What contracts see of the files and sinks over the outside, and of the files after a call.
+-- The state of the files and sinks of the system, as contracts see it, and the files after a call.
 use Rattle.std.specs.Prelude.{ℕ, List, [], ◌∷◌, ◌++◌, Result, Ok, Err}
 use Rattle.tb_edge.specs.Faults.{risen}
 use Rattle.tb_edge.specs.declared.files.Loaded.{Loaded}

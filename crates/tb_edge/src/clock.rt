@@ -3,26 +3,26 @@ ghost use Rattle.std.specs.Prelude.{◌≡◌, ℕ, ◌^◌, ◌<◌, ◌≤◌,
 ghost use Rattle.tb_edge.specs.Faults.{Rose};
 ghost use Rattle.tb_edge.specs.Ends.{ClockView, clock_after, has_ended, MayBeat, StaysAt};
 
-/// What a clock answers.
+/// The answer of a clock.
 #[derive(Clone, Copy, Debug, PartialEq, Eq)]
 pub enum Beat {
     /// A tick has passed.
     Tick,
-    /// No more ticks come: every later answer is this one.
+    /// No more ticks come. Each later answer is `End` too.
     End,
-    /// The clock failed, and no tick has passed. The next call may give one.
+    /// The clock failed, and no tick has passed. The next call may give a tick.
     Failed,
 }
 
-/// Where ticks come from.
+/// A source of ticks.
 pub trait Clock {
-    // How many calls have failed so far.
+    // The number of failed calls so far.
     ghost faults: { Self → ℕ };
 
-    // How many ticks it gave, and whether it has ended, where the clock tells it.
+    // The number of ticks so far, and whether the clock has ended, if the clock reports this.
     ghost told: { Self → Option ClockView };
 
-    /// Waits for the next tick. A clock that has ended answers at once.
+    /// Waits for the next tick. If the clock has ended, the call returns at once.
     fn wait(&mut self) -> Beat
         ensures told { told self.new ≡ clock_after (told self.old) result }
         ensures over { MayBeat (told self.old) result }

@@ -10,21 +10,21 @@ use crate::Job;
 use std::sync::Wait;
 use std::thread::{Threads, for_each_mut, join_mut};
 
-/// Why no job was done. The jobs are handed back as they were.
+/// Why no job was done. The jobs come back unchanged.
 #[derive(Drop)]
 pub enum CrewFault<J> {
-    /// The crew failed: there are too few threads.
+    /// The crew failed: too few threads can start.
     Failed(Vec<J>),
-    /// Memory ran out.
+    /// Out of memory.
     NoMemory(Vec<J>),
 }
 
-/// Who does jobs beside each other.
+/// A thread group, which does jobs concurrently.
 pub trait Crew {
-    // How many calls have failed so far.
+    // The number of failed calls so far.
     ghost faults: { Self → ℕ };
 
-    /// Whether there are threads for so many jobs.
+    /// Returns whether there are enough threads for `count` jobs.
     fn ready<R: Threads + Wait + Sync>(&mut self, rt: &R, count: usize) -> bool
         requires { IsSync R.row }
         ensures rose { OnFalse result (Rose (faults self.old) (faults self.new)) }
@@ -32,10 +32,9 @@ pub trait Crew {
         ensures never_falls { faults self.old ≤ faults self.new }
         ensures fits { faults self.old < 2 ^ 64 → faults self.new < 2 ^ 64 };
 
-    /// Does each job in a thread of its own, the lent one too, and one's own job in this thread, and returns
-    /// once all are done. It fails where the crew isn't ready for so many, before any job has begun. Where
-    /// the threads that were there are gone by then, the jobs are done one after another, and the call may
-    /// not return.
+    /// Does each job of `jobs` and the lent job in a thread of its own, and `own` in this thread. Returns when all jobs are done. If the
+    /// crew isn't ready for that many jobs, the call fails before any job begins. If threads that `ready` has found can't start any
+    /// more, the jobs are done one after another, and the call may never return.
     final fn beside<R: Threads + Wait + Sync, J: Job + Send, K: Job, L: Job + Send>(
         &mut self,
         rt: &R,
@@ -66,7 +65,7 @@ pub trait Crew {
     }
 }
 
-/// Does the lent job in a thread of its own, beside all others.
+/// Does the lent job in a thread of its own, concurrently with all others.
 fn all_beside<R: Threads + Wait + Sync, J: Job + Send, K: Job, L: Job + Send>(
     rt: &R,
     jobs: &mut [J],
@@ -94,7 +93,7 @@ fn all_beside<R: Threads + Wait + Sync, J: Job + Send, K: Job, L: Job + Send>(
     );
 }
 
-/// Does one's own job in this thread, beside the jobs.
+/// Does `own` in this thread, concurrently with the jobs.
 fn jobs_beside<R: Threads + Wait + Sync, J: Job + Send, K: Job>(rt: &R, jobs: &mut [J], own: &mut K)
     requires jobs { All J.ready jobs.old }
     requires own { K.ready own.old }

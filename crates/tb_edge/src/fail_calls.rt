@@ -4,7 +4,7 @@ ghost use Rattle.tb_edge.specs.InMemory.{fails_at};
 
 use sqlite_items::Items;
 
-/// The numbers, from 1, of the calls that are to fail.
+/// The numbers of the calls that must fail. The first call has the number 1.
 pub type FailCalls = Items<u64>;
 
 pub(crate) fn fails_at(fails: &FailCalls, call: u64) -> bool

@@ -7,24 +7,24 @@ use sqlite_items::Items;
 use std::alloc::{AllocError, AllocFailed, Global};
 use tb_terms::NoMemory;
 
-/// The bytes of a file. Contracts see them as a list.
+/// The bytes of a file. Contracts see a list of bytes.
 pub type Bytes = Items<u8>;
 
-/// What a name holds.
+/// The content of a file, or its length.
 #[derive(Drop)]
 pub enum Loaded {
-    /// All of its bytes.
+    /// All bytes of the file.
     Bytes(Bytes),
-    /// Their number, which is above the limit of the call.
+    /// The number of bytes, which is above the limit of the call.
     TooLong(usize),
 }
 
-/// Why nothing was loaded.
+/// Why a file was not loaded.
 #[derive(Clone, Copy, Debug, PartialEq, Eq)]
 pub enum FilesFault {
-    /// The name could not be read.
+    /// No file of this name could be read.
     Failed,
-    /// Memory ran out.
+    /// Out of memory.
     NoMemory,
 }
 
@@ -61,18 +61,18 @@ impl<T: Drop> From<AllocFailed<T>> for FilesFault {
     }
 }
 
-/// What bytes are read from, by names.
+/// Files, each of which has a name.
 pub trait Files {
-    // How many calls have failed so far.
+    // The number of failed calls so far.
     ghost faults: { Self → ℕ };
 
-    // The names asked for so far, in order.
+    // The names of the files that were requested so far, in order.
     ghost asked: { Self → List (List ℕ) };
 
-    // The bytes that a name holds, where the files tell them.
+    // The bytes of the file with a name, if the files report them.
     ghost held: { Self → List ℕ → Option (List ℕ) };
 
-    /// Reads what the name holds, where that is at most `most` bytes.
+    /// Reads the file with this name, if it has at most `most` bytes. Otherwise, returns its length.
     fn load(&mut self, alloc: Global, name: &str, most: usize) -> Result<Loaded, FilesFault>
         ensures within { IfOk result (IsWithin most) }
         ensures held { IfOk result (IsOf (held self.old name.now)) }

@@ -1,25 +1,25 @@
-//! What an inlet gives and an outlet takes, as contracts see it.
+//! The items that an inlet gives and an outlet takes, as contracts see them.
 use crate::Bytes;
 use tb_terms::Text;
 
-/// What an inlet gives.
+/// An item that an inlet gives.
 #[derive(Drop)]
 pub enum Given {
-    /// A line of a tool, without its newline: at most 65,536 bytes.
+    /// A line of a tool, at most 65,536 bytes without its newline.
     Line(Bytes),
-    /// A line that was longer.
+    /// A longer line, whose bytes are lost.
     Long,
-    /// The end of one tool.
+    /// The end of the output of one tool.
     End,
 }
 
-/// What an outlet takes.
+/// An item that an outlet takes.
 #[derive(Drop)]
 pub enum Taken {
-    /// A tool was started by this command.
+    /// The start of a tool by this command.
     Start(Text),
-    /// The tool was put this line, which has no newline.
+    /// A line to the tool, without its newline.
     Line(Bytes),
-    /// The tool's input was closed.
+    /// The end of the tool's input.
     End,
 }

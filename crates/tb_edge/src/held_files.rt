@@ -11,14 +11,16 @@ use tb_terms::Text;
 /// A file in memory.
 #[derive(Drop)]
 pub struct HeldFile {
+    /// The name by which the file is requested.
     pub name: Text,
+    /// The content of the file.
     pub bytes: Bytes,
 }
 
-/// Files in memory. Where two have one name, the first counts.
+/// Files in memory. If two files have the same name, the first one is used.
 pub type HeldFiles = Items<HeldFile>;
 
-/// The bytes of the first file of this name.
+/// Returns the bytes of the first file with this name.
 pub(crate) fn held_in<'a>(files: &'a HeldFiles, name: &str) -> Option<&'a [u8]>
     ensures { option_copied result ≡ held_in files.now name.now }
 {
@@ -29,7 +31,7 @@ pub(crate) fn held_in<'a>(files: &'a HeldFiles, name: &str) -> Option<&'a [u8]>
     Some(found.bytes.as_slice())
 }
 
-/// A copy of the bytes, where they are at most `most`.
+/// Copies the bytes, if there are at most `most`. Otherwise, returns their number.
 pub(crate) fn load_bytes(alloc: Global, bytes: &[u8], most: usize) -> Result<Loaded, AllocError>
     ensures { IfOk result (λ loaded. loaded ≡ loaded_of most bytes.now) }
 {
@@ -39,7 +41,7 @@ pub(crate) fn load_bytes(alloc: Global, bytes: &[u8], most: usize) -> Result<Loa
     Ok(Loaded::TooLong(bytes.len()))
 }
 
-/// What a load of the name gives, where it is held.
+/// Loads the file with this name, if there is one.
 pub(crate) fn load_held(
     alloc: Global,
     files: &HeldFiles,

@@ -3,36 +3,36 @@ ghost use Rattle.std.specs.Prelude.{◌≡◌, ℕ, ◌^◌, ◌<◌, ◌≤◌,
 ghost use Rattle.tb_edge.specs.Faults.{Rose};
 ghost use Rattle.tb_edge.specs.Ends.{InletView, inlet_after, MayGive};
 
-/// The longest line of a tool, in bytes without its newline.
+/// The length of the longest line of a tool, in bytes without the newline.
 pub const MOST_LINE: usize = 65_536;
 
-/// What an inlet answers.
+/// The answer of an inlet.
 #[derive(Clone, Copy, Debug, PartialEq, Eq)]
 pub enum Got {
-    /// A line, which the buffer holds now.
+    /// A line, which is in the buffer.
     Line,
-    /// A line that is longer than [`MOST_LINE`], and is gone.
+    /// A line that is longer than [`MOST_LINE`]. Its bytes are lost.
     Long,
-    /// The end of one tool.
+    /// The end of the output of one tool.
     End,
-    /// The lane gives nothing more: every later answer is this one.
+    /// The lane gives no more items. Each later answer is `Over` too.
     Over,
-    /// The inlet failed, which is the end of its tool.
+    /// The inlet failed. This counts as the end of its tool.
     Failed,
-    /// Memory ran out, and nothing was given.
+    /// Out of memory. The inlet has given nothing.
     NoMemory,
 }
 
-/// What comes from the tools of a lane.
+/// The read end of a lane: it gives the output of the lane's tools.
 pub trait Inlet: Drop {
-    // How many calls have failed so far.
+    // The number of failed calls so far.
     ghost faults: { Self → ℕ };
 
-    // What it gave, and whether it is over, where the inlet tells it.
+    // The items so far, and whether the inlet is over, if the inlet reports this.
     ghost told: { Self → Option InletView };
 
-    /// Waits for what comes next. `line` holds a line after `Line`, in place of what it held, and any
-    /// bytes after the other answers.
+    /// Waits for the next item. After the answer `Line`, `line` has the bytes of the line, and nothing else. After any other answer,
+    /// the content of `line` is unspecified.
     fn next(&mut self, line: &mut Vec<u8>) -> Got
         ensures told { told self.new ≡ inlet_after (told self.old) result line.new.items }
         ensures over { MayGive (told self.old) result }

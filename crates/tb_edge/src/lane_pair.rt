@@ -4,8 +4,8 @@ use crate::{Inlet, Outlet};
 /// The two ends of one lane.
 #[derive(Drop)]
 pub struct LanePair {
-    /// What comes from the lane's tools.
+    /// The read end: the output of the lane's tools.
     pub inlet: Box<dyn Inlet + Send>,
-    /// What goes to them.
+    /// The write end: the input of the lane's tools.
     pub outlet: Box<dyn Outlet + Send>,
 }

@@ -1,5 +1,5 @@
-//! The outside of the program as traits: the files that it reads, the sinks that it writes to, the clock,
-//! the two ends of a lane, and who does jobs beside each other; with forms in memory and the real ones.
+//! The environment of the program as traits: files, sinks, the clock, the two ends of a lane, and the thread group. Each trait has
+//! implementations in memory and over the system.
 #![tactic(auto)]
 
 mod clock;

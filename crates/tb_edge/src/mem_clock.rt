@@ -6,8 +6,8 @@ use crate::fail_calls::fails_at;
 use crate::{Beat, Clock, FailCalls};
 use std::marker::Model;
 
-/// A clock in memory, which never waits. It gives so many ticks and then ends, and fails in the calls that
-/// are to fail, which give no tick. Once it has ended no call fails.
+/// A clock in memory, which never waits. It gives a number of ticks, and then ends. It fails in the calls with given numbers, and gives
+/// no tick in these. After its end, no call fails.
 #[derive(Drop)]
 pub struct MemClock {
     ticks: u64,
@@ -34,7 +34,7 @@ impl Model for MemClock {
 }
 
 impl MemClock {
-    /// A clock of so many ticks, of which none was given yet.
+    /// Makes a clock with this number of ticks left.
     pub fn new(ticks: u64, fails: FailCalls) -> MemClock
         ensures { result ≡ record {
           ticks = ticks;
@@ -55,7 +55,7 @@ impl MemClock {
         }
     }
 
-    /// How many calls have failed.
+    /// Returns the number of failed calls so far.
     pub fn faults(&self) -> u64
         ensures { result ≡ self.now.faults }
     {

@@ -9,9 +9,8 @@ use sqlite_items::Items;
 use std::alloc::Global;
 use std::marker::Model;
 
-/// Files in memory. A call fails where its number is among those that are to fail, and where it
-/// asks for a name that is not held. Calls are numbered by the names asked for before them, so one
-/// that found no memory has no number.
+/// Files in memory. A call fails if its number is one of the given numbers, or if there is no file with its name. The number of a call
+/// is one more than the number of names that were requested before. So a call that is out of memory has no number.
 #[derive(Drop)]
 pub struct MemFiles {
     held: HeldFiles,
@@ -45,7 +44,7 @@ impl MemFiles {
         }
     }
 
-    /// How many calls have failed.
+    /// Returns the number of failed calls so far.
     pub fn faults(&self) -> u64
         ensures { result ≡ self.now.faults }
     {

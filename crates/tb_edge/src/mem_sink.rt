@@ -9,9 +9,8 @@ use std::alloc::Global;
 use std::marker::Model;
 use tb_terms::NoMemory;
 
-/// A sink in memory with room for so many bytes. Of a piece that doesn't fit it takes the prefix
-/// that fits, as a disk does that runs full, and of a piece in a call that is to fail nothing. An
-/// empty piece is a call as well, and never fails.
+/// A sink in memory with a capacity in bytes. If a piece doesn't fit, the sink takes the prefix that fits, as a full disk does. In the
+/// calls with given numbers, the sink takes nothing, so it fails unless the piece is empty. A call with an empty piece counts too.
 #[derive(Drop)]
 pub struct MemSink {
     bytes: Vec<u8>,
@@ -40,7 +39,7 @@ impl Model for MemSink {
 }
 
 impl MemSink {
-    /// Takes the memory for all of its room.
+    /// Makes an empty sink, and allocates memory for its whole capacity of `room` bytes.
     pub fn new(alloc: Global, room: usize, fails: FailCalls) -> Result<MemSink, NoMemory>
         ensures { IfOk result (λ sink. sink
             ≡ record { taken = []; room = room; fails = fails; calls = 0; faults = 0 }) }
@@ -54,14 +53,14 @@ impl MemSink {
         })
     }
 
-    /// What was taken.
+    /// Returns the bytes that were taken so far.
     pub fn as_slice(&self) -> &[u8]
         ensures { result.now ≡ self.now.taken }
     {
         self.bytes.as_slice()
     }
 
-    /// How many calls have failed.
+    /// Returns the number of failed calls so far.
     pub fn faults(&self) -> u64
         ensures { result ≡ self.now.faults }
     {
@@ -89,7 +88,7 @@ impl Sink for MemSink {
         } else {
             piece.len().min(self.room - self.bytes.len())
         };
-        // The memory is there, since the bytes stay within the room.
+        // The memory is allocated, since the bytes never exceed the capacity.
         let _ = self.bytes.extend_from_slice(&piece[..prefix]);
         if prefix < piece.len() {
             self.faults = self.faults.saturating_add(1);

@@ -6,15 +6,15 @@ ghost use Rattle.tb_edge.specs.declared.given.Taken.{Taken};
 
 use crate::{Failed, Taken};
 
-/// What goes to the tools of a lane.
+/// The write end of a lane: it takes the input of the lane's tools.
 pub trait Outlet: Drop {
-    // How many calls have failed so far.
+    // The number of failed calls so far.
     ghost faults: { Self → ℕ };
 
-    // What it took, where the outlet tells it.
+    // The items that the outlet took so far, if the outlet reports them.
     ghost told: { Self → Option (List Taken) };
 
-    /// Starts a tool by this command. It fails where the tool can't be started, and takes nothing then.
+    /// Starts a tool by this command. If the tool can't be started, the call fails, and the outlet takes nothing.
     fn begin(&mut self, command: &str) -> Result<(), Failed>
         ensures ok { OnOk result
             (told self.new ≡ and_taken (told self.old) (Taken.Start command.now ∷ [])) }
@@ -23,8 +23,8 @@ pub trait Outlet: Drop {
         ensures never_falls { faults self.old ≤ faults self.new }
         ensures fits { faults self.old < 2 ^ 64 → faults self.new < 2 ^ 64 };
 
-    /// Puts a line, which `bytes` holds without its newline, to the tool. It fails where the tool can't be
-    /// put it, and takes nothing then; of what a tool itself has seen of the line, nothing is said.
+    /// Writes a line to the tool. `bytes` has the line without its newline. If the line can't be written, the call fails, and the outlet
+    /// takes nothing. No clause says how much of the line the tool has received then.
     fn line(&mut self, bytes: &[u8]) -> Result<(), Failed>
         ensures ok { OnOk result
             (told self.new ≡ and_taken (told self.old) (Taken.Line bytes.now ∷ [])) }
@@ -39,7 +39,7 @@ pub trait Outlet: Drop {
         ensures never_falls { faults self.old ≤ faults self.new }
         ensures fits { faults self.old < 2 ^ 64 → faults self.new < 2 ^ 64 };
 
-    /// Ends the lane for good. Its inlet is meant to be over once it has given what is left, but no clause ties the two ends.
+    /// Ends the lane for good. After this call, the inlet should give the rest of its items, and then be over. No clause states this.
     fn close(&mut self)
         ensures told { told self.new ≡ told self.old }
         ensures never_falls { faults self.old ≤ faults self.new }

@@ -7,11 +7,10 @@ use std::rt::Clock as HostClock;
 use std::thread;
 use std::time::Duration;
 
-/// How many milliseconds one tick lasts at least.
+/// The shortest duration of a tick, in milliseconds.
 const TICK: u64 = 100;
 
-/// The clock of the runtime, which never ends and never fails. It tells nothing of the ticks that it gave.
-/// Contracts see the runtime.
+/// The clock of the runtime, which never ends and never fails. It doesn't report the ticks that it gave. Contracts see the runtime.
 #[derive(Drop)]
 pub struct RealClock<R> {
     rt: R,
@@ -30,7 +29,7 @@ impl<R> RealClock<R> {
         RealClock { rt }
     }
 
-    /// How many calls have failed, which is none.
+    /// Returns the number of failed calls, which is always 0.
     pub fn faults(&self) -> u64
         ensures { result ≡ 0 }
     {

@@ -14,7 +14,7 @@ use std::rt::Files as HostFiles;
 
 const CHUNK: usize = 65536;
 
-/// The files of the runtime. It tells nothing of what they hold.
+/// The files of the runtime. They don't report their contents.
 #[derive(Drop)]
 pub struct RealFiles<R> {
     rt: R,
@@ -44,7 +44,7 @@ impl<R> RealFiles<R> {
         }
     }
 
-    /// How many calls have failed.
+    /// Returns the number of failed calls so far.
     pub fn faults(&self) -> u64
         ensures { result ≡ self.now.faults }
     {
@@ -66,7 +66,7 @@ impl<R: HostFiles> Files for RealFiles<R> {
         ensures never_falls { self.old.faults ≤ self.new.faults }
         ensures after { self.new ≡ real_files_after result self.old name.now }
 
-        // There is a file of the runtime in which just this was left, where it tells what is left in it.
+        // The result is the unread content of some file of the runtime, if this file reports its unread content.
         ensures opened { IfOk result
             (λ loaded. (file : R.File) × IsOf (R.File.remaining file) loaded) }
     {
@@ -91,7 +91,7 @@ fn load_named<R: HostFiles>(
 ) -> Result<Loaded, FilesFault>
     ensures within { IfOk result (IsWithin most) }
 
-    // There is a file of the runtime in which just this was left, where it tells what is left in it.
+    // The result is the unread content of some file of the runtime, if this file reports its unread content.
     ensures opened { IfOk result (λ loaded. (file : R.File) × IsOf (R.File.remaining file) loaded) }
 {
     match fs::open(rt, name) {
@@ -100,7 +100,7 @@ fn load_named<R: HostFiles>(
     }
 }
 
-/// Reads to the end, a chunk at a time. Past `most` bytes it only counts.
+/// Reads to the end of the file in chunks. After `most` bytes, the function only counts bytes.
 fn read_all<F: Read>(
     alloc: Global,
     file: &mut F,
@@ -127,7 +127,7 @@ fn new_chunk(alloc: Global) -> Result<Vec<u8>, AllocError>
     vec![in alloc; 0u8; CHUNK]
 }
 
-/// Fills a prefix of the chunk and gives its length, 0 at the end of the file.
+/// Fills a prefix of the chunk, and returns its length. At the end of the file, returns 0.
 fn read_some<F: Read>(file: &mut F, chunk: &mut [u8]) -> Result<usize, FilesFault>
     ensures within { IfOk result (λ count. count ≤ length chunk.new) }
     ensures given { IfOk result
@@ -145,8 +145,8 @@ fn read_some<F: Read>(file: &mut F, chunk: &mut [u8]) -> Result<usize, FilesFaul
     Err(FilesFault::Failed)
 }
 
-/// Counts the piece, and keeps it where all bytes so far are at most `most`. A number that no
-/// `usize` can hold is a failure.
+/// Counts the bytes of the piece. If there are at most `most` bytes so far, appends the piece. If the count exceeds `usize`, the call
+/// fails.
 fn keep(bytes: &mut Vec<u8>, len: usize, piece: &[u8], most: usize) -> Result<usize, FilesFault>
     ensures counted { IfOk result (λ new_len. new_len ≡ len + length piece.now) }
     ensures kept { IfOk result

@@ -9,7 +9,7 @@ use crate::{Failed, Sink};
 use std::io::{ErrorKind, Write};
 use std::marker::Model;
 
-/// A sink over a writer. It tells nothing of what it takes.
+/// A sink over a writer. The sink doesn't report the bytes that it took.
 #[derive(Drop)]
 pub struct RealSink<W> {
     writer: W,
@@ -38,7 +38,7 @@ impl<W> RealSink<W> {
         writer
     }
 
-    /// How many calls have failed.
+    /// Returns the number of failed calls so far.
     pub fn faults(&self) -> u64
         ensures { result ≡ self.now.faults }
     {
@@ -60,7 +60,7 @@ impl<W: Write> Sink for RealSink<W> {
         ensures counted { self.new.faults
             ≡ (if is_ok result then self.old.faults else risen self.old.faults) }
 
-        // A writer that tells its contents was handed the piece.
+        // If the writer reports its contents, the piece was appended to them.
         ensures written { OnOk result
             (Appends (W.contents self.old.writer) (W.contents self.new.writer) piece.now) }
     {
@@ -72,7 +72,7 @@ impl<W: Write> Sink for RealSink<W> {
     }
 }
 
-/// Writes the piece, and says whether all of it was written.
+/// Writes the piece, and returns whether the whole piece was written.
 fn write_whole<W: Write>(writer: &mut W, piece: &[u8]) -> bool
     ensures whole { OnTrue result
         (Appends (W.contents writer.old) (W.contents writer.new) piece.now) }
@@ -88,7 +88,7 @@ fn write_whole<W: Write>(writer: &mut W, piece: &[u8]) -> bool
     true
 }
 
-/// Writes a prefix of the piece and gives its length, unless nothing was taken.
+/// Writes a prefix of the piece, and returns its length. If the writer takes nothing, returns `None`.
 fn write_some<W: Write>(writer: &mut W, piece: &[u8]) -> Option<usize>
     ensures some { IfSome result (λ count. (0 < count) × (count ≤ length piece.now)) }
     ensures prefix { IfSome result

@@ -5,7 +5,7 @@ ghost use Rattle.tb_edge.specs.InMemory.{sure_beat, sure_clock_after};
 use crate::{Beat, Clock};
 use std::marker::Model;
 
-/// A clock in memory that never fails and never waits: it gives so many ticks and then ends.
+/// A clock in memory that never fails and never waits. It gives a number of ticks, and then ends.
 #[derive(Drop)]
 pub struct SureClock {
     ticks: u64,
@@ -26,7 +26,7 @@ impl Model for SureClock {
 }
 
 impl SureClock {
-    /// A clock of so many ticks, of which none was given yet.
+    /// Makes a clock with this number of ticks left.
     pub fn new(ticks: u64) -> SureClock
         ensures { result ≡ record { ticks = ticks; gave = 0; ended = false } }
     {
@@ -37,7 +37,7 @@ impl SureClock {
         }
     }
 
-    /// How many calls have failed, which is none.
+    /// Returns the number of failed calls, which is always 0.
     pub fn faults(&self) -> u64
         ensures { result ≡ 0 }
     {

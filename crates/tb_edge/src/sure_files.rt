@@ -8,7 +8,7 @@ use sqlite_items::Items;
 use std::alloc::Global;
 use std::marker::Model;
 
-/// Files in memory that never fail: a name that is not held has no bytes.
+/// Files in memory that never fail. If no file has the requested name, a call loads no bytes.
 #[derive(Drop)]
 pub struct SureFiles {
     held: HeldFiles,
@@ -33,7 +33,7 @@ impl SureFiles {
         }
     }
 
-    /// How many calls have failed, which is none.
+    /// Returns the number of failed calls, which is always 0.
     pub fn faults(&self) -> u64
         ensures { result ≡ 0 }
     {

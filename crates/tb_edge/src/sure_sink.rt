@@ -3,7 +3,7 @@ ghost use Rattle.std.specs.Prelude.{◌≡◌, IsOk};
 
 use crate::{Failed, Sink};
 
-/// A sink that takes everything, forgets it and never fails.
+/// A sink that takes and discards all bytes, and never fails.
 #[derive(Clone, Copy)]
 pub struct SureSink;
 
@@ -12,7 +12,7 @@ impl SureSink {
         SureSink
     }
 
-    /// How many calls have failed, which is none.
+    /// Returns the number of failed calls, which is always 0.
     pub fn faults(&self) -> u64
         ensures { result ≡ 0 }
     {

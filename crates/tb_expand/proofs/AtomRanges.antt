@@ -1,4 +1,4 @@
--- Atoms that break no condition are in range.
+-- Atoms without violations are in range.
 use Rattle.std.proofs.Common.{◌≡◌, ℕ, Bool, true, false, ◌&&◌, not, nat_lt, List, [], ◌∷◌, ◌++◌, map, ◌+◌, length, slice_get, Option, Some, None, refl, ap, ◌∙◌, subst}
 use Rattle.std.specs.Prelude.{is_none, is_some}
 use Rattle.std.specs.List.{list_all, flat_map}
@@ -42,12 +42,12 @@ use Rattle.tb_expand.proofs.KeptSites.{IsKept, kept_site, is_result_of}
 use Rattle.tb_expand.proofs.KnownSlots.{slot_in_range}
 use Rattle.tb_expand.proofs.NoFaults.{append_none, flat_map_none}
 
--- the arguments of an atom that breaks nothing
+-- the arguments of an atom without violations
 pub of_arguments : (script : Script) (known : List Known) (word : AtomWord) (arguments : List Ast) (token : ℕ)
     → named_faults script known word arguments token ≡ [] → arguments_faults script known word arguments ≡ []
 of_arguments script known word arguments token none = (append_none (noted_if (has_wrong_arguments word (length arguments)) Arity token) (arguments_faults script known word arguments) none).1
 
--- the actuals of a `create` are sent
+-- the arguments of a `create` are at `Sent`
 made_sent : (formal : Option Formal) → actual_position Made formal ≡ Sent
 made_sent None = refl
 made_sent (Some formal) = refl
@@ -87,7 +87,7 @@ module _ (script : Script) (slots : ℕ) (scope : Scope) (known : List Known) (a
       and_from (stands_at position (expr_of scope x)) (stands_at other_position (expr_of scope y)) (site_stands position expected_sort x parts.0)
       (site_stands other_position other_expected_sort y (flat_map_none (site_faults script known other_position other_expected_sort) y [] parts.1).0)
 
-  -- a first argument and one other at least
+  -- a first argument and at least one other
   more_stand : (position other_position : Position) (expected_sort other_expected_sort : Expectation) (x y : Ast) (es : List Ast)
       → site_faults script known position expected_sort x ++ flat_map (site_faults script known other_position other_expected_sort) (y ∷ es) ≡ []
       → (stands_at position (expr_of scope x) && some_and_all (stands_at other_position) (exprs_of scope (y ∷ es))) ≡ true
@@ -97,7 +97,7 @@ module _ (script : Script) (slots : ℕ) (scope : Scope) (known : List Known) (a
   result_in_range expected_sort e kept there =
       lt-ltb (slot_of scope (name_of e)) slots (taken_in_range script slots scope known e (name_of e) agrees (is_result_of e there) kept.no_faults)
 
-  -- a tool that leaves
+  -- a tool that disconnects
   leaving_in_range : (e : Ast) → IsKept script known Taken disconnected e → (x : AstKind-F AstKind Ast) → out-AstKind e.kind ≡ x → IsInRange (leaves script scope e x)
   leaving_in_range e kept = step where
     sent : (x : AstKind-F AstKind Ast) → out-AstKind e.kind ≡ x → is_some (result_name x) ≡ false → is_value slots (expr_of scope e) ≡ true
@@ -119,7 +119,7 @@ module _ (script : Script) (slots : ℕ) (scope : Scope) (known : List Known) (a
   kept : (expected_sort : Expectation) (e : Ast) → site_faults script known Taken expected_sort e ++ [] ≡ [] → IsKept script known Taken expected_sort e
   kept expected_sort e all = kept_site script known Taken expected_sort e (alone Taken expected_sort e all)
 
-  -- the variable of an `execute`, whatever its tool
+  -- the variable of an `execute`, for each tool
   executed_in_range : (position : Position) (expected_sort : Expectation) (tool : Option (List ℕ)) (x y : Ast)
       → site_faults script known position expected_sort x ++ flat_map (site_faults script known Taken (started tool)) (y ∷ []) ≡ [] → nat_lt (slot_of scope (name_of y)) slots ≡ true
   executed_in_range position expected_sort tool x y none =

@@ -1,4 +1,4 @@
--- Atoms that break no condition name processes and tools that are there.
+-- Atoms without violations refer only to processes and tools that exist.
 use Rattle.std.proofs.Common.{◌≡◌, ℕ, ◌<◌, ◌+◌, ◌==◌, Bool, true, false, cond, ◌&&◌, not, nat_lt, List, [], ◌∷◌, ◌++◌, map, length, slice_get, Option, Some, None, refl, ap, sym, ◌∙◌, arith}
 use Rattle.std.specs.Prelude.{is_none, is_some, option_and_then, option_map, unwrap_or}
 use Rattle.std.specs.List.{flat_map}
@@ -68,7 +68,7 @@ layer_within script (sort_layer.List s) known is = absurd (cc)
 layer_within script sort_layer.Any known is = absurd (cc)
 layer_within script (sort_layer.Tool name) known is = tool_within script.tools name (not-false (is_tool script.tools name) known)
 
--- a known sort that is a tool's names a tool that is defined
+-- a known type of a tool has the name of a defined tool
 sort_within : (script : Script) (s : Sort) → is_unknown_sort script.tools s ≡ false → is_any_tool (out-Sort s) ≡ true → tool_of_sort script s < length script.tools
 sort_within script s known is = layer_within script (out-Sort s) (sym (fold_out-Sort Bool (unknown_step script.tools) s) ∙ known) is
 
@@ -78,7 +78,7 @@ accepted (Some t) s kept e =
     let same : t ≡ s = cc in
     ap (λ (u : Sort). is_any_tool (out-Sort u)) (sym same) ∙ not-false (is_any_tool (out-Sort t)) kept
 
--- a name alone that a tool with a command has
+-- a name without arguments that is the name of a tool with a command
 command_named : (tools : List ToolDef) (x : AstKind-F AstKind Ast) → is_command (option_and_then (tool_named tools) (name_alone x)) ≡ true → is_command (tool_named tools (name_in x)) ≡ true
 command_named tools (layer.Int number) e = absurd (cc)
 command_named tools (layer.Str text) e = absurd (cc)
@@ -93,7 +93,7 @@ with_command : (o : Option ToolDef) → is_command o ≡ true → (t : ToolDef) 
 with_command None e = absurd (cc)
 with_command (Some t) e = (t, refl, e)
 
--- the process that is called, which has as many formals as there are actuals
+-- the called process, which has as many parameters as there are arguments
 called : (o : Option ProcDef) (call : Call) → noted_if (is_none o) NoProcess call.token ≡ [] → noted_if (has_wrong_actuals o call.actuals) Arity call.token ≡ []
     → (d : ProcDef) × (o ≡ Some d) × (length call.actuals ≡ length d.formals)
 called None call none wrong = absurd (cc)
@@ -110,14 +110,14 @@ module _ (script : Script) (slots : ℕ) (scope : Scope) (known : List Known) (a
   abbrev IsInProgram : Act → Type 0
   IsInProgram act = is_act_in_program bodies tools act ≡ true
 
-  -- the tool of a variable whose sort is a tool's
+  -- the tool of a variable whose type is the type of a tool
   variable_within : (name : List ℕ) (s : Sort) → sort_in known name ≡ Some s → is_any_tool (out-Sort s) ≡ true → nat_lt (tool_of_sort script (sort_of scope name)) (length tools) ≡ true
   variable_within name s e is =
       let within = sort_within script s (known_sort script slots scope known name s agrees e) is in
       let same : tool_of_sort script (sort_of scope name) ≡ tool_of_sort script s = ap (tool_of_sort script) (sort_of_known script slots scope known name s agrees e) in
       lt-ltb (tool_of_sort script (sort_of scope name)) (length tools) (omega (arith, within, same, same_count))
 
-  -- the same of a result variable that is taken
+  -- the tool of a result variable whose type is the type of a tool
   taken_within : (e : Ast) (expected_sort : Expectation) (name : List ℕ) → IsKept script known Taken expected_sort e → out-AstKind e.kind ≡ layer.Result name → is_refused_by is_sort_of_tool (taken_sort known e) ≡ false
       → nat_lt (tool_of_sort script (sort_of scope name)) (length tools) ≡ true
   taken_within e expected_sort name kept is accepts =
@@ -125,7 +125,7 @@ module _ (script : Script) (slots : ℕ) (scope : Scope) (known : List Known) (a
       let taken : taken_sort known e ≡ Some own.0 = ap (λ (x : AstKind-F AstKind Ast). option_and_then (sort_in known) (result_name x)) is ∙ own.1 in
       variable_within name own.0 own.1 (accepted (taken_sort known e) own.0 accepts taken)
 
-  -- a tool that leaves
+  -- a tool that disconnects
   leaving_in_program : (e : Ast) → IsKept script known Taken disconnected e → (x : AstKind-F AstKind Ast) → out-AstKind e.kind ≡ x → IsInProgram (leaves script scope e x)
   leaving_in_program e kept (layer.Int number) is = refl
   leaving_in_program e kept (layer.Str text) is = refl
@@ -151,7 +151,7 @@ module _ (script : Script) (slots : ℕ) (scope : Scope) (known : List Known) (a
       (command_named script.tools (out-AstKind x.kind) (not-false (is_command (option_and_then (tool_named script.tools) (name_alone (out-AstKind x.kind)))) kept.has_tool)) in
       has_commands (name_of x) tool.0 tool.1 tool.2
 
-  -- acts that name neither, whatever their arguments
+  -- acts that refer to neither processes nor tools, for all arguments
   given : {A : Type 0} (make : A → Act) → ((a : A) → IsInProgram (make a)) → (o : Option A) → IsInProgram (unwrap_or (option_map make o) act.Delta)
   given make all None = refl
   given make all (Some a) = all a

@@ -1,4 +1,4 @@
--- What holds of each atom that breaks nothing holds of all atoms of an expansion.
+-- A property of each atom without violations holds for all atoms of an expansion.
 use Rattle.std.proofs.Common.{◌≡◌, ℕ, ◌+◌, ◌≤◌, Bool, true, List, [], ◌++◌, length, refl, ◌∙◌}
 use Rattle.std.specs.List.{list_all}
 use Rattle.std.proofs.lemmas.Bool.{and_from}
@@ -17,7 +17,7 @@ use Rattle.tb_expand.specs.Expansion.{Part, expands}
 use Rattle.tb_expand.specs.Scopes.{Scope}
 use Rattle.tb_expand.proofs.Keeping.{Keeps, expansions_keep}
 
--- an atom is good wherever it breaks nothing
+-- an atom has the property at each place where it has no violations
 abbrev pub IsGoodOf : Script → ℕ → (Atom → Bool) → Type 0
 IsGoodOf script slots good =
     (scope : Scope) (known : List Known) (def : AtomDef) → Agrees script slots scope known → atom_faults script known def ≡ [] → good (atom_of script scope def) ≡ true

@@ -1,4 +1,4 @@
--- What is too large by its size, and what is in range of a body.
+-- Expansions that are too large by their sizes, and expansions that are in range of a body.
 use Rattle.std.proofs.Common.{◌≡◌, ℕ, ◌<◌, ◌≤◌, ◌⊎◌, inl, inr, true, false, ◌||◌, nat_lt, List, length, min, slice_get, Contains, Option, Some, None, ap, sym, ◌∙◌, arith}
 use Rattle.std.proofs.lemmas.Bool.{lt-ltb, le-ltb, cases_lt}
 use Rattle.tb_terms.specs.declared.sort.Sort.{Sort}

@@ -1,4 +1,4 @@
--- What is computed of a process in two ways is related where it is for each kind of process and for each call.
+-- Two folds over a process give related results if their steps keep the relation for each kind of process and for each call.
 use Rattle.std.proofs.Common.{◌≡◌, ℕ, List, [], ◌∷◌, ◌++◌, Some, None, refl, sym, subst, arith}
 use Rattle.std.specs.List.{Contains}
 use Rattle.std.proofs.lemmas.List.Elements.{Contains-append_left, Contains-append_right}

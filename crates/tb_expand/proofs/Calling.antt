@@ -1,4 +1,4 @@
--- What a call becomes where the called process is known.
+-- The expansion of a call whose process is defined.
 use Rattle.std.proofs.Common.{◌≡◌, ℕ, ◌+◌, List, length, Some, None}
 use Rattle.tb_syntax.specs.declared.ast.Ast.{Ast}
 use Rattle.tb_syntax.specs.declared.proc.Call.{Call}

@@ -1,4 +1,4 @@
--- Where processes stand behind those that they call, calls end, and no depth beyond the number of processes changes a size.
+-- If each process comes after the processes that it calls, calls end, and no depth beyond the number of processes changes a size.
 use Rattle.std.proofs.Common.{◌≡◌, ℕ, zero, suc, ◌+◌, ◌<◌, ◌≤◌, ◌⊎◌, inl, inr, Bool, true, false, List, [], ◌∷◌, ◌++◌, map, cond, bytes_eq, option_map, length, take, get_or, slice_get, Option, Some, None, refl, ap, sym, subst, ◌∙◌, arith}
 use Rattle.std.specs.List.{Contains}
 use Rattle.std.proofs.Math.Seq.{take-suc, take-length}

@@ -1,4 +1,4 @@
--- Positions that differ, and ways on which each leads to the next.
+-- Positions that differ, and paths.
 use Rattle.std.proofs.Common.{◌≡◌, ℕ, ◌⊎◌, inl, inr, List, [], ◌∷◌, ◌++◌, Contains, sym, subst}
 use Rattle.std.proofs.lemmas.List.Elements.{Contains-push, Contains-push_cases, Contains-append_left, Contains-append_right, Contains-append_cases}
 use Rattle.tb_expand.specs.Helpers.Graphs.{Graph, next_positions, AllDiffer, IsGraphPath}

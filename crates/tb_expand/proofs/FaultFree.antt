@@ -1,4 +1,4 @@
--- A proper script breaks nothing, and nor does any part of it.
+-- A well-formed script has no violations, and none of its parts has any.
 use Rattle.std.proofs.Common.{◌≡◌, ℕ, Bool, true, false, not, ◌==◌, List, [], ◌∷◌, ◌++◌, map, length, Option, Some, None, Contains, flat_map, refl, sym, inl}
 use Rattle.std.proofs.lemmas.Bool.{eqb-true}
 use Rattle.std.proofs.lemmas.List.Elements.{All-contains, All-from_recursion}
@@ -24,7 +24,7 @@ use Rattle.tb_types.specs.Positions.{misplaced}
 use Rattle.tb_types.specs.Scopes.{known_formal}
 use Rattle.tb_expand.proofs.NoFaults.{append_none, flat_map_each, flat_map_found, noted_none}
 
--- what breaks nothing is empty
+-- a list of violations without members is empty
 no_member : (faults : List Violation) → ((fault : Violation) → IsIn fault faults → ⊥) → faults ≡ []
 no_member [] none = refl
 no_member (fault ∷ faults) none = absurd (none fault (inl refl))
@@ -69,7 +69,7 @@ pub free_named : (script : Script) (name : List ℕ) (d : ProcDef) → Proper sc
 free_named script name d proper found =
     by_parts script d (flat_map_found (process_faults script) (λ (other : ProcDef). bytes_eq other.name name) script.procs d found (fault_free script proper).procs)
 
--- an expression where it stands
+-- an expression at its place
 pub record IsFreeSite (script : Script) (known : List Known) (position : Position) (expected_sort : Expectation) (e : Ast) : Type 0 where
   pub tool : lacks_tool script expected_sort e ≡ false
   pub function : lacks_function expected_sort e ≡ false
@@ -98,7 +98,7 @@ free_site script known position expected_sort e none =
       fits = noted_none (clashes script known expected_sort e) TypeClash e.token first.1;
     }
 
--- a call, a `create` or a root: the process is there, and takes as many actuals
+-- a call, a `create`, or a root: the process exists, and takes this many arguments
 pub record IsFreeCall (script : Script) (known : List Known) (manner : Manner) (call : Call) : Type 0 where
   pub called : ProcDef
   pub is : process_named script.procs call.name ≡ Some called

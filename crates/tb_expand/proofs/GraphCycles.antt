@@ -1,4 +1,4 @@
--- Orders and cycles of the graph of calls, and what they say of the script: that no calls form a cycle, or which do.
+-- Orders and cycles of the call graph, and their meaning for the script: no calls form a cycle, or these calls do.
 use Rattle.std.proofs.Common.{◌≡◌, ℕ, zero, suc, ◌<◌, ◌⊎◌, inl, inr, List, [], ◌∷◌, length, get_or, take, slice_get, Option, Some, None, option_map, option_to_list, Contains, All, refl, ap, sym, ◌∙◌, subst, arith}
 use Rattle.std.proofs.lemmas.Option.{same_Some, slice_get-map, slice_get_within, slice_get-get_or, get_or_from_slice_get}
 use Rattle.std.proofs.lemmas.List.{length-map, length-take, get_or-take}
@@ -49,7 +49,7 @@ from_names script (other ∷ names) name position c h = split (contains_cases ot
       Contains-append_left (option_to_list (position_of (names_in script) other)) (positions_of script names) position at_front
   split (inr i) ih = Contains-append_right (option_to_list (position_of (names_in script) other)) (positions_of script names) position (ih i)
 
--- What a position leads to, by the definition that stands there.
+-- The successors of a position, from the definition at this position.
 record Leads (script : Script) (position next : ℕ) : Type 0 where
   d : ProcDef
   there : slice_get script.procs position ≡ Some d
@@ -73,7 +73,7 @@ leads_from script position next d name there c h =
     = next_of script position ∙ ap (λ (o : Option ProcDef). or_nowhere (option_map (λ (e : ProcDef). positions_of script (called e.body)) o)) there in
     subst (λ (ps : List ℕ). Contains ps next) (sym is) (from_names script (called d.body) name next c h)
 
--- the name of the definition that stands at a position
+-- the name of the definition at a position
 named_there : (script : Script) (position : ℕ) (d : ProcDef) → slice_get script.procs position ≡ Some d → slice_get (names_in script) position ≡ Some d.name
 named_there script position d h = slice_get-map process_name script.procs position ∙ ap (option_map process_name) h
 
@@ -94,14 +94,14 @@ pub cycle_in_script : (script : Script) (positions : List ℕ) → IsGraphCycle 
 cycle_in_script script positions r k d h =
     omega (arith, r.inside (get_or positions k d) (Contains-get_or positions k d h), length-map script.procs (λ (e : ProcDef). positions_of script (called e.body)))
 
--- a position that leads to another calls it
+-- the process at a position calls the process at each successor
 calls_there : (script : Script) (position next : ℕ) → Contains (next_positions (graph_of script) position) next → Calls script (name_at script position) (name_at script next)
 calls_there script position next c =
     let l = leads_by script position next c in
     let next_name : name_at script next ≡ l.name = name_is script next l.name (found_there (names_in script) l.name next l.next_is) in
     (l.d, contains_at script.procs position l.d l.there, sym (name_is script position l.d.name (named_there script position l.d l.there)), subst (λ (n : List ℕ). Contains (called l.d.body) n) (sym next_name) l.called_there)
 
--- a call leads from the caller's position, where names differ
+-- if names differ, the callee's position is a successor of the caller's
 leads_there : (script : Script) → NamesDiffer script → (caller name : List ℕ) (position next : ℕ) → Calls script caller name
     → position_of (names_in script) caller ≡ Some position → position_of (names_in script) name ≡ Some next → Contains (next_positions (graph_of script) position) next
 leads_there script differ caller name position next calls h k =
@@ -111,7 +111,7 @@ leads_there script differ caller name position next calls h k =
     let same : at.0 ≡ position = same_Some at.0 position (sym own ∙ ap (position_of (names_in script)) calls.2 ∙ h) in
     leads_from script position next d name (subst (λ (n : ℕ). slice_get script.procs n ≡ Some d) same at.1) calls.3 k
 
--- who calls is defined
+-- a caller is defined
 caller_there : (script : Script) (caller name : List ℕ) → Calls script caller name → (position : ℕ) × (position_of (names_in script) caller ≡ Some position)
 caller_there script caller name calls =
     let at = at_contains script.procs calls.0 calls.1 in
@@ -123,7 +123,7 @@ prefixed xs at x c =
     let within : c.0 < length xs = omega (arith, c.1, length-take at xs) in
     (c.0, below, slice_get-get_or xs c.0 x within ∙ ap (λ y. Some y) (sym (get_or-take at xs c.0 x below) ∙ c.2))
 
--- on a cycle of calls each calls one of the cycle
+-- each process of a cycle of calls calls a process of the cycle
 calls_on : (script : Script) (Member : List ℕ → Type 0) (back caller : List ℕ) (names : List (List ℕ)) → IsCallPath script back caller names → Member back
     → ((name : List ℕ) → Contains names name → Member name) → (name : List ℕ) → Contains (caller ∷ names) name → (other : List ℕ) × Member other × Calls script name other
 calls_on script Member back caller [] go m ms name c = only (contains_cases caller [] name c) where
@@ -138,7 +138,7 @@ calls_on script Member back caller (next ∷ names) go m ms name c =
       split (inr i) ih = ih i
 
 module _ (script : Script) (differ : NamesDiffer script) where
-  -- no process of a cycle stands in an order: those that it calls would stand before it
+  -- no process of a cycle is in an order: the processes that it calls would come before it
   module _ (order : List ℕ) (ordered : IsOrder (graph_of script) order) (names : List (List ℕ)) (cycle : IsCycle script names) where
     abbrev Member : List ℕ → Type 0
     Member name = Contains (cycle.first ∷ cycle.others) name
@@ -217,7 +217,7 @@ module _ (script : Script) (differ : NamesDiffer script) where
         let other = process_there p.0 (r.inside p.0 (stands p.0 (contains_there r.first r.others p.0 p.1))) in
         omega (arith, own, other, ap (process_of script) p.2, r.is_first p.0 p.1)
 
-  -- each process that one calls stands before it in an order
+  -- in an order, each process comes after the processes that it calls
   pub calls_go_down : AllDefined script → (order : List ℕ) → IsOrder (graph_of script) order → (at position : ℕ) (d : ProcDef) (name : List ℕ)
       → slice_get order at ≡ Some position → slice_get script.procs position ≡ Some d → Contains (called d.body) name → Contains (take at order) (process_of script name)
   calls_go_down defined order ordered at position d name there here c =

@@ -1,4 +1,4 @@
--- What each construct keeps holds of all that the processes of a proper script become.
+-- A property that each construct keeps holds for the expansions of all processes of a well-formed script.
 use Rattle.std.proofs.Common.{◌≡◌, ℕ, zero, suc, ◌+◌, ◌≤◌, true, List, [], ◌++◌, map, length, flat_map, None, ap, sym, ◌∙◌, subst, arith, length-append}
 use Rattle.std.specs.List.{list_all}
 use Rattle.std.proofs.lemmas.List.{length-map}
@@ -46,7 +46,8 @@ use Rattle.tb_expand.proofs.Settings.{call_in_range, initial_in_range}
 abbrev pub beside : (Tree → Tree → Tree) → Part → Part → Part
 beside join prefix back = record { tree = join prefix.tree back.tree; atoms = prefix.atoms ++ back.atoms; sorts = prefix.sorts ++ back.sorts }
 
--- A property of parts that each construct keeps, over this many slots. Tests and settings are in range, and atoms stand where what is seen is what is known.
+-- A property of parts that each construct keeps, over this many slots. Tests and settings are in range. For an atom, the visible
+-- variables agree with the known variables.
 pub record Keeps (script : Script) (slots : ℕ) (P : Part → Type 0) : Type 0 where
   pub nothing : P nothing
   pub atom : (scope : Scope) (known : List Known) (def : AtomDef) (atom slot : ℕ) → Agrees script slots scope known → atom_faults script known def ≡ [] → P (atom_only script def scope atom slot)
@@ -59,7 +60,7 @@ pub record Keeps (script : Script) (slots : ℕ) (P : Part → Type 0) : Type 0 
   pub test_else : (test : Expr) (prefix back : Part) → is_value slots test ≡ true → P prefix → P back → P (beside (expansion.tested test) prefix back)
   pub block : (settings : List Setting) (sorts : List Sort) (part : Part) → list_all (is_setting_in_range slots) settings ≡ true → P part → P (declaring settings sorts part)
 
--- the property holds wherever a process stands that breaks nothing there, and whose slots are there
+-- the property holds for a process at each place where it has no violations and its slots exist
 abbrev HoldsOf : Script → ℕ → (Part → Type 0) → (List Known → List Violation) → Expands → Type 0
 HoldsOf script slots P violation x =
     (scope : Scope) (known : List Known) (atom slot : ℕ) → Agrees script slots scope known → violation known ≡ [] → slot + length (x scope atom slot).sorts ≤ slots → P (x scope atom slot)

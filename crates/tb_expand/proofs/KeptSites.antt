@@ -1,4 +1,4 @@
--- What holds of an expression that breaks no condition where it stands.
+-- The properties of an expression without violations at its place.
 use Rattle.std.proofs.Common.{◌≡◌, true, false, not, List, [], ◌++◌, refl}
 use Rattle.std.specs.Prelude.{is_some}
 use Rattle.std.proofs.lemmas.Bool.{not-false}
@@ -52,6 +52,6 @@ result_at (layer.Result name) e = refl
 result_at (layer.Hole s) e = absurd (cc)
 result_at (layer.List parts) e = absurd (cc)
 
--- an expression that isn't no result variable is one, of its name
+-- an expression that doesn't fail to be a result variable is one, and has a name
 pub is_result_of : (e : Ast) → not (is_result e) ≡ false → out-AstKind e.kind ≡ layer.Result (name_of e)
 is_result_of e there = result_at (out-AstKind e.kind) (not-false (is_result e) there)

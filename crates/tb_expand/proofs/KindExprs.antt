@@ -1,4 +1,4 @@
--- What each kind of expression becomes.
+-- The body expression that each kind of expression becomes.
 use Rattle.std.proofs.Common.{◌≡◌, ℕ, ℤ, List, map, ap, ◌∙◌}
 use Rattle.tb_terms.specs.declared.expr.Expr.{Expr}
 use Rattle.tb_terms.specs.declared.expr.Expr.TheVariants as expr

@@ -1,4 +1,4 @@
--- What an expansion sees of a variable that the checks know: a slot that is there, and its sort, which is known.
+-- For each variable that the checks know, an expansion sees an existing slot and the variable's known type.
 use Rattle.std.proofs.Common.{◌≡◌, ℕ, ◌<◌, Bool, true, false, cond, List, [], ◌∷◌, Option, Some, ap, sym, ◌∙◌, subst}
 use Rattle.std.specs.Str.{bytes_eq}
 use Rattle.tb_terms.specs.declared.sort.Sort.{Sort}

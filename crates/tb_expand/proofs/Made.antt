@@ -1,4 +1,4 @@
--- That a process whose expansion is within the limits has a body.
+-- A process whose expansion is within the limits has a body.
 use Rattle.std.proofs.Common.{◌≡◌, ℕ, ◌<◌, false, List, length, slice_get, get_or, Contains, Some, refl, ap, ◌∙◌}
 use Rattle.std.proofs.lemmas.Option.{slice_get_read, slice_get_within, get_or_from_slice_get}
 use Rattle.tb_body.specs.declared.body.Body.{Body}
@@ -10,7 +10,7 @@ use Rattle.tb_expand.specs.Faults.{HasNoCycle, IsBodyOf}
 use Rattle.tb_expand.specs.Helpers.Wholes.{AllWhole}
 use Rattle.tb_expand.proofs.Bodies.{parts_in_range}
 
--- the definition that was read stands there
+-- the definition that was read is at this position
 pub read_there : (procs seen : List ProcDef) (position : ℕ) (d : ProcDef) → position < length procs → d ≡ get_or seen position d → seen ≡ procs → slice_get procs position ≡ Some d
 read_there procs seen position d within read same = slice_get_read procs (length procs) position d refl within (read ∙ ap (λ (xs : List ProcDef). get_or xs position d) same)
 

@@ -1,4 +1,4 @@
--- What is measured is the size as far as it counts.
+-- The measured size is the capped size.
 use Rattle.std.proofs.Common.{◌≡◌, ℕ, ◌+◌, List, min, max, Option, Some, None, option_map, refl, ap, ◌∙◌, arith}
 use Rattle.std.specs.List.{Contains}
 use Rattle.tb_syntax.specs.declared.proc.Proc.{Proc}

@@ -1,4 +1,4 @@
--- The positions of names among definitions, where the names differ.
+-- The positions of names among definitions, if the names differ.
 use Rattle.std.proofs.Common.{◌≡◌, ℕ, zero, suc, ◌+◌, ◌⊎◌, inl, inr, Bool, true, false, cond, List, [], ◌∷◌, slice_get, Option, Some, None, option_map, Contains, bytes_eq, refl, ap, sym, ◌∙◌, subst, add-one}
 use Rattle.std.proofs.lemmas.Option.{same_Some}
 use Rattle.std.proofs.lemmas.Slice.Eq.{bytes_eq-Decides}
@@ -10,7 +10,7 @@ use Rattle.tb_expand.proofs.Readings.{none_in, contains_at, contains_cases}
 abbrev next : ℕ → ℕ
 next position = position + 1
 
--- at the position of a name stands this name
+-- the name at the position of a name is this name
 pub found_there : (names : List (List ℕ)) (name : List ℕ) (position : ℕ) → position_of names name ≡ Some position → slice_get names position ≡ Some name
 found_there [] name position h = cc
 found_there (first ∷ names) name position h = step (bytes_eq first name) refl (position_of names name) (found_there names name) h where
@@ -27,7 +27,7 @@ found_there (first ∷ names) name position h = step (bytes_eq first name) refl 
       subst (λ (n : ℕ). slice_get (first ∷ names) n ≡ Some name) (sym here) (ap (λ (n : List ℕ). Some n) ((bytes_eq-Decides first name).0 e))
   step false e o ih h = behind o ih h
 
--- a name that is there has a position
+-- a name in the list has a position
 pub position_there : (names : List (List ℕ)) (name : List ℕ) → Contains names name → (position : ℕ) × (position_of names name ≡ Some position)
 position_there [] name c = absurd (none_in name c)
 position_there (first ∷ names) name c = step (bytes_eq first name) refl (λ i. position_there names name i) where
@@ -40,7 +40,7 @@ position_there (first ∷ names) name c = step (bytes_eq first name) refl (λ i.
   step true e ih = (0, refl)
   step false e ih = let r = ih (further (contains_cases first names name c) e) in (r.0 + 1, ap (option_map next) r.1)
 
--- where names differ, each has the position at which it stands
+-- if names differ, the position of each name is the index at which the name is
 pub position_is : (names : List (List ℕ)) → Differ names → (name : List ℕ) (position : ℕ) → slice_get names position ≡ Some name → position_of names name ≡ Some position
 position_is [] d name position h = cc
 position_is (first ∷ names) d name zero h = step (bytes_eq first name) refl where
@@ -55,7 +55,7 @@ position_is (first ∷ names) d name (suc position) h = step (bytes_eq first nam
   step true e ih = absurd (d.0 (subst (λ (n : List ℕ). Contains names n) (sym ((bytes_eq-Decides first name).0 e)) (contains_at names position name h)))
   step false e ih = ap (option_map next) ih ∙ ap (λ (n : ℕ). Some n) (add-one position)
 
--- the position in the other form, in which a name that is nowhere has the number of names
+-- the position in the form of `Acts`: a name that isn't in the list has the length of the list
 pub position_in_both : (names : List (List ℕ)) (name : List ℕ) (position : ℕ) → position_of names name ≡ Some position → position_or_end name names ≡ position
 position_in_both [] name position h = cc
 position_in_both (first ∷ names) name position h = step (bytes_eq first name) (position_of names name) (position_in_both names name) h where

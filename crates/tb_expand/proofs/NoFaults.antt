@@ -1,4 +1,4 @@
--- Where nothing is noted of a whole, nothing is noted of any part.
+-- If a whole has no violations, no part has any.
 use Rattle.std.proofs.Common.{◌≡◌, ℕ, Bool, true, false, cond, List, [], ◌∷◌, ◌++◌, Some, refl, ap, sym, ◌∙◌}
 use Rattle.std.specs.Prelude.{find}
 use Rattle.std.specs.List.{AllByRecursion, flat_map}

@@ -1,4 +1,4 @@
--- Where calls end, atoms are numbered one by one: each stands once in the tree, in the order of its number.
+-- If calls end, atoms are numbered consecutively: each atom is in the tree once, in the order of the numbers.
 use Rattle.std.proofs.Common.{◌≡◌, ℕ, zero, suc, ◌+◌, Bool, true, ◌&&◌, ◌==◌, List, [], ◌∷◌, ◌++◌, length, Option, Some, None, refl, sym, ◌∙◌, subst, arith, length-append, append-nil}
 use Rattle.std.proofs.lemmas.Bool.{and_parts, and_from, eq-eqb, false≢true}
 use Rattle.tb_body.specs.declared.tree.Tree.{Tree}
@@ -18,12 +18,12 @@ use Rattle.tb_expand.proofs.Calling.{body_of_call, call_found}
 use Rattle.tb_expand.proofs.ProcInduction.{Related, folds_related}
 use Rattle.tb_expand.proofs.TreeFolds as at
 
--- numbers that ascend from here on, and how many they are
+-- consecutive numbers from this number on, and their count
 pub record AreNumbered (from : ℕ) (numbers : List ℕ) (count : ℕ) : Type 0 where
   pub ascends : ascends_by_one from numbers ≡ true
   pub counted : length numbers ≡ count
 
--- the atoms of a part's tree are numbered from here on, and are those of the part
+-- the atoms of a part's tree are numbered from this number on, and are as many as the part has
 abbrev pub IsNumbered : ℕ → Part → Type 0
 IsNumbered from part = AreNumbered from (tree_atoms part.tree) (length part.atoms)
 
@@ -47,7 +47,7 @@ both_numbered from count others prefix back f b = record {
 one_numbered : (atom : ℕ) → AreNumbered atom (atom ∷ []) 1
 one_numbered atom = record { ascends = and_from _ _ (eq-eqb atom atom refl) refl; counted = refl }
 
--- one side behind the other, under a tree that has the atoms of both
+-- two sides, under a tree that has the atoms of both
 joined_numbered : (join : Tree → Tree → Tree) → ((x y : Tree) → tree_atoms (join x y) ≡ tree_atoms x ++ tree_atoms y)
     → (x y : Expands) (scope : Scope) (atom slot : ℕ)
     → IsNumbered atom (x scope atom slot)
@@ -60,7 +60,7 @@ joined_numbered join atoms_of x y scope atom slot f b =
     (subst (AreNumbered atom (tree_atoms prefix.tree ++ tree_atoms back.tree)) (sym (length-append prefix.atoms back.atoms))
     (both_numbered atom (length prefix.atoms) (length back.atoms) (tree_atoms prefix.tree) (tree_atoms back.tree) f b))
 
--- numbered wherever it stands, if its calls end
+-- numbered in each scope and from each number on, if its calls end
 abbrev AreNumberedIf : Bool → Expands → Type 0
 AreNumberedIf whole x = whole ≡ true → (scope : Scope) (atom slot : ℕ) → IsNumbered atom (x scope atom slot)
 

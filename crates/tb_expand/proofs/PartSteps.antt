@@ -1,4 +1,4 @@
--- The levels of what is built of each part of a process, by which the building of it ends.
+-- A measure of the parts of a process that decreases in each part, so the building ends.
 use Rattle.std.proofs.Common.{ℕ, Option, option_map}
 use Rattle.tb_body.specs.Trees.{or_no_levels}
 use Rattle.tb_syntax.specs.declared.proc.Proc.{Proc}

@@ -1,4 +1,4 @@
--- Where each kind of expression may stand.
+-- The positions that each kind of expression is allowed at.
 use Rattle.std.proofs.Common.{◌≡◌, ℕ, ℤ, ◌==◌, ◌&&◌, nat_lt, List, map, length, false, true, ap, ◌∙◌}
 use Rattle.std.specs.List.{list_all}
 use Rattle.tb_terms.specs.declared.sort.Sort.{Sort}

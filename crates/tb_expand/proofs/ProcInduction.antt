@@ -1,4 +1,4 @@
--- Induction over processes, and over what two folds give of one process.
+-- Induction over processes, and over the results of two folds of one process.
 use Rattle.std.proofs.Common.{◌≡◌, List, Option, Some, None, sym, subst}
 use Rattle.tb_syntax.specs.declared.ast.Ast.{Ast}
 use Rattle.tb_syntax.specs.declared.proc.AtomDef.{AtomDef}
@@ -12,12 +12,12 @@ use Rattle.tb_syntax.specs.declared.proc.Proc.TheOpen as layer
 abbrev Shown : (Proc → Type 0) → Type 0
 Shown P = (p : Proc) × P p
 
--- the side that may lack
+-- an `else` side, which can be missing
 abbrev pub OnSide : (Proc → Type 0) → Option Proc → Type 0
 OnSide P None = Unit {0}
 OnSide P (Some y) = P y
 
--- each construct has a property where its parts have it
+-- each construct has the property if its parts have it
 pub record Inductive (P : Proc → Type 0) : Type 0 where
   pub atom : (def : AtomDef) → P (proc.Atom def)
   pub call : (call : Call) → P (proc.Call call)

@@ -1,4 +1,4 @@
--- What each kind of process becomes.
+-- The expansion of each kind of process.
 use Rattle.std.proofs.Common.{◌≡◌, List, Option, Some, option_map, ap, ◌∙◌, sym, subst}
 use Rattle.tb_body.specs.declared.tree.Tree.{Tree}
 use Rattle.tb_body.specs.declared.tree.Tree.TheVariants as tree
@@ -57,7 +57,7 @@ pub adds_as : (e f : Expands) (blocks : List Scope) (built : Built) (t : Tree) (
 adds_as e f blocks built t blocks_now built_now is added =
     subst (λ (x : Expands). Adds x blocks built t blocks_now built_now) (sym is) added
 
--- a test whose second side is there
+-- a test that has a second side
 pub adds_test : (body : Proc → Expands) (blocks : List Scope) (built : Built) (blocks_now : List Scope) (built_now : Built)
     → (test : Ast) (e : Expr) (x : Expands) (y : Option Proc) (g h : Proc) (s t : Tree)
     → e ≡ expr_of (of_blocks blocks) test → y ≡ Some g → h ≡ g

@@ -1,4 +1,4 @@
--- In a proper script names differ and each call has its process, so an order of the graph of calls is one of the processes.
+-- In a well-formed script, names differ and each call names a process. So an order of the call graph is an order of the processes.
 use Rattle.std.proofs.Common.{◌≡◌, ℕ, ◌<◌, ◌⊎◌, inl, inr, Bool, true, false, cond, List, [], ◌∷◌, ◌++◌, map, length, take, slice_get, Some, None, Contains, bytes_eq, refl, ap, sym, ◌∙◌, subst}
 use Rattle.std.proofs.lemmas.List.{length-map}
 use Rattle.std.proofs.lemmas.List.Elements.{Contains-append_cases}

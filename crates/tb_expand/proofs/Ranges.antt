@@ -1,4 +1,4 @@
--- What the processes of a proper script become is in range of a body.
+-- The expansions of the processes of a well-formed script are in range of a body.
 use Rattle.std.proofs.Common.{◌≡◌, ℕ, ◌+◌, ◌≤◌, Bool, true, false, map, length, flat_map, Contains, ap, ◌∙◌, arith, length-append}
 use Rattle.std.specs.List.{list_all}
 use Rattle.std.proofs.lemmas.Bool.{and_from, eq-eqb, le-leb, ltb-false, or_parts}
@@ -48,7 +48,7 @@ module _ (script : Script) (d : ProcDef) (proper : Proper script) (there : Conta
       let free = append_none (formal_repeats none_seen d.formals) (flat_map (formal_faults script.tools) d.formals) (free_definition script d proper there).formals in
       formals_agree script slots 0 d.formals free.1 (omega (arith, formals_within))
 
-  -- what holds of each atom that breaks nothing holds of all atoms of the process
+  -- a property of each atom without violations holds for all atoms of the process
   pub atoms_of_process : (good : Atom → Bool) → IsGoodOf script slots good → list_all good (expansion_of script d).atoms ≡ true
   atoms_of_process good is_good =
       atoms_of_expansion script slots good is_good (length script.procs) d.body (formals_seen 0 d.formals) (map known_formal d.formals) 1 (length d.formals) proper

@@ -1,4 +1,4 @@
--- What is read in a list after a change, and what a list contains.
+-- Lookups in a list after a change, and the members of a list.
 use Rattle.std.proofs.Common.{◌≡◌, ℕ, zero, suc, ◌+◌, ◌<◌, ◌≤◌, ◌⊎◌, inl, inr, List, [], ◌∷◌, ◌++◌, length, get_or, take, set, replicate, slice_get, Some, None, Contains, refl, ap, sym, ◌∙◌, subst, arith, take_all}
 use Rattle.std.proofs.lemmas.Bool.{cases_eq}
 use Rattle.std.proofs.lemmas.Option.{same_Some, slice_get_within, slice_get-get_or, get_or_from_slice_get}

@@ -130,7 +130,7 @@ deep = record {
   roots = [];
 }
 
--- a result formal is another name, through all calls
+-- a result parameter is another name of the caller's variable, through all calls
 deep_expands : expansion_of deep deep_p ≡ record {
   tree = tree.Let (record { slot = 0; start = None } ∷ []) (tree.Let [] (tree.Let [] (tree.At 1)));
   atoms = record { act = act.Set 0 (expr.Int (pos 7)); times = [] } ∷ [];
@@ -161,7 +161,8 @@ calls_mixed = defined (codes "N") [] (with_int a (call (codes "M") (of (ast.Int 
 abbrev mixed_script : Script
 mixed_script = record { procs = mixed ∷ calls_mixed ∷ []; tools = []; roots = [] }
 
--- A result formal between value formals takes no slot. The actual A is the caller's, and within the call A is the first formal.
+-- A result parameter between value parameters takes no slot. The argument A is the caller's variable. In the called process, A is the
+-- first parameter.
 mixed_expands : expansion_of mixed_script calls_mixed ≡ record {
   tree = tree.Let (record { slot = 0; start = None } ∷ [])
       (tree.Let (record { slot = 1; start = Some (expr.Int (pos 1)) } ∷ record { slot = 2; start = Some (expr.Var 0) } ∷ []) (tree.At 1));
@@ -195,7 +196,7 @@ with_tools = record {
   roots = [];
 }
 
--- any tool of the variable's sort, and the tool that is its value
+-- any tool of the variable's type, and the tool that is the variable's value
 leaves_expand : expansion_of with_tools leaves ≡ record {
   tree = tree.Seq (tree.At 1) (tree.At 2);
   atoms = record { act = act.RecDisconnectAny 1 0; times = [] } ∷ record { act = act.RecDisconnect (expr.Var 0); times = [] } ∷ [];

@@ -1,4 +1,4 @@
--- The scopes that an expansion makes have what the checks know: where it starts, within a `let`, and within a call.
+-- The scopes of an expansion agree with the variables that the checks know: at the start, in a `let`, and in a call.
 use Rattle.std.proofs.Common.{◌≡◌, ℕ, suc, ◌+◌, ◌<◌, ◌≤◌, Bool, true, false, not, cond, List, [], ◌∷◌, ◌++◌, map, length, flat_map, Option, Some, is_some, slice_get, refl, ap, sym, ◌∙◌, subst, arith}
 use Rattle.std.specs.Prelude.{if◌then◌else◌}
 use Rattle.tb_terms.specs.declared.sort.Sort.{Sort}
@@ -26,7 +26,7 @@ use Rattle.tb_expand.proofs.ExprRanges.{taken_in_range}
 use Rattle.tb_expand.proofs.FaultFree.{free_site}
 use Rattle.tb_expand.proofs.NoFaults.{append_none, noted_none}
 
--- Where an expansion starts, and within a `let`.
+-- The start of an expansion, and the body of a `let`.
 
 sort_is : (script : Script) (s : Sort) (token : ℕ) → noted_if (is_unknown_sort script.tools s) NoTool token ≡ [] → is_unknown_sort script.tools s ≡ false
 sort_is script s token = noted_none (is_unknown_sort script.tools s) NoTool token
@@ -53,7 +53,7 @@ declared_agree script slots slot (var ∷ vars) scope known free within agrees =
 
 -- Actuals with their formals.
 
--- each actual of a call breaks nothing where it stands for its formal
+-- each argument of a call has no violations at the place of its parameter
 abbrev pub ActualsFree : Script → List Known → List Formal → List Ast → Type 0
 ActualsFree script known [] [] = Unit {0}
 ActualsFree script known [] (actual ∷ actuals) = ⊥
@@ -84,7 +84,7 @@ actuals_free script known formals actuals count free = from_position script know
   zero_and : (k : ℕ) → 0 + k ≡ k
   zero_and k = omega arith
 
--- A result formal stands for a variable that is known.
+-- A result parameter represents a known variable.
 
 is_result_of : (x : layer.AstKind-F AstKind Ast) → not (is_some (result_name x)) ≡ false → (name : List ℕ) × (x ≡ layer.Result name)
 is_result_of (layer.Int number) e = absurd (cc)
@@ -103,7 +103,7 @@ module _ (script : Script) (slots : ℕ) (scope : Scope) (known : List Known) (a
       let named : result.0 ≡ name_of actual = ap name_in (sym result.1) in
       subst (λ (name : List ℕ). slot_of scope name < slots) named (taken_in_range script slots scope known actual result.0 agrees result.1 free.expr)
 
-  -- what the called process sees
+  -- the variables that the called process sees
   pub called_agree : (slot : ℕ) (formals : List Formal) (actuals : List Ast) → flat_map (formal_faults script.tools) formals ≡ []
       → ActualsFree script known formals actuals → slot + length (value_formals formals) ≤ slots
       → Agrees script slots (formals_of_call scope slot formals actuals) (map known_formal formals)

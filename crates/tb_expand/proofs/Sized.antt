@@ -1,4 +1,4 @@
--- The expansion of a process has the size that is found without it.
+-- The expansion of a process has the size that is computed without the expansion.
 use Rattle.std.proofs.Common.{◌≡◌, ℕ, zero, suc, ◌+◌, max, List, ◌++◌, length, Option, Some, None, refl, ap, sym, subst, ◌∙◌}
 use Rattle.std.proofs.lemmas.List.{length-append}
 use Rattle.std.proofs.Math.Nat.{max-zero}
@@ -55,7 +55,7 @@ pub record HasSize (part : Part) (size : Size) : Type 0 where
   pub atoms : length part.atoms ≡ size.atoms
   pub levels : tree_levels part.tree ≡ size.levels
 
--- whatever is seen, and wherever its atoms and slots begin
+-- for all visible variables, first atoms, and first slots
 abbrev pub AreSized : Expands → Size → Type 0
 AreSized x size = (scope : Scope) (atom slot : ℕ) → HasSize (x scope atom slot) size
 

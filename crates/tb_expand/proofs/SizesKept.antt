@@ -1,4 +1,4 @@
--- The sizes that are kept of the processes in an order, position by position.
+-- The stored sizes of the processes, after each position of an order.
 use Rattle.std.proofs.Common.{◌≡◌, ℕ, suc, ◌+◌, ◌<◌, ◌≤◌, ◌≢◌, ◌⊎◌, inl, inr, List, [], ◌∷◌, ◌++◌, length, take, get_or, slice_get, set, Option, Some, None, option_map, ap, sym, subst, ◌∙◌, arith, add-one}
 use Rattle.std.specs.List.{Contains}
 use Rattle.std.specs.Option.{option_and_then}
@@ -49,7 +49,7 @@ module _ (script : Script) (order : List ℕ) (descends : Descends script order)
   Calls positions d = (name : List ℕ) → Contains (called d.body) name → StandsAmong script positions name
 
   module _ (positions : List ℕ) (sizes : List Size) (kept : AreKept script positions sizes) where
-    -- what a body calls is known
+    -- the sizes of the processes that a body calls are known
     known : (name : List ℕ) → StandsAmong script positions name → IsKnown script sizes (size_of script (length script.procs)) name
     known name stands =
         let is : IsDefined script name stands.position = defined script name stands.position stands.named in

@@ -1,4 +1,4 @@
--- What a fold over trees gives at each kind of tree.
+-- The result of a fold over trees for each kind of tree.
 use Rattle.std.proofs.Common.{◌≡◌, ℕ, List, Some, None, ap, ◌∙◌}
 use Rattle.tb_terms.specs.declared.expr.Expr.{Expr}
 use Rattle.tb_body.specs.declared.tree.Setting.{Setting}

@@ -1,4 +1,4 @@
--- The tree of an expansion is in range: tests and settings are values, and the slots that are set are there.
+-- The tree of an expansion is in range: tests and start values are values, and each slot that is set exists.
 use Rattle.std.proofs.Common.{◌≡◌, ℕ, ◌+◌, ◌≤◌, Bool, true, List, [], length, refl, ◌∙◌}
 use Rattle.std.proofs.lemmas.Bool.{and_from}
 use Rattle.tb_body.specs.InRange.{is_tree_in_range, tree_step}

@@ -1,4 +1,4 @@
--- A way that closes a cycle is a cycle, once it is cut and turned.
+-- A path that closes a cycle gives a cycle, after the path is cut and rotated.
 use Rattle.std.proofs.Common.{◌≡◌, ℕ, ◌<◌, ◌≤◌, ◌⊎◌, inl, inr, Bool, true, false, cond, nat_lt, eqb, List, [], ◌∷◌, ◌++◌, length, get_or, take, drop, Contains, refl, ap, sym, ◌∙◌, subst, arith, take-append-drop, append_assoc, append-nil, length-take-le, length-drop, ◌-◌}
 use Rattle.std.specs.List.{IsFirstBest}
 use Rattle.std.proofs.lemmas.Bool.{eqb-true, eqb-false, ltb-false}

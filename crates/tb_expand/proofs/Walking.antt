@@ -1,4 +1,4 @@
--- Each step of a walk leaves a walk, with less to do.
+-- Each step of a walk keeps the invariant of walks, and leaves fewer steps.
 use Rattle.std.proofs.Common.{◌≡◌, ℕ, zero, suc, ◌+◌, ◌<◌, ◌⊎◌, inl, inr, List, [], ◌∷◌, ◌++◌, length, take, set, slice_get, Option, Some, None, Contains, ap, sym, ◌∙◌, subst, arith, length-set, take_at}
 use Rattle.std.proofs.lemmas.Bool.{cases_eq}
 use Rattle.std.proofs.lemmas.Option.{same_Some, slice_get_within, slice_get-get_or}

@@ -1,4 +1,4 @@
--- What an atom of a script is in a body.
+-- The atom of a body that an atom of a script becomes.
 use Rattle.std.specs.Prelude.{ℕ, ◌+◌, List, [], ◌∷◌, map, Option, Some, None, option_map, unwrap_or, if◌then◌else◌}
 use Rattle.std.specs.Str.{bytes_eq}
 use Rattle.tb_terms.specs.declared.expr.Expr.{Expr}
@@ -29,7 +29,7 @@ use Rattle.tb_types.specs.Atoms.{word_of}
 use Rattle.tb_expand.specs.Scopes.{Scope, slot_of, sort_of}
 use Rattle.tb_expand.specs.Exprs.{expr_of, exprs_of}
 
--- the position of the first of these names, or their number
+-- the position of the name's first occurrence in the list, or the length of the list if the name isn't in it
 abbrev pub position_of : List ℕ → List (List ℕ) → ℕ
 position_of name [] = 0
 position_of name (other ∷ others) = if bytes_eq other name then 0 else position_of name others + 1
@@ -40,7 +40,7 @@ process_of script name = position_of name (map (λ (d : ProcDef). d.name) script
 abbrev pub tool_of : Script → List ℕ → ℕ
 tool_of script name = position_of name (map (λ (d : ToolDef). d.name) script.tools)
 
--- the tool of a sort; in a checked script it is a tool's where it is asked for
+-- the position of the tool of a type, or 0 for another type; in a well-formed script, only types of tools are looked up
 abbrev pub tool_of_open : Script → sort.Sort-F Sort → ℕ
 tool_of_open script sort.Bool = 0
 tool_of_open script sort.Int = 0
@@ -52,7 +52,7 @@ tool_of_open script (sort.Tool name) = tool_of script name
 abbrev pub tool_of_sort : Script → Sort → ℕ
 tool_of_sort script s = tool_of_open script (out-Sort s)
 
--- the name with which an expression begins, or none
+-- the name of an application, a variable, or a result variable; empty for other expressions
 abbrev pub name_in : ast.AstKind-F AstKind Ast → List ℕ
 name_in (ast.Int number) = []
 name_in (ast.Str text) = []
@@ -65,20 +65,20 @@ name_in (ast.List parts) = []
 abbrev pub name_of : Ast → List ℕ
 name_of e = name_in (out-AstKind e.kind)
 
--- The arguments of an atom as expressions, where their number is right. A checked script has no other.
--- one or more
+-- The arguments of an atom as expressions, or `None` if their number is wrong. In a well-formed script, their number is right.
+-- one or more arguments
 abbrev pub some_exprs : Scope → List Ast → Option (List Expr)
 some_exprs scope [] = None
 some_exprs scope (e ∷ es) = Some (exprs_of scope (e ∷ es))
 
--- two
+-- two arguments
 abbrev pub two_exprs : Scope → List Ast → Option (Expr × Expr)
 two_exprs scope [] = None
 two_exprs scope (e ∷ []) = None
 two_exprs scope (x ∷ y ∷ []) = Some (expr_of scope x, expr_of scope y)
 two_exprs scope (x ∷ y ∷ z ∷ es) = None
 
--- a first one, and one or more others
+-- a first argument, and one or more others
 abbrev pub more_exprs : Scope → List Ast → Option (Expr × List Expr)
 more_exprs scope [] = None
 more_exprs scope (e ∷ []) = None
@@ -93,7 +93,7 @@ shutdown scope [] = None
 shutdown scope (e ∷ []) = Some (act.Shutdown (expr_of scope e))
 shutdown scope (x ∷ y ∷ es) = None
 
--- a tool that leaves: any of a variable's sort, or the one that is named
+-- the act of `rec-disconnect`: any tool of a result variable's type disconnects, or the tool that the expression names
 abbrev pub leaving : Script → Scope → Ast → ast.AstKind-F AstKind Ast → Act
 leaving script scope e (ast.Result name) = act.RecDisconnectAny (tool_of_sort script (sort_of scope name)) (slot_of scope name)
 leaving script scope e (ast.Int number) = act.RecDisconnect (expr_of scope e)
@@ -122,7 +122,7 @@ executed script scope (e ∷ []) = None
 executed script scope (x ∷ y ∷ []) = Some (act.Execute (tool_of script (name_of x)) (slot_of scope (name_of y)))
 executed script scope (x ∷ y ∷ z ∷ es) = None
 
--- the act of each atom, by its arguments; none where their number is wrong
+-- the act of each atom, from its arguments; `None` if their number is wrong, except for `delta`
 abbrev pub word_act : Script → Scope → AtomWord → List Ast → Option Act
 word_act script scope atom.Delta es = Some act.Delta
 word_act script scope atom.Tau es = tau es
@@ -145,7 +145,7 @@ word_act script scope atom.SndAckEvent es = option_map (λ both. act.SndAckEvent
 word_act script scope atom.SndTerminate es = option_map (λ both. act.SndTerminate both.0 both.1) (two_exprs scope es)
 word_act script scope atom.Shutdown es = shutdown scope es
 
--- nothing where the number of arguments is wrong, which it isn't in a checked script
+-- the act of an atom; `Delta` if the number of arguments is wrong, which doesn't occur in a well-formed script
 abbrev pub act_of_word : Script → Scope → AtomWord → List Ast → Act
 act_of_word script scope word es = unwrap_or (word_act script scope word es) act.Delta
 
@@ -164,7 +164,7 @@ kind_of_time times.Timeout = time.Timeout
 kind_of_time times.AbsDelay = time.AbsDelay
 kind_of_time times.AbsTimeout = time.AbsTimeout
 
--- No tokens spell a time with another name: it stands for the last one.
+-- the kind of a time condition. No source parses as a time with another name; such a name counts as `AbsTimeout`.
 abbrev pub time_kind : List ℕ → TimeKind
 time_kind name = kind_of_time (unwrap_or (time_word name) times.AbsTimeout)
 

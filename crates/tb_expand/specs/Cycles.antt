@@ -1,4 +1,4 @@
--- Which processes call which, and where calls form a cycle.
+-- The calls between processes, and the cycles of calls.
 use Rattle.std.specs.Prelude.{◌≡◌, ℕ, ◌<◌, List, [], ◌∷◌, ◌++◌, Contains, Option, Some, None}
 use Rattle.tb_syntax.specs.declared.proc.Proc.{Proc}
 use Rattle.tb_syntax.specs.declared.proc.Proc.TheOpen.{Proc-F, Atom, Call as CallOf, Seq, Alt, Star, Par, Disrupt, If, Let}
@@ -22,25 +22,25 @@ called_step (Disrupt x y) = x ++ y
 called_step (If test x y) = x ++ or_none y
 called_step (Let vars x) = x
 
--- the processes that a body calls, in text order; one that it creates isn't called
+-- the names of the processes that a body calls, in the order of the source; a created process isn't called
 abbrev pub called : Proc → List (List ℕ)
 called = fold-Proc (List (List ℕ)) called_step
 
--- a process is defined with the one name, and its body calls the other
+-- a process with the name `caller` is defined, and its body calls `name`
 abbrev pub Calls : Script → List ℕ → List ℕ → Type 0
 Calls script caller name = (d : ProcDef) × Contains script.procs d × (d.name ≡ caller) × Contains (called d.body) name
 
--- the caller calls the first of these, each of them the next, and the last calls the one to come back to
+-- the caller calls the first of these processes, each calls the next, and the last calls `back`
 abbrev pub IsCallPath : Script → List ℕ → List ℕ → List (List ℕ) → Type 0
 IsCallPath script back caller [] = Calls script caller back
 IsCallPath script back caller (name ∷ names) = Calls script caller name × IsCallPath script back name names
 
--- the names differ
+-- no name occurs twice
 abbrev pub Differ : List (List ℕ) → Type 0
 Differ [] = Unit {0}
 Differ (name ∷ names) = (Contains names name → ⊥) × Differ names
 
--- a cycle of calls, of which the process that is defined first stands first
+-- a cycle of calls without repeated names; the process that is defined first comes first
 pub record IsCycle (script : Script) (names : List (List ℕ)) : Type 0 where
   pub first : List ℕ
   pub others : List (List ℕ)

@@ -1,4 +1,4 @@
--- What an expression of a script is in a body: its variables as slots, and its functions as calls.
+-- The expression of a body that an expression of a script becomes: variables become slots, and applied functions become calls.
 use Rattle.std.specs.Prelude.{ℕ, List, [], ◌∷◌, map, Option, Some, None}
 use Rattle.tb_terms.specs.declared.expr.Expr.{Expr}
 use Rattle.tb_terms.specs.declared.expr.Expr.TheVariants as expr
@@ -10,12 +10,12 @@ use Rattle.tb_syntax.specs.declared.ast.AstKind.TheOpen as open_ast
 use Rattle.tb_syntax.specs.declared.ast.AstKind.TheFolds.{fold-AstKind}
 use Rattle.tb_expand.specs.Scopes.{Scope, slot_of}
 
--- a name with arguments: a call, where a function has this name
+-- a name with arguments: a call if a function has this name
 abbrev pub applied : List ℕ → Option Func → List Expr → Expr
 applied name None parts = expr.Appl name parts
 applied name (Some func) parts = expr.Call func parts
 
--- A name without arguments is a term, whatever it is.
+-- A name without arguments is always a term, even if a function has this name.
 abbrev pub named : List ℕ → List Expr → Expr
 named name [] = expr.Appl name []
 named name (part ∷ parts) = applied name (function_named name) (part ∷ parts)
@@ -29,7 +29,7 @@ kind_step scope (open_ast.Result name) = expr.Result (slot_of scope name)
 kind_step scope (open_ast.Hole sort) = expr.Hole sort
 kind_step scope (open_ast.List parts) = expr.List parts
 
--- the token's position is forgotten
+-- the token's position is dropped
 abbrev pub position_step : open_ast.Ast-F Expr Expr → Expr
 position_step ast = ast.kind
 

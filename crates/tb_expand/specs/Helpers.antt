@@ -1,4 +1,4 @@
--- Definitions that proofs and private functions need, and that nobody has to believe.
+-- Definitions for proofs and private functions. No reader has to trust them.
 pub mod Sizes
 pub mod Measuring
 pub mod Building

@@ -1,5 +1,4 @@
--- The text of the line of a fault of an expansion: the names of all processes of a cycle of calls, commas between, or
--- the process whose expansion is too large.
+-- The text of the line of each error: the names of all processes of a cycle, with commas between them, or the process that is too large.
 use Rattle.std.specs.Prelude.{ℕ, List, ◌++◌, codes}
 use Rattle.std.specs.List.{join_with_byte}
 use Rattle.tb_expand.specs.declared.fault.ExpandFault.{ExpandFault}

@@ -1,4 +1,4 @@
-//! What the atoms of a script are in a body.
+//! The acts of a body that the atoms of a script become.
 
 ghost use Rattle.std.specs.Prelude.{◌≡◌, IfOk};
 ghost use Rattle.tb_body.specs.declared.act.Act.TheVariants.{Set, Create, RecDisconnectAny};
@@ -16,7 +16,7 @@ use tb_syntax::{ActDef, Ast, AstKind, AtomWord, Call, atom_word};
 use tb_terms::{Expr, Exprs, NoMemory};
 use tb_types::Names;
 
-/// The one or more arguments as expressions; none where there are none.
+/// Returns one or more arguments as expressions, or `None` if there are no arguments.
 fn some_exprs(alloc: Global, blocks: &Blocks, arguments: &[Ast]) -> Result<Option<Exprs>, NoMemory>
     ensures { IfOk result
         (λ exprs. exprs ≡ some_exprs (of_blocks blocks.now) arguments.now) }
@@ -27,7 +27,7 @@ fn some_exprs(alloc: Global, blocks: &Blocks, arguments: &[Ast]) -> Result<Optio
     }
 }
 
-/// The two arguments as expressions; none where there aren't two.
+/// Returns two arguments as expressions, or `None` if there aren't exactly two.
 fn two_exprs(
     alloc: Global,
     blocks: &Blocks,
@@ -46,7 +46,7 @@ fn two_exprs(
     }
 }
 
-/// The first argument and the one or more others as expressions; none where there aren't so many.
+/// Returns the first argument and one or more others as expressions, or `None` if there are fewer than two.
 fn more_exprs(
     alloc: Global,
     blocks: &Blocks,
@@ -99,7 +99,7 @@ fn connected(
     }
 }
 
-/// A tool that has connected: any of the variable's sort.
+/// Returns the act of `rec-connect`: a tool of the variable's type has connected.
 fn any_connected(alloc: Global, names: &Names, blocks: &Blocks, e: &Ast) -> Result<Act, NoMemory>
     ensures { IfOk result
         (λ act. act ≡ any_connected names.now.script.now (of_blocks blocks.now) e.now) }
@@ -126,7 +126,7 @@ fn disconnected(
     }
 }
 
-/// A tool that leaves: any of a variable's sort, or the one that is named.
+/// Returns the act of `rec-disconnect`: any tool of a result variable's type disconnects, or the tool that the expression names.
 fn leaving(alloc: Global, names: &Names, blocks: &Blocks, e: &Ast) -> Result<Act, NoMemory>
     ensures { IfOk result (λ act. act
         ≡ leaving names.now.script.now (of_blocks blocks.now) e.now (out-AstKind e.now.kind)) }
@@ -168,7 +168,7 @@ fn executed(names: &Names, blocks: &Blocks, arguments: &[Ast]) -> Result<Option<
     }
 }
 
-/// What the atom does, by its arguments; none where their number is wrong.
+/// Returns the act of an atom with these arguments, or `None` if their number is wrong. `Delta` accepts any number.
 fn word_act(
     alloc: Global,
     names: &Names,
@@ -206,7 +206,8 @@ fn word_act(
     }
 }
 
-/// What the atom of this name does. A checked script has the right number of arguments.
+/// Returns the act of the atom with this name. In a well-formed script, the number of arguments is right. Otherwise, the act is
+/// `Delta`.
 fn act_of_name(
     alloc: Global,
     names: &Names,
@@ -226,7 +227,7 @@ fn act_of_name(
     }
 }
 
-/// What an atom does, with its variables as slots and its processes and tools by their positions.
+/// Returns the act of an atom. Variables become slots, and processes and tools become positions.
 pub(crate) fn act_of(
     alloc: Global,
     names: &Names,

@@ -1,4 +1,4 @@
-//! Atoms with their times as a body has them.
+//! The atoms of a body, with their times, that the atoms of a script become.
 
 ghost use Rattle.std.specs.Prelude.{◌≡◌, IfOk, map};
 ghost use Rattle.tb_expand.specs.Scopes.{of_blocks};
@@ -13,7 +13,7 @@ use tb_syntax::{AtomDef, TimeDef, TimeWord, time_word};
 use tb_terms::{Items, NoMemory};
 use tb_types::Names;
 
-/// The atom with its variables as slots.
+/// Returns the atom with its variables as slots, and its processes and tools as positions.
 pub(crate) fn atom_of(
     alloc: Global,
     names: &Names,
@@ -46,7 +46,7 @@ fn time_of(alloc: Global, blocks: &Blocks, def: &TimeDef) -> Result<Time, NoMemo
     Ok(Time { kind, value })
 }
 
-/// No tokens spell a time with another name: it stands for the last one.
+/// Returns the kind of a time condition. No source parses as a time with another name; for such a name, the result is `AbsTimeout`.
 fn time_kind(name: &[u8]) -> TimeKind
     ensures { result ≡ time_kind name.now }
 {

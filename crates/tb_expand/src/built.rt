@@ -1,11 +1,13 @@
-//! What has been built of an expansion.
+//! The parts of an expansion that are built so far.
 
 use tb_body::Atoms;
 use tb_terms::Sorts;
 
-/// The atoms of an expansion and the sorts of its slots, as far as it has been built.
+/// The atoms of an expansion and the types of its slots that are built so far.
 #[derive(Drop)]
 pub(crate) struct Built {
+    /// The atoms, in the order of their numbers.
     pub atoms: Atoms,
+    /// The types of the slots.
     pub sorts: Sorts,
 }

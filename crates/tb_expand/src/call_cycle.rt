@@ -1,4 +1,4 @@
-//! A cycle of calls, turned so that its least position stands first.
+//! Cycles of calls, rotated so that the least position is first.
 
 ghost use Rattle.std.specs.Prelude.{◌≡◌, ℕ, ◌<◌, List, length, nat_lt, Contains, IfOk};
 ghost use Rattle.std.specs.List.{IsFirstBest};
@@ -8,8 +8,7 @@ use crate::graph::Positions;
 use std::alloc::Global;
 use tb_terms::{Items, NoMemory};
 
-/// The part of a way from a position of it on, which the way reaches again; turned so that its least
-/// position stands first.
+/// Returns the cycle that a path closes when it reaches the position `again` a second time. The least position of the cycle is first.
 pub(crate) fn cycle_of(alloc: Global, way: &[usize], again: usize) -> Result<Positions, NoMemory>
     requires { Contains way.now again }
     ensures { IfOk result (IsTurned (onward again way.now)) }
@@ -17,7 +16,7 @@ pub(crate) fn cycle_of(alloc: Global, way: &[usize], again: usize) -> Result<Pos
     Ok(turned(alloc, onward(way, again))?)
 }
 
-/// The positions of a way from this one on.
+/// Returns the part of a path from the first occurrence of this position on.
 fn onward(way: &[usize], again: usize) -> &[usize]
     ensures { result.now ≡ onward again way.now }
 {
@@ -31,7 +30,7 @@ fn onward(way: &[usize], again: usize) -> &[usize]
     rest
 }
 
-/// The positions from the least on, and then those before it.
+/// Returns the positions from the least on, followed by the positions before the least.
 fn turned(alloc: Global, call_cycle: &[usize]) -> Result<Positions, NoMemory>
     requires { 0 < length call_cycle.now }
     ensures { IfOk result (IsTurned call_cycle.now) }
@@ -42,7 +41,7 @@ fn turned(alloc: Global, call_cycle: &[usize]) -> Result<Positions, NoMemory>
     Ok(positions)
 }
 
-/// Where the least position stands.
+/// Returns the index of the least position.
 fn least_at(positions: &[usize]) -> usize
     requires { 0 < length positions.now }
     ensures { IsFirstBest nat_lt positions.now (length positions.now) result }

@@ -1,4 +1,4 @@
-//! The order in which processes are expanded.
+//! The order in which the sizes of processes are computed.
 
 ghost use Rattle.std.specs.Prelude.{IfOk, IfErr};
 ghost use Rattle.tb_expand.specs.Helpers.CallGraphs.{NamesDiffer};
@@ -11,8 +11,8 @@ use crate::order::{Ordered, topological_order};
 use std::alloc::Global;
 use tb_types::Names;
 
-/// The positions of the processes of a script, each behind those that its body calls. A call of a name
-/// that no process has leads nowhere.
+/// Returns the positions of the processes of a script, each after the processes that its body calls. A call whose name no process has
+/// is ignored.
 pub(crate) fn order_of(alloc: Global, names: &Names) -> Result<Positions, ExpandFault>
     requires { NamesDiffer names.now.script.now }
     ensures ok { IfOk result (IsCallOrder names.now.script.now) }

@@ -23,13 +23,14 @@ use tb_syntax::{ProcDef, Script};
 use tb_terms::{Items, NoMemory};
 use tb_types::Names;
 
-/// How many atoms an expansion may have.
+/// The greatest number of atoms of an expansion.
 const MOST_ATOMS: usize = 20_000;
 
-/// The expansions of a script's processes, each of which is built when it is asked for. How large they
-/// are is known beforehand, so none is begun that is too large.
+/// The expansions of a script's processes. Each expansion is built on request. The sizes are computed in advance, so a too large
+/// expansion is never started.
 #[derive(Drop)]
 pub struct Expansions<'n, 's> {
+    /// The script whose processes are expanded.
     pub script: &'s Script,
     names: &'n Names<'s>,
     sizes: Items<Size>,
@@ -41,7 +42,7 @@ pub struct Expansions<'n, 's> {
 }
 
 impl<'n, 's> Expansions<'n, 's> {
-    /// The expansions of a proper script, whose names these are, where no calls form a cycle. None is built yet.
+    /// Prepares the expansions of the well-formed script that has these names. Fails if calls form a cycle. Builds no expansion yet.
     #[tactic(auto, using(crate::proofs::ProperCalls::names_differ))]
     pub fn of(alloc: Global, names: &'n Names<'s>) -> Result<Expansions<'n, 's>, ExpandFault>
         requires { Proper names.now.script.now }
@@ -58,7 +59,7 @@ impl<'n, 's> Expansions<'n, 's> {
         })
     }
 
-    /// The body of the process at this position among the definitions.
+    /// Builds the body of the process at this position among the definitions.
     pub fn body(&self, alloc: Global, position: usize) -> Result<Body, ExpandFault>
         requires { position < length self.now.script.now.procs }
         ensures body { (d : ProcDef) → slice_get self.now.script.now.procs position ≡ Some d
@@ -73,8 +74,7 @@ impl<'n, 's> Expansions<'n, 's> {
         Ok(built(alloc, self.names, def)?)
     }
 
-    /// Whether there is a body of the process at this position among the definitions; what `body` answers, but nothing
-    /// is built.
+    /// Checks that the process at this position among the definitions has a body, without building the body. Fails as `body` does.
     pub fn check_body(&self, alloc: Global, position: usize) -> Result<(), ExpandFault>
         requires { position < length self.now.script.now.procs }
         ensures body { (d : ProcDef) → slice_get self.now.script.now.procs position ≡ Some d
@@ -89,7 +89,7 @@ impl<'n, 's> Expansions<'n, 's> {
         Ok(())
     }
 
-    /// Whether the expansion of the process at this position passes a limit.
+    /// Returns whether the expansion of the process at this position passes a limit.
     #[tactic(auto, using(crate::proofs::Bodies::large_by_size, crate::proofs::Bodies::size_is_there))]
     fn is_too_large(&self, position: usize, def: &ProcDef) -> bool
         requires { slice_get self.now.script.now.procs position ≡ Some def.now }
@@ -108,7 +108,7 @@ fn is_over(size: Size) -> bool
     size.atoms > MOST_ATOMS || size.levels > MOST_BODY_LEVELS
 }
 
-/// The body of a process whose expansion is within the limits.
+/// Builds the body of a process whose expansion is within the limits.
 fn built(alloc: Global, names: &Names, def: &ProcDef) -> Result<Body, NoMemory>
     requires proper { Proper names.now.script.now }
     requires there { Contains names.now.script.now.procs def.now }
@@ -125,7 +125,8 @@ fn built(alloc: Global, names: &Names, def: &ProcDef) -> Result<Body, NoMemory>
     }
 }
 
-/// The body of the process at this position among the definitions of a script.
+/// Builds the body of the process at this position among the definitions of a script. Use `Expansions` to build several bodies of a
+/// script.
 pub fn expand(alloc: Global, s: &Script, root: usize) -> Result<Body, ExpandFault>
     requires proper { Proper s.now }
     requires in_range { root < length s.now.procs }

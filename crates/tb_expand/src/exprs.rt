@@ -1,4 +1,4 @@
-//! Expressions with their variables as slots.
+//! The expressions of a body that the expressions of a script become.
 
 ghost use Rattle.std.specs.Prelude.{◌≡◌, IfOk};
 ghost use Rattle.tb_expand.specs.Scopes.{of_blocks};
@@ -10,7 +10,7 @@ use tb_func::function;
 use tb_syntax::{Ast, AstKind};
 use tb_terms::{Expr, Exprs, Items, Name, NoMemory};
 
-/// The expression with its variables as slots and its functions as calls.
+/// Returns the expression with its variables as slots and its applied functions as calls.
 #[cycle(exprs)]
 pub(crate) fn expr_of(alloc: Global, blocks: &Blocks, ast: &Ast) -> Result<Expr, NoMemory>
     ensures { IfOk result (λ e. e ≡ expr_of (of_blocks blocks.now) ast.now) }
@@ -37,7 +37,7 @@ fn kind_expr(alloc: Global, blocks: &Blocks, kind: &AstKind) -> Result<Expr, NoM
     }
 }
 
-/// The expressions in their order.
+/// Returns the expressions of the body, in the same order.
 #[cycle(exprs)]
 pub(crate) fn exprs_of(alloc: Global, blocks: &Blocks, asts: &[Ast]) -> Result<Exprs, NoMemory>
     ensures { IfOk result (λ exprs. exprs ≡ exprs_of (of_blocks blocks.now) asts.now) }
@@ -49,7 +49,7 @@ pub(crate) fn exprs_of(alloc: Global, blocks: &Blocks, asts: &[Ast]) -> Result<E
     Ok(exprs)
 }
 
-/// A name with its arguments: a call where it is a function's.
+/// Returns a name with its arguments: a call if there are arguments and a function has this name, and a term otherwise.
 fn named(name: &Name, parts: Exprs) -> Result<Expr, NoMemory>
     ensures { IfOk result (λ e. e ≡ named name.now parts) }
 {

@@ -1,4 +1,4 @@
-//! Why a process has no expansion.
+//! The reasons why a process has no expansion.
 
 ghost use Rattle.std.specs.Prelude.{◌≡◌};
 ghost use Rattle.tb_message.specs.Messages.{message_text};
@@ -8,23 +8,23 @@ use std::alloc::{AllocError, AllocFailed};
 use tb_message::Message;
 use tb_terms::{Ident, Items, NoMemory};
 
-/// Names of processes in a row.
+/// A sequence of names of processes.
 pub type Idents = Items<Ident>;
 
-/// Why a process has no expansion.
+/// The reasons why a process has no expansion.
 #[derive(Debug, Drop)]
 pub enum ExpandFault {
-    /// Calls form a cycle: each of these processes calls the next, and the last calls the first. The one
-    /// that is defined first stands first. Where there are several cycles any may be named.
+    /// Calls form a cycle: each of these processes calls the next, and the last calls the first. The process that is defined first
+    /// comes first. If there are several cycles, the error may name any of them.
     Recursion(Idents),
-    /// The expansion of the process of this name has more than 20,000 atoms or more than 1,000 levels.
+    /// The expansion of the process with this name has more than 20,000 atoms, or its tree has a depth of more than 1,000.
     TooLarge(Ident),
-    /// There wasn't memory enough; it says nothing of the script.
+    /// The call ran out of memory. This error makes no claim about the script.
     NoMemory,
 }
 
 impl ExpandFault {
-    /// The words of its line.
+    /// Returns the message of the error.
     pub fn message(&self) -> Message<'_>
         ensures { message_text result ≡ expand_line self.now }
     {

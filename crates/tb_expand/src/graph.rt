@@ -1,4 +1,4 @@
-//! Which processes each process calls.
+//! The call graph: which processes each process calls.
 
 ghost use Rattle.std.specs.Prelude.{◌≡◌, ◌<◌, [], ◌∷◌, ◌++◌, length, option_map, All, IfOk, OnOk};
 ghost use Rattle.tb_expand.specs.Cycles.{called, or_none};
@@ -10,13 +10,13 @@ use tb_syntax::{Call, Proc, Script};
 use tb_terms::{Boxed, Items, NoMemory};
 use tb_types::Names;
 
-/// Positions in a row.
+/// A sequence of positions.
 pub(crate) type Positions = Items<usize>;
 
-/// The positions to which each position leads.
+/// A graph: the successors of each position.
 pub(crate) type Graph = Items<Positions>;
 
-/// The graph of the calls of a script: each process leads to those that its body calls.
+/// Returns the call graph of a script: the successors of a process are the processes that its body calls.
 pub(crate) fn graph_of(alloc: Global, names: &Names) -> Result<Graph, NoMemory>
     ensures { IfOk result (λ graph. graph ≡ graph_of names.now.script.now) }
 {
@@ -29,7 +29,7 @@ pub(crate) fn graph_of(alloc: Global, names: &Names) -> Result<Graph, NoMemory>
     Ok(graph)
 }
 
-/// The positions of the processes that a process calls, in text order.
+/// Adds the positions of the processes that a process calls, in the order of the source.
 #[cycle(calls)]
 #[tactic(auto, using(crate::proofs::CalledPositions::called_at))]
 fn push_called(names: &Names, proc: &Proc, into: &mut Positions) -> Result<(), NoMemory>
@@ -86,7 +86,7 @@ fn push_else(names: &Names, y: &Option<Boxed<Proc>>, into: &mut Positions) -> Re
     }
 }
 
-/// The position of the process that is called, if one has the name.
+/// Adds the position of the called process, if a process has this name.
 fn push_position(names: &Names, call: &Call, into: &mut Positions) -> Result<(), NoMemory>
     ensures { OnOk result
         (into.new ≡ into.old ++ positions_of names.now.script.now (call.now.name ∷ [])) }
@@ -97,7 +97,7 @@ fn push_position(names: &Names, call: &Call, into: &mut Positions) -> Result<(),
     Ok(())
 }
 
-/// The names of the processes at these positions.
+/// Returns the names of the processes at these positions.
 pub(crate) fn names_at(
     alloc: Global,
     script: &Script,

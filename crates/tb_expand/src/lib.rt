@@ -1,4 +1,4 @@
-//! The expansion of processes: bodies in which no process is called any more.
+//! Expands processes: builds bodies in which each call is replaced by the body of the called process.
 #![tactic(auto)]
 
 mod acts;

@@ -1,10 +1,10 @@
-//! Positions as a body writes them.
+//! Positions as 32-bit numbers, as they are in a body.
 
 ghost use Rattle.std.specs.Prelude.{◌≡◌, ◌+◌, IfOk};
 
 use tb_terms::NoMemory;
 
-/// A position as a body writes it. Bodies have no positions from 2^32 on, and memory for no such body.
+/// Returns a position as a 32-bit number. A position from 2^32 on is reported as `NoMemory`.
 pub(crate) fn number(position: usize) -> Result<u32, NoMemory>
     ensures { IfOk result (λ number. number ≡ position) }
 {
@@ -14,7 +14,7 @@ pub(crate) fn number(position: usize) -> Result<u32, NoMemory>
     }
 }
 
-/// The number behind this one.
+/// Returns the next number. If it doesn't fit in 32 bits, the error is `NoMemory`.
 pub(crate) fn following(number: u32) -> Result<u32, NoMemory>
     ensures { IfOk result (λ next. next ≡ number + 1) }
 {

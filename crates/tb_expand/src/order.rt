@@ -1,4 +1,4 @@
-//! The order of a graph, or its cycle.
+//! The topological order of a graph, or a cycle of the graph.
 
 ghost use Rattle.std.specs.Prelude.{◌≡◌, ℕ, ◌<◌, List, [], ◌∷◌, ◌++◌, length, slice_get, Some, IfOk, OnOk, MatchOption};
 ghost use Rattle.tb_expand.specs.Helpers.Graphs.{Graph, IsClosed};
@@ -11,17 +11,17 @@ use crate::walk::{Visit, Walk, open, start, step, visit_of};
 use std::alloc::Global;
 use tb_terms::NoMemory;
 
-/// What is found out of a graph.
+/// The result for a graph.
 #[derive(Drop)]
 pub(crate) enum Ordered {
-    /// All positions, each behind those to which it leads.
+    /// All positions, each after its successors.
     Order(Positions),
-    /// A way that closes a cycle, from its least position on.
+    /// The positions of a cycle, from the least position on.
     Cyclic(Positions),
 }
 
-/// Orders the positions of a graph, or finds a way that closes a cycle. It takes one step for each position
-/// and two for each position to which one leads.
+/// Orders the positions of a graph, or finds a cycle. It takes at most one step for each position, and two for each successor of a
+/// position.
 pub(crate) fn topological_order(alloc: Global, graph: &Graph) -> Result<Ordered, NoMemory>
     requires { IsClosed graph.now }
     ensures { IfOk result (IsOrdered graph.now) }
@@ -35,8 +35,7 @@ pub(crate) fn topological_order(alloc: Global, graph: &Graph) -> Result<Ordered,
     Ok(Ordered::Order(walk.order))
 }
 
-/// Walks all ways from a position, unless it was visited. The answer is the position to which a way comes
-/// back.
+/// Walks all paths from a position, unless it was visited. If a path closes a cycle, returns the position that the path reaches again.
 fn walk_from(graph: &Graph, walk: &mut Walk, root: usize) -> Result<Option<usize>, NoMemory>
     requires graph { IsClosed graph.now }
     requires root { root < length graph.now }
@@ -53,7 +52,7 @@ fn walk_from(graph: &Graph, walk: &mut Walk, root: usize) -> Result<Option<usize
     Ok(None)
 }
 
-/// Puts the position on the way, unless it was visited.
+/// Puts the position on the path, unless it was visited.
 fn begin(walk: &mut Walk, root: usize) -> Result<(), NoMemory>
     requires { root < length walk.old.visits }
     ensures { (graph : Graph) → root < length graph → IsAtRest graph walk.old

@@ -1,4 +1,4 @@
-//! The parts of an expansion's tree.
+//! The parts of an expansion.
 
 ghost use Rattle.std.specs.Prelude.{◌≡◌, ◌+◌, IfOk, length, option_map};
 ghost use Rattle.std.specs.Option.{option_copied};
@@ -22,8 +22,8 @@ use tb_syntax::{Ast, AtomDef, Call, Proc, ProcDef, Var};
 use tb_terms::{Boxed, Items, NoMemory};
 use tb_types::Names;
 
-/// The tree of a process, whose atoms and slots are added to those that are built. Calls within it are
-/// replaced up to this depth and one more.
+/// Builds the tree of a process, and adds the tree's atoms and slots to `built`. Calls are replaced if they are nested at most `depth`
+/// deep.
 #[cycle(parts)]
 pub(crate) fn part_of(
     alloc: Global,
@@ -84,7 +84,7 @@ fn atom_part(
     Ok(Tree::At(number))
 }
 
-/// Two sides, one behind the other in the text.
+/// Builds two sides, the second after the first in the source.
 #[cycle(parts)]
 fn sides(
     alloc: Global,
@@ -185,7 +185,7 @@ fn call_part(
     Ok(Tree::Let(settings, Boxed::new(alloc, x)?))
 }
 
-/// The body of a called process, in which its formals alone are seen.
+/// Builds the body of a called process, in which only its parameters are visible.
 #[cycle(parts)]
 pub(crate) fn body_part(
     alloc: Global,
@@ -207,7 +207,7 @@ pub(crate) fn body_part(
     Ok(part_of(alloc, names, depth - 1, &mut blocks, built, body)?)
 }
 
-/// What is open where a block alone is seen; one with no variables takes no memory.
+/// Returns the open blocks if only this block is visible. A block without variables needs no memory.
 fn opened(alloc: Global, block: Block) -> Result<Blocks, NoMemory>
     ensures { IfOk result (λ blocks. of_blocks blocks ≡ block) }
 {
@@ -218,7 +218,7 @@ fn opened(alloc: Global, block: Block) -> Result<Blocks, NoMemory>
     Ok(blocks)
 }
 
-/// The definition of the process of this name.
+/// Returns the definition of the process with this name.
 #[tactic(auto, using(crate::proofs::Lookups::defined_at, crate::proofs::Lookups::not_defined))]
 fn definition_of<'a>(names: &Names<'a>, name: &[u8]) -> Option<&'a ProcDef>
     ensures { option_copied result ≡ process_named names.now.script.now.procs name.now }

@@ -10,7 +10,7 @@ use tb_syntax::{Ast, AstKind};
 use tb_terms::{Ident, NoMemory, Sort};
 use tb_types::Names;
 
-/// The position of the process of this name, or the number of processes.
+/// Returns the position of the process with this name, or the number of processes if there is no such process.
 #[tactic(auto, using(crate::proofs::Lookups::process_at, crate::proofs::Lookups::no_process))]
 pub(crate) fn process_of(names: &Names, name: &Ident) -> Result<u32, NoMemory>
     ensures { IfOk result (λ position. position ≡ process_of names.now.script.now name.now) }
@@ -21,7 +21,7 @@ pub(crate) fn process_of(names: &Names, name: &Ident) -> Result<u32, NoMemory>
     }
 }
 
-/// The position of the tool of this name, or the number of tools.
+/// Returns the position of the tool with this name, or the number of tools if there is no such tool.
 #[tactic(auto, using(crate::proofs::Lookups::tool_at, crate::proofs::Lookups::no_tool))]
 pub(crate) fn tool_of(names: &Names, name: &[u8]) -> Result<u32, NoMemory>
     ensures { IfOk result (λ position. position ≡ tool_of names.now.script.now name.now) }
@@ -32,7 +32,7 @@ pub(crate) fn tool_of(names: &Names, name: &[u8]) -> Result<u32, NoMemory>
     }
 }
 
-/// The position of the tool of a sort, or 0 where it is another sort.
+/// Returns the position of the tool of a type, or 0 if the type isn't the type of a tool.
 pub(crate) fn tool_of_sort(names: &Names, sort: &Sort) -> Result<u32, NoMemory>
     ensures { IfOk result (λ position. position ≡ tool_of_sort names.now.script.now sort.now) }
 {
@@ -42,7 +42,7 @@ pub(crate) fn tool_of_sort(names: &Names, sort: &Sort) -> Result<u32, NoMemory>
     }
 }
 
-/// The name with which an expression begins, or none.
+/// Returns the name of an application, a variable, or a result variable. For other expressions, the name is empty.
 pub(crate) fn name_of(e: &Ast) -> &[u8]
     ensures { result.now ≡ name_of e.now }
 {

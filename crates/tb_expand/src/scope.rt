@@ -1,4 +1,4 @@
-//! The variables that are seen at a position.
+//! The variables that are visible at a place.
 
 ghost use Rattle.std.specs.Prelude.{◌≡◌, ◌++◌, ◌∷◌, [], IfOk, OnOk, Some, find};
 ghost use Rattle.std.specs.Str.{bytes_eq};
@@ -9,10 +9,10 @@ use crate::seen::{Block, Seen};
 use std::alloc::Global;
 use tb_terms::{Items, NoMemory, Sort};
 
-/// The variables that are seen at a position, by the blocks round it, of which the outermost stands first.
+/// The variables that are visible at a place, as the blocks around it. The outermost block is first.
 pub(crate) type Blocks = Items<Block>;
 
-/// The slot of the innermost variable of this name, or 0 where none is seen.
+/// Returns the slot of the innermost variable of this name, or 0 if none is visible.
 pub(crate) fn slot_of(blocks: &Blocks, name: &[u8]) -> u32
     ensures { result ≡ slot_of (of_blocks blocks.now) name.now }
 {
@@ -22,7 +22,7 @@ pub(crate) fn slot_of(blocks: &Blocks, name: &[u8]) -> u32
     }
 }
 
-/// The sort of the innermost variable of this name, or that of all terms where none is seen.
+/// Returns the type of the innermost variable of this name, or `term` if none is visible.
 pub(crate) fn sort_of(alloc: Global, blocks: &Blocks, name: &[u8]) -> Result<Sort, NoMemory>
     ensures { IfOk result (λ sort. sort ≡ sort_of (of_blocks blocks.now) name.now) }
 {

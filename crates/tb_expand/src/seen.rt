@@ -1,14 +1,17 @@
-//! Variables that are seen, and their blocks.
+//! Visible variables, and their blocks.
 
 use tb_terms::{Ident, Items, Sort};
 
-/// A variable that is seen: the slot for which its name stands, and its sort.
+/// A visible variable.
 #[derive(Drop)]
 pub(crate) struct Seen {
+    /// The name in the script.
     pub name: Ident,
+    /// The slot that the name refers to.
     pub slot: u32,
+    /// The type of the variable.
     pub sort: Sort,
 }
 
-/// Variables of one block, of which an earlier one would hide a later one of its name.
+/// The variables of one block. An earlier variable hides a later variable of the same name.
 pub(crate) type Block = Items<Seen>;

@@ -1,8 +1,10 @@
-//! How large an expansion is.
+//! The size of an expansion.
 
-/// How many atoms an expansion has, and how many levels its tree.
+/// The size of an expansion.
 #[derive(Clone, Copy, PartialEq, Eq)]
 pub(crate) struct Size {
+    /// The number of atoms.
     pub atoms: usize,
+    /// The depth of the tree.
     pub levels: usize,
 }

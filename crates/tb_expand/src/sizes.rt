@@ -1,4 +1,4 @@
-//! How large the expansions of processes are.
+//! The sizes of the expansions of processes.
 
 ghost use Rattle.std.specs.Prelude.{◌≡◌, IfOk, length};
 ghost use Rattle.tb_expand.specs.Helpers.Sizes.{beside, above};
@@ -12,13 +12,13 @@ use tb_syntax::Proc;
 use tb_terms::{Items, NoMemory};
 use tb_types::Names;
 
-/// One more atom than an expansion may have. No more are counted.
+/// The cap of the count of atoms: one more than an expansion can have.
 const COUNTED_ATOMS: usize = 20_001;
 
-/// One more level than an expansion may have.
+/// The cap of the depth: one more than the tree of an expansion can have.
 const COUNTED_LEVELS: usize = 1_001;
 
-/// Where no process is called by the name.
+/// The size for a call whose name no process has.
 const NOTHING: Size = Size {
     atoms: 0,
     levels: 1,
@@ -29,8 +29,8 @@ const ATOM: Size = Size {
     levels: 1,
 };
 
-/// The sizes of the bodies of all processes, by their positions. The order names each position behind those
-/// that its body calls.
+/// Returns the capped sizes of the expansions of all processes, by position. In `order`, each process comes after the processes that
+/// its body calls.
 #[tactic(auto, using(crate::proofs::SizesKept::none_kept))]
 pub(crate) fn sizes_of(
     alloc: Global,
@@ -55,7 +55,7 @@ fn nothings(alloc: Global, count: usize) -> Result<Items<Size>, NoMemory>
     Ok(Items::from_vec(sizes))
 }
 
-/// Keeps the size of the process at this position.
+/// Stores the size of the process at this position.
 fn keep_size(names: &Names, sizes: &mut Items<Size>, position: usize)
     requires { length sizes.old ≡ length names.now.script.now.procs }
     ensures { sizes.new ≡ with_measure names.now.script.now sizes.old position }
@@ -66,7 +66,7 @@ fn keep_size(names: &Names, sizes: &mut Items<Size>, position: usize)
     }
 }
 
-/// The size of a body's expansion, where those of the processes that it calls are known by their positions.
+/// Returns the capped size of a body's expansion, from the sizes of the processes that it calls, by position.
 fn size_of_body(names: &Names, sizes: &[Size], body: &Proc) -> Size
     ensures { result ≡ measure names.now.script.now sizes.now body.now }
 {
@@ -89,7 +89,7 @@ fn size_of_body(names: &Names, sizes: &[Size], body: &Proc) -> Size
     }
 }
 
-/// What stands for a call: the body under one more level.
+/// Returns the size of the part for a call: the called body under one more level.
 fn size_of_call(names: &Names, sizes: &[Size], name: &[u8]) -> Size
     ensures { result ≡ called_measure (known_size names.now.script.now sizes.now name.now) }
 {
@@ -102,7 +102,7 @@ fn size_of_call(names: &Names, sizes: &[Size], name: &[u8]) -> Size
     }
 }
 
-/// Two sides, under one more level.
+/// Returns the capped size of two sides under one operator.
 fn beside(x: Size, y: Size) -> Size
     ensures { result ≡ capped (beside x y) }
 {
@@ -112,7 +112,7 @@ fn beside(x: Size, y: Size) -> Size
     }
 }
 
-/// One more level.
+/// Returns the capped size of one side under one operator.
 fn above(x: Size) -> Size
     ensures { result ≡ capped (above x) }
 {

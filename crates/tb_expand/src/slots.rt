@@ -16,7 +16,7 @@ use tb_body::{Setting, Settings};
 use tb_syntax::{Ast, Formal, Var};
 use tb_terms::{Ident, Items, NoMemory, Sort, Sorts};
 
-/// The variables of a `let`, each with a slot of its own from this one on.
+/// Returns the variables of a `let`, each with a slot of its own, from this slot on.
 pub(crate) fn declared(alloc: Global, slot: u32, vars: &[Var]) -> Result<Block, NoMemory>
     ensures { IfOk result (λ block. block ≡ declared slot vars.now) }
 {
@@ -29,7 +29,7 @@ pub(crate) fn declared(alloc: Global, slot: u32, vars: &[Var]) -> Result<Block, 
     Ok(block)
 }
 
-/// A variable of this name with its slot and its sort.
+/// Returns a variable with this name, slot, and type.
 fn seen(alloc: Global, name: &Ident, sort: &Sort, slot: u32) -> Result<Seen, NoMemory>
     ensures { IfOk result
         (λ seen. seen ≡ record { name = name.now; slot = slot; sort = sort.now }) }
@@ -39,7 +39,7 @@ fn seen(alloc: Global, name: &Ident, sort: &Sort, slot: u32) -> Result<Seen, NoM
     Ok(Seen { name, slot, sort })
 }
 
-/// Each variable of a `let` with the value with which its sort begins.
+/// Returns the settings of a `let`: each variable gets the initial value of its type.
 pub(crate) fn initial(alloc: Global, slot: u32, vars: &[Var]) -> Result<Settings, NoMemory>
     ensures { IfOk result (λ settings. settings ≡ initial slot vars.now) }
 {
@@ -65,7 +65,7 @@ pub(crate) fn sorts_of_vars(alloc: Global, vars: &[Var]) -> Result<Sorts, NoMemo
     Ok(sorts)
 }
 
-/// The sorts of the formals that take a slot.
+/// Returns the types of the value parameters, which need a slot in a call.
 pub(crate) fn value_sorts(alloc: Global, formals: &[Formal]) -> Result<Sorts, NoMemory>
     ensures { IfOk result (λ sorts. sorts ≡ sorts_of (value_formals formals.now)) }
 {
@@ -78,7 +78,7 @@ pub(crate) fn value_sorts(alloc: Global, formals: &[Formal]) -> Result<Sorts, No
     Ok(sorts)
 }
 
-/// What a call sets: each value formal to its actual.
+/// Returns the settings of a call: each value parameter gets its argument.
 pub(crate) fn set_formals(
     alloc: Global,
     blocks: &Blocks,
@@ -115,7 +115,7 @@ fn setting(alloc: Global, blocks: &Blocks, slot: u32, actual: &Ast) -> Result<Se
     Ok(Setting { slot, start })
 }
 
-/// The formals of a call. A result formal is another name of its actual's variable.
+/// Returns the parameters of a call as variables. A result parameter has the slot of its argument's variable.
 pub(crate) fn formals_of_call(
     alloc: Global,
     blocks: &Blocks,
@@ -147,7 +147,7 @@ pub(crate) fn formals_of_call(
     Ok(block)
 }
 
-/// The formals of a process that is started by itself.
+/// Returns the parameters of a process that isn't expanded as a call. Each has a slot of its own.
 pub(crate) fn formals_seen(alloc: Global, slot: u32, formals: &[Formal]) -> Result<Block, NoMemory>
     ensures { IfOk result (λ block. block ≡ formals_seen slot formals.now) }
 {
@@ -160,7 +160,7 @@ pub(crate) fn formals_seen(alloc: Global, slot: u32, formals: &[Formal]) -> Resu
     Ok(block)
 }
 
-/// The sorts of all formals.
+/// Returns the types of all parameters.
 pub(crate) fn sorts_of(alloc: Global, formals: &[Formal]) -> Result<Sorts, NoMemory>
     ensures { IfOk result (λ sorts. sorts ≡ sorts_of formals.now) }
 {

@@ -1,4 +1,4 @@
-//! A walk over a graph.
+//! A depth-first walk through a graph.
 
 ghost use Rattle.std.specs.Prelude.{◌≡◌, ℕ, ◌<◌, ◌+◌, ◌^◌, List, [], ◌∷◌, ◌++◌, length, slice_get, Some, ⊤, IfOk, IfSome, OnOk, MatchOption};
 ghost use Rattle.tb_expand.specs.Helpers.Graphs.{IsClosed, next_positions};
@@ -10,27 +10,29 @@ use sqlite_items::at;
 use std::alloc::Global;
 use tb_terms::{Items, NoMemory};
 
-/// How far a position was visited.
+/// The state of a position in a walk.
 #[derive(Clone, Copy)]
 pub(crate) enum Visit {
+    /// The position wasn't visited.
     New,
-    /// It stands on the way, and so many of the positions to which it leads are done.
+    /// The position is on the path, and this many of its successors, from the first, are done.
     Open(usize),
+    /// The position and everything that is reachable from it are done.
     Done,
 }
 
-/// A walk through a graph, into each way as far as it goes.
+/// The state of a depth-first walk through a graph.
 #[derive(Drop)]
 pub(crate) struct Walk {
-    /// How far each position was visited.
+    /// The state of each position.
     pub visits: Items<Visit>,
-    /// The positions that are open. Each leads to the next.
+    /// The path: the positions that are open. Each position after the first is a successor of the one before.
     pub way: Positions,
-    /// The positions that are done, each behind those to which it leads.
+    /// The positions that are done, each after its successors.
     pub order: Positions,
 }
 
-/// Before the first step in a graph of so many positions.
+/// Returns the state before the first step, in a graph with this many positions.
 pub(crate) fn start(alloc: Global, count: usize) -> Result<Walk, NoMemory>
     ensures { IfOk result (λ walk. walk ≡ start_of count) }
 {
@@ -43,8 +45,8 @@ pub(crate) fn start(alloc: Global, count: usize) -> Result<Walk, NoMemory>
     })
 }
 
-/// Goes on from the last position of the way by one step. Where that leads to a position of the way, the
-/// answer is this position, and nothing changes.
+/// Takes one step from the last position of the path. If the step leads to a position of the path, returns this position and changes
+/// nothing.
 pub(crate) fn step(
     graph: &Graph,
     walk: &mut Walk,
@@ -74,7 +76,7 @@ pub(crate) fn step(
     }
 }
 
-/// How far a position was visited.
+/// Returns the state of a position.
 pub(crate) fn visit_of(walk: &Walk, position: usize) -> Visit
     requires { position < length walk.now.visits }
     ensures { slice_get walk.now.visits position ≡ Some result }
@@ -82,7 +84,7 @@ pub(crate) fn visit_of(walk: &Walk, position: usize) -> Visit
     walk.visits.as_slice()[position]
 }
 
-/// So many of the positions to which an open position leads were looked at, or none of another's.
+/// Returns how many successors of an open position were looked at. For other positions, the result is 0.
 fn looked_at(walk: &Walk, position: usize) -> usize
     requires { position < length walk.now.visits }
     ensures { (looked : ℕ)
@@ -94,7 +96,7 @@ fn looked_at(walk: &Walk, position: usize) -> usize
     }
 }
 
-/// The position to which this one leads, behind so many others.
+/// Returns the successor of a position after this many others.
 fn next_of(graph: &Graph, position: usize, looked: usize) -> Option<usize>
     ensures value { result ≡ slice_get (next_positions graph.now position) looked }
     ensures fits { IfSome result (λ next. looked + 1 < 2 ^ 64) }
@@ -105,7 +107,7 @@ fn next_of(graph: &Graph, position: usize, looked: usize) -> Option<usize>
     }
 }
 
-/// Puts a new position behind the way.
+/// Adds a new position at the end of the path.
 pub(crate) fn open(walk: &mut Walk, position: usize) -> Result<(), NoMemory>
     requires { position < length walk.old.visits }
     ensures { OnOk result (walk.new ≡ opened walk.old position) }
@@ -115,7 +117,7 @@ pub(crate) fn open(walk: &mut Walk, position: usize) -> Result<(), NoMemory>
     Ok(())
 }
 
-/// Takes the last position from the way: all that it leads to is done.
+/// Removes the last position from the path, and marks it as done. All its successors must be done.
 fn close(walk: &mut Walk, position: usize) -> Result<(), NoMemory>
     requires { position < length walk.old.visits }
     ensures { (prefix : List ℕ) → walk.old.way ≡ prefix ++ position ∷ []

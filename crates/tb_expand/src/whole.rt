@@ -12,7 +12,7 @@ use tb_syntax::ProcDef;
 use tb_terms::{Items, NoMemory};
 use tb_types::Names;
 
-/// The expansion of a process: its tree, and its atoms and sorts.
+/// The expansion of a process: its tree, its atoms, and the types of its slots.
 pub(crate) fn expansion_of(
     alloc: Global,
     names: &Names,

@@ -1,4 +1,4 @@
--- What an inlet tells after an answer.
+-- The report of an inlet after an answer.
 use Rattle.std.proofs.Common.{◌≡◌, ℕ, ◌+◌, ◌≤◌, Bool, true, false, ◌||◌, Some, List, [], ◌∷◌, ◌++◌, map, take, length, slice_get, refl, ap, sym, ◌∙◌, append-nil}
 use Rattle.std.proofs.lemmas.List.{map_more}
 use Rattle.std.proofs.lemmas.Option.{slice_get_within, get_or_from_slice_get}
@@ -10,7 +10,7 @@ use Rattle.tb_edge.specs.declared.inlet.Got.TheVariants as got
 use Rattle.tb_fake.specs.declared.cue.Cue.{Cue}
 use Rattle.tb_fake.specs.Fakes.{given_of, FakeInletView, gave_by, IsNext, inlet_next}
 
--- one cue more was given
+-- if one more cue is given, its item is appended to the given items
 gave_more : (cues : List Cue) (i : ℕ) (cue : Cue) (gives : Given) → slice_get cues i ≡ Some cue → given_of cue.gives ≡ gives
     → map (λ (c : Cue). given_of c.gives) (take (i + 1) cues) ≡ map (λ (c : Cue). given_of c.gives) (take i cues) ++ gives ∷ []
 gave_more cues i cue gives at is =
@@ -40,11 +40,11 @@ next_tells old got.Over line n = view_is _ _ _ _ (sym (append-nil (map (λ (c : 
 next_tells old got.Failed line n = absurd n
 next_tells old got.NoMemory line n = view_is _ _ _ _ (sym (append-nil (map (λ (c : Cue). given_of c.gives) (take old.given old.cues)))) (or_false old.over)
 
--- what the inlet tells grows by the answer
+-- the report of the inlet grows by the answer
 pub tells : (old new : FakeInletView) (answer : Got) (line : List ℕ) → IsNext old answer line → new ≡ inlet_next answer old → Some (gave_by new) ≡ inlet_after (Some (gave_by old)) answer line
 tells old new answer line n after = ap (λ (inlet : FakeInletView). Some (gave_by inlet)) after ∙ ap (λ (view : InletView). Some view) (next_tells old answer line n)
 
--- an inlet that is over says so
+-- an inlet that is over has no other answer
 pub may_give : (old : FakeInletView) (answer : Got) (line : List ℕ) → IsNext old answer line → MayGive (Some (gave_by old)) answer
 may_give old got.Line line n = λ over. absurd (let e : true ≡ false = sym over ∙ n.1.0 in cc)
 may_give old got.Long line n = λ over. absurd (let e : true ≡ false = sym over ∙ n.1.0 in cc)
@@ -53,7 +53,7 @@ may_give old got.Over line n = λ over. refl
 may_give old got.Failed line n = absurd n
 may_give old got.NoMemory line n = λ over. absurd (let e : true ≡ false = sym over ∙ n in cc)
 
--- a line that is given is short
+-- a given line has at most 65,536 bytes
 pub gives_short : (old : FakeInletView) (answer : Got) (line : List ℕ) → IsNext old answer line → answer ≡ got.Line → length line ≤ 65536
 gives_short old got.Line line n is = n.2.1
 gives_short old got.Long line n is = cc

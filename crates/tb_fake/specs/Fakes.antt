@@ -1,4 +1,4 @@
--- What the lane ends for tests give and take: an inlet its cues in order, an outlet what it has room for.
+-- The behavior of the lane ends for tests: an inlet gives its cues in order, and an outlet takes the items that fit.
 use Rattle.std.specs.Prelude.{◌≡◌, ℕ, ◌+◌, ◌-◌, ◌==◌, ◌≤◌, nat_le, nat_lt, Bool, true, false, not, ◌&&◌, if◌then◌else◌, Some, List, [], ◌∷◌, ◌++◌, map, take, length, slice_get, ⊤}
 use Rattle.std.specs.List.{filter}
 use Rattle.tb_edge.specs.Faults.{risen}
@@ -19,27 +19,27 @@ use Rattle.tb_fake.specs.declared.record.Kind.TheVariants as kind
 abbrev pub cues_on : ℕ → List Cue → List Cue
 cues_on lane cues = filter (λ cue. cue.lane == lane) cues
 
--- the calls of a lane's outlet that are to fail
+-- the numbers of the calls of a lane's outlet that must fail
 abbrev pub fails_on : ℕ → List Fail → List ℕ
 fails_on lane fails = map (λ fail. fail.call) (filter (λ fail. fail.lane == lane) fails)
 
--- what is given where this is to be: a line that is too long is given as such
+-- the given form of an item: a line of more than 65,536 bytes is given as a line that is too long
 abbrev pub given_of : Given → Given
 given_of (given.Line bytes) = if nat_le (length bytes) 65536 then given.Line bytes else given.Long
 given_of given.Long = given.Long
 given_of given.End = given.End
 
--- a `FakeInlet`: its cues, how many of them it gave, and whether it is over
+-- a `FakeInlet`: its cues, the number of given cues, and whether it is over
 pub record FakeInletView : Type 0 where
   pub cues : List Cue
   pub given : ℕ
   pub over : Bool
 
--- it gave a front of its cues
+-- the report of an inlet: the items of its given cues, which are a prefix of its cues, and whether it is over
 abbrev pub gave_by : FakeInletView → InletView
 gave_by inlet = record { gave = map (λ cue. given_of cue.gives) (take inlet.given inlet.cues); over = inlet.over }
 
--- this answer, with this line in the buffer, gives the cue, unless memory ran out
+-- this answer, with this line in the buffer, gives the cue's item, or memory ran out
 abbrev pub IsGiving : Cue → Got → List ℕ → Type 0
 IsGiving cue got.Line line = (given_of cue.gives ≡ given.Line line) × (length line ≤ 65536)
 IsGiving cue got.Long line = given_of cue.gives ≡ given.Long
@@ -48,11 +48,11 @@ IsGiving cue got.Over line = ⊥
 IsGiving cue got.Failed line = ⊥
 IsGiving cue got.NoMemory line = ⊤
 
--- the next cue of an inlet that isn't over
+-- this is the next cue of an inlet that isn't over
 abbrev pub IsCued : FakeInletView → Cue → Type 0
 IsCued inlet cue = (inlet.over ≡ false) × (slice_get inlet.cues inlet.given ≡ Some cue)
 
--- an inlet says that it is over, or gives its next cue
+-- the inlet gives its next cue, or answers that it is over, or runs out of memory (only if it isn't over); it never fails
 abbrev pub IsNext : FakeInletView → Got → List ℕ → Type 0
 IsNext inlet got.Line line = (cue : Cue) × IsCued inlet cue × IsGiving cue got.Line line
 IsNext inlet got.Long line = (cue : Cue) × IsCued inlet cue × IsGiving cue got.Long line
@@ -76,7 +76,8 @@ taken_by kind.Start bytes = taken.Start bytes
 taken_by kind.Line bytes = taken.Line bytes
 taken_by kind.End bytes = taken.End
 
--- a `FakeOutlet`: what it took, how many items and bytes it has room for still, the calls of `begin` and `line` that are to fail, how many of these calls there were, and how many failed
+-- a `FakeOutlet`: the taken items; the free capacity in items and in bytes; the calls of `begin` and `line` that must fail; the number of
+-- these calls so far, and how many of them failed
 pub record FakeOutletView : Type 0 where
   pub taken : List Taken
   pub items : ℕ
@@ -85,15 +86,15 @@ pub record FakeOutletView : Type 0 where
   pub calls : ℕ
   pub faults : ℕ
 
--- a call takes what it has room for, unless it is to fail
+-- whether a call takes an item of this size: the call isn't to fail, and the item fits
 abbrev pub takes : FakeOutletView → ℕ → Bool
 takes outlet size = not (fails_at outlet.fails (risen outlet.calls)) && (nat_lt 0 outlet.items && nat_le size outlet.bytes)
 
--- the outlet once it took an item of so many bytes
+-- the outlet after it took an item of this size
 abbrev pub outlet_with : FakeOutletView → Taken → ℕ → FakeOutletView
 outlet_with outlet item size = record outlet { taken = outlet.taken ++ item ∷ []; items = outlet.items - 1; bytes = outlet.bytes - size }
 
--- the outlet after a call of `begin` or `line` with an item of so many bytes
+-- the outlet after a call of `begin` or `line` with an item of this size
 abbrev pub outlet_after : FakeOutletView → Taken → ℕ → FakeOutletView
 outlet_after outlet item size =
     if takes outlet size then outlet_with (record outlet { calls = risen outlet.calls }) item size

@@ -1,4 +1,4 @@
-//! The state of the sixteen outlets, which all ends of the lanes share.
+//! The state of the sixteen outlets, which all lane ends and the clock share.
 use crate::record::{Kind, Record};
 use sqlite_items::Items;
 use std::alloc::Global;
@@ -8,16 +8,16 @@ use std::thread;
 use tb_edge::Taken;
 use tb_terms::NoMemory;
 
-/// How many lanes there are.
+/// The number of lanes.
 const LANES: usize = 16;
 
-/// How often one looks for a sign before one gives up.
+/// The number of looks for a sign after which a wait gives up.
 const LOOKS: u64 = 20_000_000;
 
-/// What is waited for.
+/// A sign that an inlet or the clock waits for.
 #[derive(Clone, Copy)]
 pub(crate) enum Sign {
-    /// The outlet of this lane has taken so many items.
+    /// The outlet of this lane has taken at least this number of items.
     Took(u8, usize),
     /// The outlet of this lane is closed.
     Closed(u8),
@@ -25,7 +25,7 @@ pub(crate) enum Sign {
     AllClosed,
 }
 
-/// What all ends know of one outlet.
+/// The shared state of one outlet.
 #[derive(Drop)]
 struct Lane {
     took: AtomicU64,
@@ -34,14 +34,14 @@ struct Lane {
     record: Mutex<Record>,
 }
 
-/// What all ends know of the sixteen outlets.
+/// The shared state of the sixteen outlets.
 #[derive(Drop)]
 pub(crate) struct Board {
     lanes: Vec<Lane>,
 }
 
 impl Board {
-    /// A board on which nothing was taken and nothing is closed.
+    /// Makes a board on which no item was taken and no outlet is closed.
     pub(crate) fn new(alloc: Global) -> Result<Board, NoMemory> {
         let mut lanes = Vec::with_capacity(alloc, LANES)?;
         for _ in 0..LANES {
@@ -61,7 +61,8 @@ impl Board {
         self.lanes.get(at)
     }
 
-    /// Records that the outlet of this lane took an item. Whoever sees the count of items sees the item too.
+    /// Records that the outlet of this lane took an item. A thread that sees the new count of items also sees the item, or that an item was
+    /// lost.
     pub(crate) fn add(&self, number: u8, kind: Kind, bytes: &[u8]) {
         if let Some(lane) = self.lane(number) {
             let kept = match lane.record.try_lock() {
@@ -82,6 +83,8 @@ impl Board {
         }
     }
 
+    /// Returns copies of the items that the outlet of this lane took. Returns `None` if an item was lost, if the record is in use, if a
+    /// start isn't a valid `Text`, or if there is no such lane.
     pub(crate) fn copy_record(
         &self,
         alloc: Global,
@@ -96,7 +99,7 @@ impl Board {
         }
     }
 
-    /// Looks for the sign again and again, yields between the looks, and says whether it was seen.
+    /// Looks for the sign up to `LOOKS` times, and yields after each look in vain. Returns whether the sign was seen.
     pub(crate) fn wait_for(&self, sign: Sign) -> bool {
         for _ in 0..LOOKS {
             if self.shows(sign) {

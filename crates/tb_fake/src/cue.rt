@@ -8,36 +8,36 @@ use std::alloc::Global;
 use tb_edge::{Bytes, FailCalls, Given};
 use tb_terms::NoMemory;
 
-/// What an inlet gives, and when.
+/// An item that an inlet gives, and when the item is due.
 #[derive(Drop)]
 pub struct Cue {
-    /// The lane whose inlet gives it, from 1 to 16. Nobody gives a cue of another lane.
+    /// The lane whose inlet gives the item, from 1 to 16. A cue of another lane is never given.
     pub lane: u8,
     /// The lane whose outlet is watched, from 1 to 16.
     pub watch: u8,
-    /// How many items this outlet has to have taken.
+    /// The number of items that this outlet must have taken.
     pub after: usize,
-    /// What is given then. A line of more than 65,536 bytes is given as `Long`.
+    /// The item. A line of more than 65,536 bytes is given as `Long`.
     pub gives: Given,
 }
 
-/// Cues in a row. Each lane's are given in this order.
+/// Cues in order. Each lane gives its own cues in this order.
 pub type Cues = Items<Cue>;
 
-/// A call that is to fail.
+/// A call that must fail.
 #[derive(Clone, Copy)]
 pub struct Fail {
     /// The lane of the outlet, from 1 to 16.
     pub lane: u8,
-    /// The number, from 1, of the call among those of `begin` and `line`.
+    /// The number of the call, from 1, among the calls of `begin` and `line`.
     pub call: u64,
 }
 
-/// Calls that are to fail, in any order.
+/// Calls that must fail, in any order.
 pub type Fails = Items<Fail>;
 
 impl Cue {
-    /// The same cue in memory of its own.
+    /// Returns a copy of the cue in its own memory.
     pub fn copy(&self, alloc: Global) -> Result<Cue, NoMemory>
         ensures { IfOk result (λ copy. copy ≡ self.now) }
     {
@@ -55,7 +55,7 @@ impl Cue {
     }
 }
 
-/// Copies of a lane's cues, in order.
+/// Returns copies of a lane's cues, in order.
 pub(crate) fn copy_cues(alloc: Global, cues: &[Cue], lane: u8) -> Result<Cues, NoMemory>
     ensures { IfOk result (λ own. own ≡ cues_on lane cues.now) }
 {
@@ -68,7 +68,7 @@ pub(crate) fn copy_cues(alloc: Global, cues: &[Cue], lane: u8) -> Result<Cues, N
     Ok(own)
 }
 
-/// The calls of a lane's outlet that are to fail.
+/// Returns the numbers of the calls of a lane's outlet that must fail.
 pub(crate) fn copy_fails(alloc: Global, fails: &[Fail], lane: u8) -> Result<FailCalls, NoMemory>
     ensures { IfOk result (λ own. own ≡ fails_on lane fails.now) }
 {

@@ -1,4 +1,4 @@
-//! A clock without ticks that ends once all outlets are closed.
+//! A clock without ticks that ends after all outlets are closed.
 ghost use Rattle.std.specs.Prelude.{◌≡◌, true};
 
 use crate::board::{Board, Sign};
@@ -7,8 +7,8 @@ use std::marker::Model;
 use std::sync::Arc;
 use tb_edge::{Beat, Clock};
 
-/// A clock that gives no tick and never fails: it ends once all sixteen outlets are closed, or once it has looked
-/// 20,000,000 times whether they are. Contracts see whether it has ended.
+/// A clock that gives no ticks and never fails. It ends after all sixteen outlets are closed, or after it has looked for this 20,000,000
+/// times. Contracts see whether it has ended.
 #[derive(Drop)]
 pub struct FakeClock {
     pub(crate) board: Arc<Board, Global>,
@@ -24,7 +24,7 @@ impl Model for FakeClock {
 }
 
 impl FakeClock {
-    /// How many calls have failed, which is none.
+    /// Returns the number of failed calls. The clock never fails.
     pub fn faults(&self) -> u64
         ensures { result ≡ 0 }
     {

@@ -10,9 +10,9 @@ use std::marker::Model;
 use std::sync::Arc;
 use tb_edge::{Given, Got, Inlet, MOST_LINE};
 
-/// An inlet that gives its cues in order, each once the outlet that it watches has taken so many items, and is over
-/// once it has given the last and its own outlet is closed. Where it has looked for one of these 20,000,000 times, it
-/// is over too. It never fails. Contracts see its cues, how many of them it gave, and whether it is over.
+/// An inlet that gives its cues in order, each after the watched outlet has taken the cue's number of items. After the last cue, the inlet
+/// is over when its own outlet is closed. It is also over if it has looked for one of these 20,000,000 times. It never fails. Contracts see
+/// its cues, the number of given cues, and whether it is over.
 #[derive(Drop)]
 pub struct FakeInlet {
     board: Arc<Board, Global>,
@@ -47,14 +47,14 @@ impl FakeInlet {
         }
     }
 
-    /// How many calls have failed, which is none.
+    /// Returns the number of failed calls. The inlet never fails.
     pub fn faults(&self) -> u64
         ensures { result ≡ 0 }
     {
         0
     }
 
-    /// Waits for what the next cue watches, or after the last cue for the closing of the own outlet.
+    /// Waits until the next cue is due. After the last cue, waits until the inlet's own outlet is closed. Returns whether this was seen.
     fn wait(&self) -> bool {
         self.board.wait_for(match self.cues.get(self.given) {
             Some(cue) => Sign::Took(cue.watch, cue.after),
@@ -100,7 +100,7 @@ impl Inlet for FakeInlet {
     }
 }
 
-/// Gives what the cue says.
+/// Gives the item of the cue. If it is a line, its bytes replace the content of `line`.
 fn give(cue: &Cue, line: &mut Vec<u8>) -> Got
     ensures { IsGiving cue.now result line.new.items }
 {

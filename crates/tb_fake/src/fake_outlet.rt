@@ -1,4 +1,4 @@
-//! An outlet with a capacity, which keeps what it takes and fails in given calls.
+//! An outlet with a capacity. It keeps the items that it takes, and fails in given calls.
 ghost use Rattle.std.specs.Prelude.{◌≡◌, ◌≤◌, [], length, is_ok, IfOk};
 ghost use Rattle.tb_edge.specs.InMemory.{fails_at};
 ghost use Rattle.tb_fake.specs.Fakes.{taken_by, takes, outlet_with, outlet_after};
@@ -12,10 +12,9 @@ use std::sync::Arc;
 use tb_edge::{FailCalls, Failed, Outlet, Taken};
 use tb_terms::NoMemory;
 
-/// An outlet with room for 64 items of together 65,536 bytes. A start or a line that doesn't fit fails, and so does
-/// one in a call that is to fail. An end is always taken; from one that doesn't fit on, `Records` tells nothing of the
-/// lane. Contracts see what it took, the room that is left, the calls that are to fail, the number of calls of
-/// `begin` and `line`, and how many of these have failed.
+/// An outlet with a capacity of 64 items and 65,536 bytes in total. A start or a line fails if it doesn't fit, or if its call must fail. An
+/// end is always taken. After an end that doesn't fit, `Records` returns nothing for the lane. Contracts see the taken items, the free
+/// capacity, the calls that must fail, the number of calls of `begin` and `line`, and how many of these calls failed.
 #[derive(Drop)]
 pub struct FakeOutlet {
     board: Arc<Board, Global>,
@@ -48,7 +47,7 @@ impl Model for FakeOutlet {
 }
 
 impl FakeOutlet {
-    /// Takes the memory for one item of any length. The board has that for what is kept.
+    /// Makes an outlet with the memory for one item of any length that fits. The board has the memory for the kept items.
     pub(crate) fn new(
         alloc: Global,
         board: Arc<Board, Global>,
@@ -77,7 +76,7 @@ impl FakeOutlet {
         })
     }
 
-    /// How many calls have failed.
+    /// Returns the number of failed calls.
     pub fn faults(&self) -> u64
         ensures { result ≡ self.now.faults }
     {
@@ -86,7 +85,7 @@ impl FakeOutlet {
 }
 
 impl FakeOutlet {
-    /// Takes the item, unless it doesn't fit or the call is to fail.
+    /// Takes the item, unless it doesn't fit or the call must fail. In these cases, the call counts as failed.
     fn put(&mut self, kind: Kind, bytes: &[u8]) -> Result<(), Failed>
         ensures never_falls { self.old.faults ≤ self.new.faults }
         ensures answer { is_ok result ≡ takes self.old (length bytes.now) }
@@ -102,7 +101,7 @@ impl FakeOutlet {
         Ok(())
     }
 
-    /// Takes the item. The memory is there, since its bytes fit.
+    /// Takes the item. Its bytes fit, so the call needs no new memory.
     fn keep(&mut self, kind: Kind, bytes: &[u8])
         requires { length bytes.now ≤ self.old.bytes }
         ensures { self.new ≡ outlet_with self.old (taken_by kind bytes.now) (length bytes.now) }

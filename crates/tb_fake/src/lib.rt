@@ -1,5 +1,5 @@
-//! Sixteen pairs of lane ends for tests, whose inlets give what they are told to, when they are told to, and whose
-//! outlets keep what they take; and a clock without ticks.
+//! Sixteen pairs of lane ends for tests, and a clock without ticks. Each inlet gives its cues when they are due, and each outlet keeps the
+//! items that it takes.
 #![tactic(auto)]
 
 mod board;

@@ -15,25 +15,24 @@ const LANES: [u8; 16] = [1, 2, 3, 4, 5, 6, 7, 8, 9, 10, 11, 12, 13, 14, 15, 16];
 /// The two ends of one lane.
 #[derive(Drop)]
 pub struct FakePair {
-    /// What gives the lane's cues.
+    /// The read end, which gives the lane's cues.
     pub inlet: FakeInlet,
-    /// What keeps what it takes.
+    /// The write end, which keeps the items that it takes.
     pub outlet: FakeOutlet,
 }
 
-/// Sixteen pairs, in the order of the lanes, and what goes with them. Who uses them boxes their ends.
+/// Sixteen pairs in the order of the lanes, with their clock and their records. A user boxes the lane ends.
 #[derive(Drop)]
 pub struct FakePairs {
     /// The pairs of the lanes 1 to 16.
     pub pairs: Vec<FakePair>,
-    /// A clock that ends once the outlets of all pairs are closed.
+    /// A clock that ends after the outlets of all pairs are closed.
     pub clock: FakeClock,
-    /// What the outlets took, which can still be read once the pairs are boxed.
+    /// The items that the outlets took. They can still be read after the lane ends are boxed.
     pub records: Records,
 }
 
-/// Sixteen pairs, whose inlets have the cues of their lanes and whose outlets have the calls of theirs that are to
-/// fail.
+/// Makes sixteen pairs. The inlets have the cues of their lanes, and the outlets have the failing calls of their lanes.
 pub fn fakes(alloc: Global, cues: Cues, fails: Fails) -> Result<FakePairs, NoMemory>
     ensures pairs { IfOk result (λ made. made.pairs.items ≡ map (fresh_pair cues fails) all_lanes) }
     ensures clock { IfOk result (λ made. made.clock ≡ false) }

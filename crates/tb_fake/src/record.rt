@@ -1,4 +1,4 @@
-//! What one outlet took, and its limits.
+//! The items that one outlet took, and the limits of their number and size.
 use crate::board::Board;
 use sqlite_items::Items;
 use std::alloc::Global;
@@ -6,10 +6,10 @@ use std::sync::Arc;
 use tb_edge::{Bytes, Taken};
 use tb_terms::{NoMemory, Text};
 
-/// How many items an outlet has room for.
+/// The capacity of an outlet, in items.
 pub(crate) const ITEMS: usize = 64;
 
-/// How many bytes all of them may have together.
+/// The capacity of an outlet for all items together, in bytes.
 pub(crate) const BYTES: usize = 65_536;
 
 /// The kinds of items that an outlet takes.
@@ -20,14 +20,14 @@ pub(crate) enum Kind {
     End,
 }
 
-/// An item whose bytes end at this place.
+/// A taken item. Its bytes end before index `to` of the record's bytes.
 #[derive(Clone, Copy)]
 struct Item {
     kind: Kind,
     to: usize,
 }
 
-/// What an outlet took: the items, and the bytes of all of them in a row.
+/// The items that an outlet took, and the bytes of all items in order.
 #[derive(Drop)]
 pub(crate) struct Record {
     items: Vec<Item>,
@@ -35,7 +35,7 @@ pub(crate) struct Record {
 }
 
 impl Record {
-    /// Takes the memory for all items.
+    /// Makes an empty record with the memory for all items.
     pub(crate) fn new(alloc: Global) -> Result<Record, NoMemory> {
         Ok(Record {
             items: Vec::with_capacity(alloc, ITEMS)?,
@@ -43,7 +43,7 @@ impl Record {
         })
     }
 
-    /// Adds the item, and says whether there was room for it.
+    /// Adds the item. Returns whether the record had the capacity for it.
     pub(crate) fn add(&mut self, kind: Kind, bytes: &[u8]) -> bool {
         if self.items.len() >= ITEMS || bytes.len() > BYTES.saturating_sub(self.bytes.len()) {
             return false;
@@ -55,7 +55,7 @@ impl Record {
         self.items.push(Item { kind, to }).is_ok()
     }
 
-    /// Copies of all items. It is None where a start has bytes that no text has.
+    /// Returns copies of all items, or `None` if the bytes of a start aren't a valid `Text`.
     pub(crate) fn copy(&self, alloc: Global) -> Result<Option<Items<Taken>>, NoMemory> {
         let mut copies = Items::new(alloc);
         let mut from = 0;
@@ -88,16 +88,17 @@ fn copy_item(alloc: Global, kind: Kind, bytes: &[u8]) -> Result<Option<Taken>, N
     })
 }
 
-/// What the sixteen outlets took, to be read once they are not in use any more: the ends may be boxed and dropped by
-/// then.
+/// The items that the sixteen outlets took. A test reads them after the outlets are no longer in use. By then, the lane ends can be boxed
+/// or dropped.
 #[derive(Drop)]
 pub struct Records {
     pub(crate) board: Arc<Board, Global>,
 }
 
 impl Records {
-    /// Copies of all that the outlet of this lane took, in order. It is None where that had more than 64 items, so
-    /// that the last ends are missing, and where the lane isn't from 1 to 16.
+    /// Returns copies of all items that the outlet of this lane took, in order. Returns `None` if there were more than 64 items, so that
+    /// the last ends are missing. Also returns `None` if a start isn't a valid `Text`, if the record was in use, or if the lane isn't from
+    /// 1 to 16.
     pub fn of(&self, alloc: Global, lane: u8) -> Result<Option<Items<Taken>>, NoMemory> {
         self.board.copy_record(alloc, lane)
     }

@@ -1,4 +1,4 @@
--- The line of each fault that a text has begins with the fault's name.
+-- The line of each error of a source begins with the error's name.
 use Rattle.std.proofs.Common.{◌≡◌, ℕ, List, [], ◌∷◌, ◌++◌, Option, refl, codes}
 use Rattle.std.specs.Fmt.{decimal}
 use Rattle.std.specs.List.{join_with_byte}
@@ -19,7 +19,7 @@ use Rattle.tb_fault_place.specs.Points.{IsPoint}
 use Rattle.tb_fault_place.specs.Standing.{StandsAt}
 use Rattle.tb_fault_place.specs.declared.point.Point.{Point}
 
--- what stands behind the name in the line of a fault at a byte, and in that of a fault at a token
+-- the bytes after the name, in the line of an error at a byte and of an error at a token
 abbrev at_byte : ℕ → List ℕ
 at_byte at = codes " " ++ decimal at
 

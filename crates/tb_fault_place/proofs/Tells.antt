@@ -1,4 +1,4 @@
--- A text that is the place, the name of the fault, a rest, and a newline tells the fault.
+-- Lines that are the place, the name of the error, a rest and a newline state the error.
 use Rattle.std.proofs.Common.{◌≡◌, ℕ, List, [], ◌∷◌, ◌++◌, codes}
 use Rattle.tb_fault_place.specs.FaultNames.{fault_name}
 use Rattle.tb_fault_place.specs.Points.{TellsFault}

@@ -1,4 +1,4 @@
--- The name of a fault: the words with which its line begins, behind `script: `.
+-- The name of an error: the words with which its line begins, after `toolbus: script: `.
 use Rattle.std.specs.Prelude.{◌≡◌, ℕ, List, [], ◌++◌, codes}
 use Rattle.tb_lex.specs.declared.fault.LexFault.{LexFault}
 use Rattle.tb_lex.specs.declared.fault.LexFault.TheVariants as lex
@@ -42,7 +42,7 @@ expand_name (expand.Recursion names) = codes "recursion"
 expand_name (expand.TooLarge name) = codes "too large"
 expand_name expand.NoMemory = []
 
--- running out of memory is no fault of the text, and has no name
+-- the name of an error; out of memory isn't an error of the source, and has the empty name
 abbrev pub fault_name : ScriptFault → List ℕ
 fault_name (fault.Lex f) = lex_name f
 fault_name (fault.Parse f) = parse_name f
@@ -53,6 +53,6 @@ fault_name (fault.TooLong count) = codes "too long"
 fault_name (fault.NotBuilt token) = codes "not built"
 fault_name fault.NoMemory = []
 
--- the line of the fault, as `toolbus check` writes it, has its name behind `script: `
+-- in the line of the error, as `toolbus check` writes it, the text after `toolbus: ` begins with `script: ` and the name of the error
 abbrev pub BeginsLine : ScriptFault → Type 0
 BeginsLine f = (rest : List ℕ) × (script_line f ≡ codes "script: " ++ fault_name f ++ rest)

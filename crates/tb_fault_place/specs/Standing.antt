@@ -1,4 +1,4 @@
--- At which bytes of a script its fault stands.
+-- The bytes of a source where its error is.
 use Rattle.std.specs.Prelude.{◌≡◌, ℕ, List, ◌∷◌, ◌++◌, slice_get, Option, Some, None, option_map, codes}
 use Rattle.std.specs.Fmt.{decimal}
 use Rattle.tb_body.specs.Programs.{most_roots}
@@ -24,7 +24,7 @@ use Rattle.tb_source_map.specs.declared.mark.Mark.{Mark}
 use Rattle.tb_source_map.specs.declared.spot.Spot.{Spot}
 use Rattle.tb_fault_place.specs.Calls.{cycle_token, definition_token}
 
--- The byte that the fault names, as an empty mark before it; too many tokens are a fault of no byte.
+-- the byte that the error names, as an empty mark before this byte; too many tokens have no place
 abbrev pub lex_mark : LexFault → Option Mark
 lex_mark (lex.BadByte at) = Some (record { from = at; to = at })
 lex_mark (lex.OpenString at) = Some (record { from = at; to = at })
@@ -33,7 +33,7 @@ lex_mark (lex.IntRange at) = Some (record { from = at; to = at })
 lex_mark lex.TooMany = None
 lex_mark lex.NoMemory = None
 
--- the token that the fault names
+-- the token that the error names
 abbrev pub parse_token : ParseFault → Option ℕ
 parse_token (parse.Syntax token) = Some token
 parse_token (parse.TooDeep token) = Some token
@@ -51,7 +51,7 @@ check_token (check.NotResult token) = Some token
 check_token (check.TypeClash token) = Some token
 check_token check.NoMemory = None
 
--- the first call of a cycle; the definition of a process that is too large
+-- the token of the first call of a cycle, or of the definition of a process that is too large
 abbrev pub expand_token : ExpandFault → Script → Option ℕ
 expand_token (expand.Recursion names) script = cycle_token script names
 expand_token (expand.TooLarge name) script = definition_token script name
@@ -61,13 +61,13 @@ expand_token expand.NoMemory script = None
 abbrev pub root_token : Script → Option ℕ
 root_token script = option_map (λ (call : Call). call.token) (slice_get script.roots most_roots)
 
--- the bytes are those of this token of the text
+-- the bytes are those of this token of the source
 pub record AtToken (text : List ℕ) (token : Option ℕ) (mark : Option Mark) : Type 0 where
   pub tokens : List Token
   pub has_tokens : HasTokens text tokens
   pub is : mark ≡ option_map (mark_at tokens) token
 
--- the bytes are those of this token of the script that the text spells
+-- the bytes are those of this token of the script that the source parses as
 pub record InScript (text : List ℕ) (token : Script → Option ℕ) (mark : Option Mark) : Type 0 where
   pub tokens : List Token
   pub script : Script
@@ -75,23 +75,24 @@ pub record InScript (text : List ℕ) (token : Script → Option ℕ) (mark : Op
   pub is_script : IsScriptOf (kinds_of tokens) script
   pub is : mark ≡ option_map (mark_at tokens) (token script)
 
--- The fault of this text stands at these bytes.
+-- the place of this error of the source is at these bytes
 abbrev pub StandsAt : List ℕ → ScriptFault → Option Mark → Type 0
 StandsAt text (fault.Lex f) mark = mark ≡ lex_mark f
 StandsAt text (fault.Parse f) mark = AtToken text (parse_token f) mark
 StandsAt text (fault.Check f) mark = AtToken text (check_token f) mark
 StandsAt text (fault.Expand f) mark = InScript text (expand_token f) mark
 StandsAt text (fault.Roots count) mark = InScript text root_token mark
--- these are faults of no byte
+-- these errors have no place in the source
 StandsAt text (fault.TooLong count) mark = mark ≡ None
 StandsAt text (fault.NotBuilt token) mark = mark ≡ None
--- running out of memory is no fault of the text
+-- out of memory isn't an error of the source
 StandsAt text fault.NoMemory mark = ⊥
 
--- The name of the file and a colon; and where the bytes are known the line and the column of the first, a colon behind each.
+-- the name of the file and a colon, and, if the place is known, the line and the column, each with a colon after it; then a space
 abbrev pub place_text : List ℕ → Option Spot → List ℕ
 place_text name None = name ++ codes ": "
 place_text name (Some spot) = name ++ 58 ∷ decimal spot.line ++ 58 ∷ decimal spot.column ++ codes ": "
 
+-- the line and the column of the first byte of a mark
 abbrev pub spot_of_mark : List ℕ → Option Mark → Option Spot
 spot_of_mark text mark = option_map (λ (m : Mark). spot_of text m.from) mark

@@ -1,4 +1,4 @@
-//! Where one process calls another, and where one is defined.
+//! Finds the tokens where a process calls another and where a process is defined.
 ghost use Rattle.std.specs.Prelude.{◌≡◌, option_map};
 ghost use Rattle.std.specs.Option.{option_copied};
 ghost use Rattle.tb_types.specs.Names.{process_named};
@@ -7,7 +7,7 @@ ghost use Rattle.tb_fault_place.specs.Calls.{call_else, call_in, call_token, cyc
 use tb_syntax::{Call, Proc, ProcDef, Script};
 use tb_terms::{Boxed, Ident};
 
-/// The token of the first call of this name in a body.
+/// Returns the token of the first call with this name in a body.
 #[cycle(calls)]
 fn call_in(name: &[u8], body: &Proc) -> Option<usize>
     ensures { result ≡ call_in name.now body.now }
@@ -44,7 +44,7 @@ fn call_token(name: &[u8], call: &Call) -> Option<usize>
     None
 }
 
-/// The first process of this name.
+/// Returns the first process with this name.
 fn process_named<'a>(processes: &'a [ProcDef], name: &[u8]) -> Option<&'a ProcDef>
     ensures { option_copied result ≡ process_named processes.now name.now }
 {
@@ -56,7 +56,7 @@ fn process_named<'a>(processes: &'a [ProcDef], name: &[u8]) -> Option<&'a ProcDe
     None
 }
 
-/// The token of the first call of the one process in the body of the other.
+/// Returns the token of the first call of process `called` in the body of process `caller`, or `None` if there is none.
 pub fn first_call(script: &Script, caller: &[u8], called: &[u8]) -> Option<usize>
     ensures { result ≡ first_call script.now caller.now called.now }
 {
@@ -66,7 +66,7 @@ pub fn first_call(script: &Script, caller: &[u8], called: &[u8]) -> Option<usize
     }
 }
 
-/// The token at which the first of these processes calls the next, or itself if it is alone.
+/// Returns the token where the first of these processes calls the next one, or itself if it is the only one.
 pub(crate) fn cycle_token(script: &Script, names: &[Ident]) -> Option<usize>
     ensures { result ≡ cycle_token script.now names.now }
 {
@@ -77,7 +77,7 @@ pub(crate) fn cycle_token(script: &Script, names: &[Ident]) -> Option<usize>
     }
 }
 
-/// The token at which the process of this name is defined.
+/// Returns the token where the process with this name is defined.
 pub(crate) fn definition_token(script: &Script, name: &[u8]) -> Option<usize>
     ensures { result ≡ definition_token script.now name.now }
 {

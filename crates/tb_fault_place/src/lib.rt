@@ -1,4 +1,4 @@
-//! The fault of a script, and the bytes of its place.
+//! Finds the error of a script, and the bytes of its place.
 #![tactic(auto)]
 
 mod calls;

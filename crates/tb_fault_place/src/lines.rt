@@ -1,4 +1,4 @@
-//! The place with which a line about a script begins.
+//! Writes the place with which a line about a script begins.
 ghost use Rattle.std.specs.Prelude.{◌≡◌, ◌++◌, ◌∷◌, OnOk, codes, decimal};
 ghost use Rattle.tb_source_map.specs.declared.spot.Spot.{Spot};
 ghost use Rattle.tb_fault_place.specs.Standing.{place_text, spot_of_mark};
@@ -7,8 +7,8 @@ use itoa::Buffer;
 use tb_source_map::{Mark, Spot, spot_at};
 use tb_terms::NoMemory;
 
-/// Writes the name of the file, and the line and the column of the bytes if they are known, each with a colon
-/// after it, and a space.
+/// Appends the name of the file, and the line and the column of the mark's first byte if there is a mark, each with a colon after it.
+/// Then appends a space. If memory runs out, a part of this text may be appended.
 pub fn write_place(
     name: &str,
     text: &[u8],

@@ -1,4 +1,4 @@
-//! The bytes of the place of a fault.
+//! Finds the bytes of the place of an error.
 ghost use Rattle.std.specs.Prelude.{◌≡◌, IfOk, option_map};
 ghost use Rattle.tb_source_map.specs.Marks.{mark_at};
 ghost use Rattle.tb_fault_place.specs.Standing.{AtToken, InScript, StandsAt, check_token, expand_token, lex_mark, parse_token, root_token};
@@ -16,7 +16,7 @@ use tb_syntax::Script;
 use tb_terms::NoMemory;
 use tb_types::CheckFault;
 
-/// The bytes of the place of this fault of the text. There are none if it is a fault of no byte.
+/// Returns the bytes of the place of this error of the source, or `None` if the error has no place in the source.
 pub(crate) fn mark_of(
     alloc: Global,
     text: &[u8],
@@ -76,7 +76,7 @@ fn check_token(fault: CheckFault) -> Option<usize>
     }
 }
 
-/// The bytes of the token of the text, if there is one.
+/// Returns the bytes of this token of the source, or `None` if no token is given.
 fn token_mark(alloc: Global, text: &[u8], token: Option<usize>) -> Result<Option<Mark>, NoMemory>
     ensures { IfOk result (AtToken text.now token) }
 {
@@ -95,7 +95,7 @@ fn mark_of_token(tokens: &[Token], token: Option<usize>) -> Option<Mark>
     }
 }
 
-/// The bytes of the token at which the expansions of the script have this fault.
+/// Returns the bytes of the token where the expansions of the script have this error.
 fn expand_mark(alloc: Global, text: &[u8], fault: &ExpandFault) -> Result<Option<Mark>, NoMemory>
     ensures { IfOk result (InScript text.now (expand_token fault.now)) }
 {
@@ -108,7 +108,7 @@ fn expand_mark(alloc: Global, text: &[u8], fault: &ExpandFault) -> Result<Option
     Ok(mark_of_token(tokens.as_slice(), expand_token(&script, fault)))
 }
 
-/// The bytes of the first root of the script that is one too many.
+/// Returns the bytes of the first root of the script that is one too many.
 fn root_mark(alloc: Global, text: &[u8]) -> Result<Option<Mark>, NoMemory>
     ensures { IfOk result (InScript text.now root_token) }
 {
@@ -131,7 +131,7 @@ fn expand_token(script: &Script, fault: &ExpandFault) -> Option<usize>
     }
 }
 
-/// The token of the first root that is one too many.
+/// Returns the token of the first root that is one too many.
 fn root_token(script: &Script) -> Option<usize>
     ensures { result ≡ root_token script.now }
 {

@@ -1,4 +1,4 @@
-//! The names of faults.
+//! The names of errors.
 ghost use Rattle.std.specs.Prelude.{◌≡◌};
 ghost use Rattle.tb_fault_place.specs.FaultNames.{check_name, expand_name, fault_name, lex_name, parse_name};
 
@@ -8,7 +8,7 @@ use tb_parse::ParseFault;
 use tb_script::ScriptFault;
 use tb_types::CheckFault;
 
-/// The name of a fault, as in the line of `toolbus check`.
+/// Returns the name of an error, as in the line of `toolbus check`. Out of memory has the empty name.
 pub fn fault_name(fault: &ScriptFault) -> &'static str
     ensures { result.now ≡ fault_name fault.now }
 {

@@ -1,4 +1,4 @@
-//! Where a script is wrong.
+//! Finds the error of a script and its place.
 ghost use Rattle.std.specs.Prelude.{IfOk};
 ghost use Rattle.tb_script.specs.Loading.{HasFault};
 ghost use Rattle.tb_fault_place.specs.Points.{IsAnswer};
@@ -9,15 +9,16 @@ use tb_script::{ScriptFault, accept};
 use tb_source_map::Mark;
 use tb_terms::NoMemory;
 
-/// The fault of a script, and its place.
+/// The error of a script, and its place.
 #[derive(Drop)]
 pub struct Point {
+    /// The error.
     pub fault: ScriptFault,
-    /// The bytes of its place. The first byte is the place itself, and the others are for a mark.
+    /// The bytes of its place. The first byte is the place itself, and the other bytes are for drawing a mark.
     pub mark: Option<Mark>,
 }
 
-/// Returns the fault of the script that has these bytes, or `None` if the script is accepted.
+/// Returns the error of this source, or `None` if the script is accepted.
 pub fn find_fault(alloc: Global, text: &[u8]) -> Result<Option<Point>, NoMemory>
     ensures { IfOk result (IsAnswer text.now) }
 {

@@ -1,4 +1,4 @@
--- What a text of lines says that comes to a bus from outside: an input for each line that isn't empty.
+-- The feed of a text: an input for each line that isn't empty.
 use Rattle.std.specs.Prelude.{◌≡◌, ◌≢◌, ◌==◌, ℕ, ◌+◌, Bool, true, false, List, [], ◌∷◌, ◌++◌, length, filter, codes, ⊤}
 use Rattle.std.specs.List.{AllZip, slice_split}
 use Rattle.std.specs.Fmt.{decimal}
@@ -10,20 +10,20 @@ use Rattle.tb_tool_line.specs.ToolLines.{IsToolLine}
 use Rattle.tb_feed.specs.declared.fault.FeedFault.{FeedFault}
 use Rattle.tb_feed.specs.declared.fault.FeedFault.TheVariants.{Line, TooLong, NoMemory}
 
--- an input that may stand in a feed: it is in shape, and isn't that no more ticks come
+-- an input that can be part of a feed: it is in shape, and isn't the end of ticks (`noticks`)
 abbrev pub MayBeFed : Input → Type 0
 MayBeFed input = IsInputInShape input × (input ≢ NoTicks)
 
--- the lines of a text without their newlines, byte 10; what stands behind the last newline is the last line
+-- the lines of a text without their newlines (byte 10); the last line is the text after the last newline
 abbrev pub lines_of : List ℕ → List (List ℕ)
 lines_of text = slice_split (λ byte. byte == 10) text
 
--- A line says an input: one case for each input. A lane has its number there in decimal, without leading zeros.
+-- A line has an input: one case for each input. The number of a lane is decimal, without leading zeros.
 abbrev pub Says : List ℕ → Input → Type 0
 Says line Tick = line ≡ codes "tick"
--- no line says that no more ticks come
+-- no line has `noticks`
 Says line NoTicks = ⊥
--- behind one blank come the bytes that the tool put, whatever they are
+-- after one space, the bytes that the tool has written, whatever they are
 Says line (input_of.Line lane said) = IsLane lane × ((text : List ℕ) × (line ≡ codes "line " ++ decimal lane ++ codes " " ++ text) × IsToolLine text said)
 Says line (Gone lane) = IsLane lane × (line ≡ codes "gone " ++ decimal lane)
 Says line (Cut lane) = IsLane lane × (line ≡ codes "cut " ++ decimal lane)
@@ -32,15 +32,15 @@ abbrev pub is_full : List ℕ → Bool
 is_full [] = false
 is_full (byte ∷ line) = true
 
--- The lines say these inputs, one each, in order; those that are empty say nothing.
+-- The lines have these inputs, one each, in order. Empty lines have none.
 abbrev pub SayAll : List (List ℕ) → List Input → Type 0
 SayAll lines inputs = AllZip Says (filter is_full lines) inputs
 
--- a text is this feed
+-- a text has this feed
 abbrev pub IsFeedOf : List ℕ → List Input → Type 0
 IsFeedOf text inputs = SayAll (lines_of text) inputs
 
--- The line of this number, from 1, isn't empty and says no input, and those before it are fine.
+-- The line with this number, from 1, isn't empty and has no input. Each line before it is empty or has an input.
 pub record IsFirstBad (text : List ℕ) (number : ℕ) : Type 0 where
   pub before : List (List ℕ)
   pub line : List ℕ
@@ -52,10 +52,10 @@ pub record IsFirstBad (text : List ℕ) (number : ℕ) : Type 0 where
   pub full : is_full line ≡ true
   pub bad : (input : Input) → Says line input → ⊥
 
--- What a fault says of a text.
+-- The meaning of an error for the text.
 abbrev pub IsFaultOf : List ℕ → FeedFault → Type 0
 IsFaultOf text (Line number) = IsFirstBad text number
--- how long a text may be is not told here
+-- `TooLong` never holds here: the limit of the length is no part of this definition
 IsFaultOf text (TooLong len) = ⊥
--- running out of memory is no fault of the text
+-- out of memory says nothing of the text
 IsFaultOf text NoMemory = ⊤

@@ -10,16 +10,16 @@ use tb_terms::NoMemory;
 /// Why a text is no feed.
 #[derive(Clone, Copy, Debug, PartialEq, Eq)]
 pub enum FeedFault {
-    /// The line of this number, from 1, isn't empty and says no input; it is the first such.
+    /// The number of the first line, from 1, that isn't empty and has no input.
     Line(u64),
-    /// The text has so many bytes, too many. Who reads the file tells this, and no call of this crate does.
+    /// The text has this number of bytes, which is too large. The caller that reads the file reports this, and no call of this crate.
     TooLong(usize),
-    /// Memory ran out; it says nothing of the text.
+    /// Out of memory. This says nothing of the text.
     NoMemory,
 }
 
 impl FeedFault {
-    /// The words of its line.
+    /// Returns the message of the line on standard error.
     pub fn message(&self) -> Message<'static>
         ensures { message_text result ≡ feed_line self.now }
     {

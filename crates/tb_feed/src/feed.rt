@@ -8,8 +8,7 @@ use std::marker::Model;
 use tb_log::Input;
 use tb_terms::NoMemory;
 
-/// What comes from outside, one input after the other: each is in shape, and none says that no more ticks come.
-/// Contracts see it as a list.
+/// The inputs of a simulation, in order. Each input is in shape, and none is `noticks`. Contracts see a list of inputs.
 #[derive(Drop)]
 pub struct Feed {
     alloc: Global,
@@ -34,7 +33,7 @@ impl Model for Feed {
 }
 
 impl Feed {
-    /// Nothing comes from outside. It takes no memory.
+    /// Makes a feed without inputs. This takes no memory.
     pub fn empty(alloc: Global) -> Feed
         ensures { result ≡ [] }
     {
@@ -44,7 +43,7 @@ impl Feed {
         }
     }
 
-    /// These inputs. It takes no memory: `alloc` is for the copies that `input` makes.
+    /// Makes a feed of these inputs. This takes no memory: `alloc` is for the copies that `input` makes.
     pub fn new(alloc: Global, inputs: Vec<Input>) -> Feed
         requires { All MayBeFed inputs.items }
         ensures { result ≡ inputs.items }
@@ -58,7 +57,7 @@ impl Feed {
         self.inputs.len()
     }
 
-    /// A copy of the input at this index, from 0.
+    /// Copies the input at this index, from 0.
     pub fn input(&self, index: usize) -> Result<Input, NoMemory>
         requires { index < length self.now }
         ensures value { IfOk result (λ input. slice_get self.now index ≡ Some input) }

@@ -1,4 +1,4 @@
-//! The feed of a simulation: what comes to its bus from outside, as a text of lines says it.
+//! The feed of a simulation: the inputs of its bus, one line for each.
 #![tactic(auto)]
 
 mod fault;

@@ -9,7 +9,7 @@ use tb_log::Input;
 use tb_terms::NoMemory;
 use tb_tool_line::read_tool_line;
 
-/// The input that a line says, where it says one.
+/// Returns the input of a line. If the line has none, returns `None`.
 pub(crate) fn input_of(alloc: Global, line: &[u8]) -> Result<Option<Input>, NoMemory>
     ensures { IfOk result (IsSaid line.now) }
 {
@@ -26,7 +26,7 @@ pub(crate) fn input_of(alloc: Global, line: &[u8]) -> Result<Option<Input>, NoMe
     }
 }
 
-/// What is said of a tool's line, by what stands behind the word and its blank.
+/// Returns the input of a line of a tool. `rest` is the text after `line` and its space.
 fn tool_input(alloc: Global, rest: &[u8]) -> Result<Option<Input>, NoMemory>
     ensures { IfOk result (IsSaid (codes "line " ++ rest.now)) }
 {
@@ -39,7 +39,7 @@ fn tool_input(alloc: Global, rest: &[u8]) -> Result<Option<Input>, NoMemory>
     }
 }
 
-/// The lane whose number the bytes are.
+/// Returns the lane whose decimal number the bytes are.
 fn lane_of(bytes: &[u8]) -> Option<u8>
     ensures { IsNumberOf bytes.now result }
 {
@@ -50,7 +50,7 @@ fn lane_of(bytes: &[u8]) -> Option<u8>
     }
 }
 
-/// The lane whose number is this digit.
+/// Returns the lane whose number is this digit.
 fn below_ten(digit: u8) -> Option<u8>
     ensures { IsNumberOf (digit ∷ []) result }
 {
@@ -60,7 +60,7 @@ fn below_ten(digit: u8) -> Option<u8>
     }
 }
 
-/// The lane whose number is a 1 and this digit.
+/// Returns the lane whose number is a 1 and this digit.
 fn from_ten(digit: u8) -> Option<u8>
     ensures { IsNumberOf (49 ∷ digit ∷ []) result }
 {
@@ -70,7 +70,7 @@ fn from_ten(digit: u8) -> Option<u8>
     }
 }
 
-/// What stands before the first blank, and behind it.
+/// Splits the bytes on the first space.
 fn at_blank(bytes: &[u8]) -> Option<(&[u8], &[u8])>
     ensures { MatchOption result (IsTrue (lacks_blank bytes.now)) (λ parts.
         IsTrue (lacks_blank parts.0.now) × (bytes.now ≡ parts.0.now ++ 32 ∷ parts.1.now)) }

@@ -1,4 +1,4 @@
-//! How a text is read line by line.
+//! The reading of a feed, line by line.
 
 ghost use Rattle.std.specs.Prelude.{◌≡◌, ◌⊎◌, ℕ, List, Ok, Err, IfOk, IfErr};
 ghost use Rattle.tb_log.specs.declared.entry.Input.{Input};
@@ -9,18 +9,17 @@ use crate::feed::Feed;
 use crate::line::input_of;
 use std::alloc::Global;
 
-/// Reads a text of lines, each ended by a newline or the end of the text. An empty line says nothing. The fault is
-/// `Line` where some line is neither empty nor an input, with the number of the first such, from 1; it is never
-/// `TooLong`.
+/// Reads a text of lines. A line ends at a newline, or at the end of the text. Empty lines are ignored. If a line is neither empty nor an
+/// input, the error is `Line`, with the number of the first such line, from 1. The error is never `TooLong`.
 pub fn read_feed(alloc: Global, bytes: &[u8]) -> Result<Feed, FeedFault>
     ensures ok { IfOk result (IsFeedOf bytes.now) }
 
-    // Nothing else keeps a feed from being read.
+    // A text that is a feed is read, unless memory runs out.
     ensures only { (inputs : List Input) → IsFeedOf bytes.now inputs
         → (result ≡ Ok inputs) ⊎ (result ≡ Err FeedFault.NoMemory) }
     ensures fault { IfErr result (IsFaultOf bytes.now) }
 
-    // Where a line is bad, this is what comes.
+    // If a line is bad, the answer is its number, unless memory runs out.
     ensures exact { (number : ℕ) → IsFirstBad bytes.now number
         → (result ≡ Err (FeedFault.Line number)) ⊎ (result ≡ Err FeedFault.NoMemory) }
 {

@@ -1,4 +1,4 @@
--- Where a function gives a value, its arguments and the value are of the shapes of its signature.
+-- If a function has a value, its arguments and the value fit its signature.
 use Rattle.std.proofs.Common.{◌≡◌, ℤ, Bool, true, false, not, ◌||◌, List, [], ◌∷◌, ◌++◌, Option, Some, None, option_map, option_and_then, IsTrue, IfSome, codes, length, pos, refl, ap, ◌∙◌, if◌then◌else◌}
 use Rattle.std.specs.List.{list_all, list_any}
 use Rattle.std.proofs.lemmas.Bool.{and_from}
@@ -22,7 +22,7 @@ use Rattle.tb_func.specs.Functions.{signature_of, one, two}
 use Rattle.tb_func.specs.Limits.{limited}
 use Rattle.tb_func.specs.Numbers.{ranged, arithmetic, order, time}
 
--- what the test of each shape's sort looks at
+-- the tests of the types of shapes
 
 abbrev Test : Type 0
 Test = Term → Bool
@@ -49,7 +49,7 @@ each-Any : (ts : List Term) → list_all (term_test sort.Any) ts ≡ true
 each-Any [] = refl
 each-Any (t ∷ ts) = and_from (term_test sort.Any t) (list_all (term_test sort.Any) ts) (test-Any t) (each-Any ts)
 
--- the terms that are made
+-- the made terms fit
 
 bool-fits : (b : Bool) → fits shape.Bool (bool_term b) ≡ true
 bool-fits true = test-Bool (bool_term true) ∙ ap is_bool (term.outs-Appl (codes "true") [])
@@ -61,7 +61,7 @@ int-fits n = test-Int (term.Int n) ∙ ap is_int (term.outs-Int n)
 list-fits : (ts : List Term) → fits shape.List (term.List ts) ≡ true
 list-fits ts = test-List (term.List ts) ∙ ap (is_list_of (term_test sort.Any)) (term.outs-List ts) ∙ each-Any ts
 
--- an argument is of the shape that is asked for, or it gives nothing
+-- an argument has the required shape, or there is no value
 
 bool_case : (F : Type 0) (P : Option Bool → Type 0) (x y : Bool) → ((x || y) ≡ true → F) → P None → ((b : Bool) → F → P (Some b)) → P (if x then Some true else (if y then Some false else None))
 bool_case F P true y k none some = some true (k refl)
@@ -89,7 +89,7 @@ list_case F P (layer.List ts) k none some = some ts (k (each-Any ts))
 by_list : (t : Term) (P : Option (List Term) → Type 0) → P None → ((ts : List Term) → fits shape.List t ≡ true → P (Some ts)) → P (list_of t)
 by_list t P = list_case (fits shape.List t ≡ true) P (out-Term t) (λ h. test-List t ∙ h)
 
--- what fits a signature
+-- the arguments and the value that fit a signature
 
 abbrev Fitting : Signature → List Term → Option Term → Type 0
 Fitting signature ts found = IfSome found (λ v. AreFit signature ts × IsTrue (fits signature.result v))
@@ -236,7 +236,7 @@ given-fits func (a ∷ []) = one_given-fits func a
 given-fits func (a ∷ b ∷ []) = two_given-fits func a b
 given-fits func (a ∷ b ∷ c ∷ ts) = tt
 
--- what is left within the limits
+-- the value that is within the limits
 
 if-fits : (P : Term → Type 0) (b : Bool) (t : Term) → P t → IfSome (if b then Some t else None) P
 if-fits P true t h = h

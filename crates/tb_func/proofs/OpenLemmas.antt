@@ -1,4 +1,4 @@
--- The terms of patterns that are all fixed, and of patterns of which one is open.
+-- The terms of patterns, if all are fixed and if one is open.
 use Rattle.std.proofs.Common.{◌≡◌, Bool, true, not, ◌||◌, IsTrue, Option, Some, None, List, [], ◌∷◌, map, refl, ap, ◌∙◌, rules}
 use Rattle.std.specs.Option.{is_some}
 use Rattle.tb_terms.specs.declared.term.Term.{Term}

@@ -1,4 +1,4 @@
--- How a printer begins, goes on and ends.
+-- The beginning, the steps, and the end of a printer.
 use Rattle.std.proofs.Common.{◌≡◌, ℕ, zero, suc, ◌+◌, ◌<◌, ◌==◌, Bool, cond, true, false, List, [], ◌∷◌, ◌++◌, length, get_or, drop, Option, Some, None, option_map, refl, sym, ap, ◌∙◌, arith, drop-cons, append_assoc, add-one}
 use Rattle.tb_terms.specs.declared.term.Term.{Term}
 use Rattle.tb_func.specs.declared.printer.Printer.{Printer}
@@ -43,7 +43,7 @@ show_prefixed text new (Some bytes) rest true h =
     rw is (put_prefixed text bytes rest)
 show_prefixed text new (Some bytes) rest false h = cc
 
--- the next argument is shown as the letter asks
+-- the next argument is shown as the letter requires
 pub output-shown : (text new : List ℕ) (n c : ℕ) (rest : List ℕ) (ts : List Term) (t : Term) (s : Bool) → (c == 37) ≡ false → n < length ts → t ≡ get_or ts n t → option_map (λ bytes. text ++ bytes) (shown c t) ≡ cond s (Some new) None → output text true (c ∷ rest) (drop n ts) ≡ cond s (output new false rest (drop (n + 1) ts)) None
 output-shown text new n c rest ts t s e below is h =
     rw (add-one, drop-cons ts n t below, sym is, e) (show_prefixed text new (shown c t) (printed false rest (drop (suc n) ts)) s h)

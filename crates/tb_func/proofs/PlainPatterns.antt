@@ -1,4 +1,4 @@
--- A plain expression is as a pattern its value alone: by induction over the expression.
+-- The pattern of a plain expression is its value alone: by induction over the expression.
 use Rattle.std.proofs.Common.{◌≡◌, Bool, true, List, [], ◌∷◌, map, Option, Some, None, option_map, option_and_then, refl, sym, ap, ◌∙◌, subst}
 use Rattle.std.proofs.lemmas.Bool.{and_parts, false≢true}
 use Rattle.std.specs.List.{list_all}

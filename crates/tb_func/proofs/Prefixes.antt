@@ -1,4 +1,4 @@
--- Values found one after another, and those that are still to be found behind them.
+-- Values that are found in order, and the values that are still to be found after them.
 use Rattle.std.proofs.Common.{List, ◌++◌, Option, option_map}
 
 abbrev pub with_prefix : {A : Type 0} → List A → Option (List A) → Option (List A)

@@ -1,4 +1,4 @@
--- What is printed is a string: its bytes are well-formed, and a string may have each of them.
+-- The printed text is a string: its bytes are well-formed UTF-8, and a string can have each of them.
 use Rattle.std.proofs.Common.{◌≡◌, ℕ, ℤ, pos, negsuc, zero, suc, ◌+◌, ◌/◌, ◌%◌, ◌^◌, ◌<◌, ◌≤◌, ◌==◌, Bool, true, false, cond, ◌&&◌, leb, ltb, List, [], ◌∷◌, ◌++◌, map, Option, Some, None, option_map, IsAscii, refl, sym, ◌∙◌, subst, arith, append-nil, lit<}
 use Rattle.std.proofs.lemmas.Bool.{and_parts, and_from, ltb-true, false≢true}
 use Rattle.std.proofs.lemmas.Bool.Decides.{nat_tests}
@@ -20,7 +20,7 @@ use Rattle.tb_func.specs.Arguments.{int_in, int_of}
 use Rattle.tb_func.specs.Printing.{printed, shown, prefixed, str_in, str_of}
 use Rattle.tb_func.proofs.OutputLemmas.{behind_nothing}
 
--- well-formed, and a string may have each byte
+-- well-formed UTF-8, and a string can have each byte
 pub record Sound (bytes : List ℕ) : Type 0 where
   pub utf8 : IsUtf8 bytes
   pub text : list_all is_text_byte bytes ≡ true
@@ -113,7 +113,7 @@ high-encode : (c : ℕ) → 128 ≤ c → list_all is_high (encode c) ≡ true
 unfolding encode
 high-encode c h = high-by c (ltb c 128) (ltb c 2048) (ltb c 65536) refl h
 
--- it has one at least
+-- at least one byte
 abbrev IsMore : List ℕ → Type 0
 IsMore [] = ⊥
 IsMore (b ∷ bs) = Unit {0}
@@ -271,7 +271,7 @@ sound-prefix (Some a) (Some r) out f g e =
 sound-prefix-one : (b : ℕ) (rest : Option (List ℕ)) (out : List ℕ) → Sound (b ∷ []) → ((r : List ℕ) → rest ≡ Some r → Sound r) → prefixed (Some (b ∷ [])) rest ≡ Some out → Sound out
 sound-prefix-one b rest out s g e = sound-prefix (Some (b ∷ [])) rest out (λ a k. let is : b ∷ [] ≡ a = cc in subst Sound is s) g e
 
--- what follows is sound, whatever state it begins in
+-- the text of this format is sound, from any state
 abbrev SoundAfter : List ℕ → Type 0
 SoundAfter format = (b : Bool) (ts : List Term) (out : List ℕ) → list_all is_proper ts ≡ true → printed b format ts ≡ Some out → Sound out
 
@@ -294,7 +294,7 @@ sound-after-low c cs s after false ts out h e = plain-by c cs (c == 37) s after 
 sound-after-low c cs s after true [] out h e = last-by c cs (c == 37) after out e
 sound-after-low c cs s after true (t ∷ ts) out h e = letter-by c cs (c == 37) after t ts out h e
 
--- a character above ASCII is printed as it is, and no `%` stands before it
+-- a character above ASCII is printed as it is, if no `%` is before it
 put-one : (b : ℕ) (bs : List ℕ) (o : Option (List ℕ)) → ◌≡◌ {A = Option (List ℕ)} (prefixed (Some (b ∷ [])) (option_map (λ r. bs ++ r) o)) (option_map (λ r. (b ∷ bs) ++ r) o)
 put-one b bs None = refl
 put-one b bs (Some r) = refl
@@ -362,7 +362,7 @@ sound-chars (c ∷ cs) s h =
     let q = and_parts (list_all is_text_byte (encode c)) (list_all is_text_byte (encodes cs)) (sym (list_all-append is_text_byte (encode c) (encodes cs)) ∙ h) in
     sound-char c (encodes cs) (ltb c 128) refl p.0 q.0 (sound-chars cs p.1 q.1)
 
--- what a format prints is a string, as the format and the strings among the arguments are
+-- the printed text is a string if the format is a string and the arguments are proper
 pub printed-is_string : (format : List ℕ) (ts : List Term) (out : List ℕ) → is_string format ≡ true → list_all is_proper ts ≡ true → printed false format ts ≡ Some out → is_string out ≡ true
 printed-is_string format ts out f h e =
     let s = sound-string format f in

@@ -1,4 +1,4 @@
--- Setting one slot of a store, and that each slot stays well sorted.
+-- The change of one slot of a store, and that each slot stays well-sorted: its value has its type.
 use Rattle.std.proofs.Common.{◌≡◌, ℕ, zero, suc, ◌<◌, true, Option, Some, List, [], ◌∷◌, get_or, set, length, refl, ap, sym, arith}
 use Rattle.std.proofs.lemmas.Bool.{and_from, and_parts}
 use Rattle.tb_terms.specs.declared.term.Term.{Term}

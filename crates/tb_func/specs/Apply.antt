@@ -1,4 +1,4 @@
--- What each function gives for its arguments, and for which it gives nothing.
+-- The value of each function for its arguments, or none.
 use Rattle.std.specs.Prelude.{◌-◌, ℤ, pos, negsuc, Bool, false, not, ◌&&◌, ◌||◌, ◌==◌, List, [], ◌∷◌, ◌++◌, length, Option, Some, None, option_map, option_and_then, slice_get, if◌then◌else◌}
 use Rattle.std.specs.List.{list_any}
 use Rattle.tb_terms.specs.declared.term.Term.{Term}
@@ -21,7 +21,7 @@ rest_of (t ∷ ts) = Some (term.List ts)
 abbrev pub joined : List Term → List Term → Term
 joined prefix back = term.List (prefix ++ back)
 
--- the member at this position, from 1
+-- the member at this position, counted from 1, or none
 abbrev pub member_at : List Term → ℤ → Option Term
 member_at terms (pos n) = if n == 0 then None else slice_get terms (n - 1)
 member_at terms (negsuc n) = None
@@ -82,12 +82,13 @@ two_given Member a b = option_map (members_test a) (list_of b)
 two_given Index a b = of_both member_at (list_of a) (int_of b)
 two_given func a b = None
 
--- nothing where the number of arguments is not the function's
+-- the value for these arguments, or none if there is none, as for another number of arguments than the function takes
 abbrev pub given : Func → List Term → Option Term
 given func [] = None
 given func (a ∷ []) = one_given func a
 given func (a ∷ b ∷ []) = two_given func a b
 given func (a ∷ b ∷ c ∷ terms) = None
 
+-- the value for these arguments, or none if there is no value or if it is over a limit of terms
 abbrev pub apply_of : Func → List Term → Option Term
 apply_of func terms = option_and_then limited (given func terms)

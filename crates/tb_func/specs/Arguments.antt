@@ -1,4 +1,4 @@
--- The arguments of a function by their shapes: nothing where an argument is of another shape.
+-- The arguments of a function, read by their shapes: none if an argument has another shape.
 use Rattle.std.specs.Prelude.{ℤ, Bool, true, false, List, [], Option, Some, None, option_and_then, if◌then◌else◌, codes}
 use Rattle.tb_terms.specs.declared.term.Term.{Term, out-Term}
 use Rattle.tb_terms.specs.declared.term.Term.TheOpen.{Term-F, Int, Str, Appl, List as ListOf}
@@ -29,10 +29,10 @@ list_in (ListOf parts) = Some parts
 abbrev pub list_of : Term → Option (List Term)
 list_of term = list_in (out-Term term)
 
--- the term that stands for a truth value
+-- the term that represents a truth value
 abbrev pub bool_term : Bool → Term
 bool_term b = term.Appl (if b then codes "true" else codes "false") []
 
--- what a function of two arguments gives, where both are there
+-- the value of a function of two arguments, or none if one of the arguments is missing
 abbrev pub of_both : {A B C : Type 0} → (A → B → Option C) → Option A → Option B → Option C
 of_both f a b = option_and_then (λ x. option_and_then (f x) b) a

@@ -1,4 +1,4 @@
--- The names of the functions; how many arguments each takes, and the shapes of these and of the result.
+-- The names of the functions, and their signatures: the number of arguments, with the shapes of the arguments and of the result.
 use Rattle.std.specs.Prelude.{ℕ, List, Option, Some, None, if◌then◌else◌, codes}
 use Rattle.std.specs.Str.{bytes_eq}
 use Rattle.tb_terms.specs.declared.expr.Func.{Func}
@@ -7,7 +7,7 @@ use Rattle.tb_func.specs.declared.shape.Shape.{Shape}
 use Rattle.tb_func.specs.declared.shape.Shape.TheVariants as shape
 use Rattle.tb_func.specs.declared.shape.Signature.{Signature}
 
--- the function of this word, before what is found elsewhere
+-- the function if the name is this word, and the other result otherwise
 abbrev pub or_word : List ℕ → List ℕ → Func → Option Func → Option Func
 or_word name word func other = if bytes_eq name word then Some func else other
 
@@ -50,7 +50,7 @@ time_named name =
     (or_word name (codes "min") Min
     (or_word name (codes "hour") Hour None)))
 
--- the first of two that is there
+-- the first function if there is one, and the second result otherwise
 abbrev pub either : Option Func → Option Func → Option Func
 either (Some func) other = Some func
 either None other = other

@@ -1,4 +1,4 @@
--- What an expression is as a pattern: a part with neither placeholder nor result variable is its value alone.
+-- The pattern of an expression: a part without placeholders and result variables becomes its value alone.
 use Rattle.std.specs.Prelude.{ℕ, Bool, true, false, List, map, Option, Some, None, option_map, option_and_then}
 use Rattle.std.specs.List.{list_all}
 use Rattle.tb_terms.specs.declared.term.Term.{Term}
@@ -26,11 +26,11 @@ fixed_in (ListOf parts) = None
 abbrev pub fixed_term : Pattern → Option Term
 fixed_term p = fixed_in (out-Pattern p)
 
--- the terms of patterns that are all fixed
+-- the terms of patterns, or none if one pattern isn't fixed
 abbrev pub fixed_terms : List Pattern → Option (List Term)
 fixed_terms ps = all_of (map fixed_term ps)
 
--- fixed where the parts are
+-- the value of the parts as a fixed pattern if all parts are fixed, and the other pattern otherwise
 abbrev pub of_parts : (List Term → Option Term) → Pattern → Option (List Term) → Option Pattern
 of_parts value other None = Some other
 of_parts value other (Some ts) = option_map pattern.Fixed (value ts)
@@ -44,7 +44,7 @@ list_pattern ps = of_parts (λ ts. limited (term.List ts)) (pattern.List ps) (fi
 abbrev pub call_pattern : Func → List Pattern → Option Pattern
 call_pattern func ps = option_map pattern.Fixed (option_and_then (apply_of func) (fixed_terms ps))
 
--- one expression, with the pattern of each part in the part's place
+-- the pattern of one expression, given the patterns of its parts
 abbrev pub pattern_step : List Slot → expr.Expr-F (Option Pattern) → Option Pattern
 pattern_step slots (expr.Int number) = Some (pattern.Fixed (term.Int number))
 pattern_step slots (expr.Str bytes) = option_map pattern.Fixed (limited (term.Str bytes))
@@ -58,7 +58,7 @@ pattern_step slots (expr.List parts) = option_and_then list_pattern (all_of part
 abbrev pub pattern_of : List Slot → Expr → Option Pattern
 pattern_of slots = fold-Expr (Option Pattern) (pattern_step slots)
 
--- an expression with neither placeholder nor result variable
+-- an expression without placeholders and result variables
 abbrev pub plain_step : expr.Expr-F Bool → Bool
 plain_step (expr.Int number) = true
 plain_step (expr.Str bytes) = true

@@ -1,4 +1,4 @@
--- What `printf` prints: its format's bytes, with the text of the next argument for each `%` and letter.
+-- The text that `printf` prints: the bytes of its format, with the text of the next argument for each `%` and letter, and `%` for `%%`.
 use Rattle.std.specs.Prelude.{ℕ, ◌==◌, Bool, true, false, List, [], ◌∷◌, ◌++◌, Option, Some, None, option_map, option_and_then, if◌then◌else◌}
 use Rattle.std.specs.Fmt.{signed_decimal}
 use Rattle.tb_terms.specs.declared.term.Term.{Term, out-Term}
@@ -17,7 +17,7 @@ str_in (ListOf parts) = None
 abbrev pub str_of : Term → Option (List ℕ)
 str_of t = str_in (out-Term t)
 
--- the argument as the letter asks: `d` a number in decimal, `s` a string as it is, `t` the text of any term
+-- the argument as the letter requires: `d` for a number in decimal, `s` for a string as it is, `t` for the text of any term
 abbrev pub shown : ℕ → Term → Option (List ℕ)
 shown letter t =
     if letter == 100 then option_map signed_decimal (int_of t)
@@ -27,7 +27,8 @@ shown letter t =
 abbrev pub prefixed : Option (List ℕ) → Option (List ℕ) → Option (List ℕ)
 prefixed bytes rest = of_both (λ b r. Some (b ++ r)) bytes rest
 
--- the rest of a format with the rest of the arguments; the flag says that a `%` stands before it
+-- the text of the rest of a format with the rest of the arguments, or none; the flag says that this rest begins with the byte that
+-- completes a `%`, as in `%%` or `%d`
 abbrev pub printed : Bool → List ℕ → List Term → Option (List ℕ)
 printed false [] [] = Some []
 printed false [] (t ∷ ts) = None

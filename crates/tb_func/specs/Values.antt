@@ -1,4 +1,4 @@
--- What an expression is worth in a store, and where it is worth nothing.
+-- The value of an expression in a store, or none.
 use Rattle.std.specs.Prelude.{List, [], ◌∷◌, Option, Some, None, option_and_then}
 use Rattle.tb_terms.specs.declared.term.Term.{Term}
 use Rattle.tb_terms.specs.declared.term.Term.TheVariants as term
@@ -11,13 +11,12 @@ use Rattle.tb_func.specs.Arguments.{of_both}
 use Rattle.tb_func.specs.Limits.{limited}
 use Rattle.tb_func.specs.Stores.{value_at}
 
--- the values, where each is there
+-- the values, or none if one is missing
 abbrev pub all_of : {A : Type 0} → List (Option A) → Option (List A)
 all_of [] = Some []
 all_of (first ∷ others) = of_both (λ x xs. Some (x ∷ xs)) first (all_of others)
 
--- one expression, with the value of each part in the part's place; a result variable and a
--- placeholder have no value
+-- the value of one expression, given the values of its parts; a result variable and a placeholder have no value
 abbrev pub value_step : List Slot → expr.Expr-F (Option Term) → Option Term
 value_step slots (expr.Int number) = Some (term.Int number)
 value_step slots (expr.Str bytes) = limited (term.Str bytes)

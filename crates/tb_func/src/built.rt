@@ -1,4 +1,4 @@
-//! A pattern while it is built from its parts.
+//! The building of a pattern from its parts.
 ghost use Rattle.std.specs.Prelude.{◌≡◌, ◌++◌, ◌∷◌, [], IfOk, map};
 ghost use Rattle.tb_terms.specs.declared.pattern.Pattern.TheVariants as pattern;
 ghost use Rattle.tb_func.specs.Helpers.Parts.{as_pattern, as_patterns};
@@ -8,14 +8,14 @@ use crate::open::{OpenPattern, OpenPatterns};
 use std::alloc::Global;
 use tb_terms::{Items, NoMemory, Pattern, Patterns, Term};
 
-/// What a part of a pattern has become.
+/// A part of a pattern that is being built: a value, which has been measured, or an open pattern.
 #[derive(Drop)]
 pub(crate) enum Part {
     Value(Measured),
     Open(OpenPattern),
 }
 
-/// The parts of a pattern: values as long as each part is one.
+/// The parts of a pattern that is being built: values if each part is a value, and patterns otherwise.
 #[derive(Drop)]
 pub(crate) enum Parts {
     Values(MeasuredParts),
@@ -40,7 +40,7 @@ impl Parts {
         Parts::Values(MeasuredParts::new(alloc))
     }
 
-    /// The parts with one more at their end.
+    /// Returns the parts with one more at the end.
     pub(crate) fn with(self, alloc: Global, part: Part) -> Result<Parts, NoMemory>
         ensures { IfOk result
             (λ parts. as_patterns parts ≡ as_patterns self ++ as_pattern part ∷ []) }

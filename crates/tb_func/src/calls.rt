@@ -1,4 +1,4 @@
-//! The value of a function for given arguments.
+//! The values of functions for given arguments.
 ghost use Rattle.std.specs.Prelude.{◌≡◌, ◌∷◌, [], not, Some, IfOk, option_and_then, option_map};
 ghost use Rattle.tb_func.specs.Apply.{apply_of, given, one_given, two_given, negated, truths, logic, numbers, orders, timed, number_of, first_of, rest_of, joined, member_at, members_test};
 ghost use Rattle.tb_func.specs.Arguments.{bool_of, list_of, int_of, bool_term, of_both};
@@ -11,7 +11,7 @@ use crate::parts::{bool_of, bool_term, int_of, list_of};
 use std::alloc::Global;
 use tb_terms::{Func, NoMemory, Term, Terms};
 
-/// What the function gives for these arguments, where it gives a value.
+/// Returns the value of the function for these arguments, or `None` if it has no value or its value is over a limit of terms.
 pub fn apply(alloc: Global, f: Func, args: &Terms) -> Result<Option<Term>, NoMemory>
     ensures { IfOk result (λ v. v ≡ apply_of f args.now) }
 {
@@ -21,7 +21,7 @@ pub fn apply(alloc: Global, f: Func, args: &Terms) -> Result<Option<Term>, NoMem
     }
 }
 
-/// What the function gives for these two arguments, where it gives a value.
+/// Does the same as `apply`, for two arguments that aren't in a list.
 pub(crate) fn apply_two(
     alloc: Global,
     f: Func,

@@ -1,11 +1,11 @@
-//! The functions by name, with their signatures.
+//! The names of the functions, and their signatures.
 ghost use Rattle.std.specs.Prelude.{◌≡◌};
 ghost use Rattle.tb_func.specs.Functions.{function_named, logic_named, arithmetic_named, order_named, list_named, time_named, either, signature_of, one, two};
 
 use crate::{Shape, Signature};
 use tb_terms::{Func, Name};
 
-/// The function that goes by this name.
+/// Returns the function with this name, or `None` if there is none.
 pub fn function(n: &Name) -> Option<Func>
     ensures { result ≡ function_named n.now }
 {
@@ -89,7 +89,7 @@ fn time_function(name: &[u8]) -> Option<Func>
     }
 }
 
-/// How many arguments the function takes, and the shapes of these and of the result.
+/// Returns the number of arguments of the function, with the shapes of the arguments and of the result.
 pub fn signature(f: Func) -> Signature
     ensures { result ≡ signature_of f }
 {

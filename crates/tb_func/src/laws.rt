@@ -1,5 +1,4 @@
-//! What holds of values, patterns and functions whatever they are given. The calls change nothing:
-//! their contracts are the laws.
+//! Theorems about values, patterns, and functions. The calls change nothing: their contracts are the theorems.
 
 ghost use Rattle.std.specs.Prelude.{◌≡◌, ◌≢◌, IsTrue, IfSome, List, None, length, option_map};
 ghost use Rattle.tb_terms.specs.declared.term.Term.{Term};
@@ -13,15 +12,15 @@ ghost use Rattle.tb_func.specs.Functions.{signature_of};
 ghost use Rattle.tb_func.specs.Patterns.{pattern_of, is_plain};
 ghost use Rattle.tb_func.specs.Values.{value_of};
 
-/// An expression with neither placeholder nor result variable is as a pattern its value alone, and
-/// none where it has no value.
+/// States that the pattern of an expression without placeholders and result variables is the value of the expression alone. If the
+/// expression has no value, it has no pattern.
 pub fn plain_expressions_are_fixed()
     ensures { (slots : List Slot) (e : Expr) → IsTrue (is_plain e)
         → pattern_of slots e ≡ option_map pattern.Fixed (value_of slots e) }
 {}
 
-/// Where a function gives a value, the arguments are as many as its signature says, each of its
-/// shape, and the value is of the result's. For fewer or more arguments it gives none.
+/// States that if a function has a value for arguments, these fit its signature in number and shapes, and the value has the shape of the
+/// result. For another number of arguments, the function has no value.
 pub fn values_fit_signatures()
     ensures arguments { (f : Func) (ts : List Term)
         → IfSome (apply_of f ts) (λ v. AreFit (signature_of f) ts) }

@@ -1,5 +1,5 @@
-//! What expressions are worth: the functions that they may apply, the store of the variables, and
-//! the values of expressions in it.
+//! The evaluation of expressions: the functions that they can apply, the store of the variables, the values and patterns of expressions
+//! in a store, and the text of `printf`.
 #![tactic(auto)]
 
 mod built;

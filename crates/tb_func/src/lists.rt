@@ -48,7 +48,7 @@ pub(crate) fn joined(alloc: Global, prefix: &[Term], back: &[Term]) -> Result<Te
     Ok(Term::List(copies))
 }
 
-/// Copies of the terms are put at the end.
+/// Appends copies of the terms.
 fn copy_onto(alloc: Global, terms: &[Term], onto: &mut Terms) -> Result<(), NoMemory>
     ensures { OnOk result (onto.new ≡ onto.old ++ terms.now) }
 {
@@ -58,7 +58,7 @@ fn copy_onto(alloc: Global, terms: &[Term], onto: &mut Terms) -> Result<(), NoMe
     Ok(())
 }
 
-/// The member at this position, from 1.
+/// Returns the member at this position, counted from 1, or `None` if there is none.
 pub(crate) fn member_at(
     alloc: Global,
     terms: &[Term],

@@ -1,4 +1,4 @@
-//! Terms with their size and levels.
+//! Terms with their size and depth.
 ghost use Rattle.std.specs.Prelude.{◌≡◌, ◌++◌, ◌∷◌, [], OnErr, OnOk, min, map, sum, option_map};
 ghost use Rattle.tb_terms.specs.Sizes.{term_size, term_levels, greatest};
 ghost use Rattle.tb_terms.specs.declared.term.Term.TheVariants as term;
@@ -9,7 +9,7 @@ use crate::limits::are_within_limits;
 use std::alloc::Global;
 use tb_terms::{Items, Name, NoMemory, Term, Text, depth, size};
 
-/// A term beside its size and its levels. The greatest `usize` stands for all greater numbers.
+/// A term with its size and its depth. A size or a depth greater than `usize::MAX` is given as `usize::MAX`.
 #[derive(Drop)]
 pub(crate) struct Measured {
     pub term: Term,
@@ -20,7 +20,7 @@ pub(crate) struct Measured {
 }
 
 impl Measured {
-    /// Measures the term.
+    /// Measures the term, and returns it with its size and its depth.
     pub(crate) fn new(term: Term) -> Measured
         ensures { result.term ≡ term }
     {
@@ -50,7 +50,7 @@ impl Measured {
         }
     }
 
-    /// The term, and nothing where it passes a limit.
+    /// Returns the term, or `None` if it is over a limit.
     #[tactic(auto, unfolding(tb_terms::specs::Sizes::is_within_limits))]
     pub(crate) fn limited(self) -> Option<Measured>
         ensures { option_map (λ m. m.term) result ≡ limited self.term }
@@ -63,7 +63,7 @@ impl Measured {
     }
 }
 
-/// Terms beside the sum of their sizes and the levels of the deepest.
+/// Terms with the sum of their sizes and the depth of the deepest. A number greater than `usize::MAX` is given as `usize::MAX`.
 #[derive(Drop)]
 pub(crate) struct MeasuredParts {
     pub terms: Vec<Term>,

@@ -1,4 +1,4 @@
-//! Functions of numbers and times.
+//! Functions of numbers, and of times.
 ghost use Rattle.std.specs.Prelude.{◌≡◌, ◌*◌, ◌+ℤ◌, ◌-ℤ◌, ◌*ℤ◌};
 ghost use Rattle.std.specs.Int.{div_ceil};
 ghost use Rattle.tb_func.specs.Numbers.{ranged, quotient, remainder, arithmetic, order, ticks, time};
@@ -60,7 +60,8 @@ pub(crate) fn order(f: Func, x: i64, y: i64) -> bool
     }
 }
 
-/// How many ticks a time has that is told in the unit of this function.
+/// Returns the number of ticks, of a tenth of a second, of a time in the unit of this function. Returns `None` if the time is
+/// negative, if 64 bits can't hold the number, or if the function isn't one of times.
 pub(crate) fn time(f: Func, n: i64) -> Option<i64>
     ensures { result ≡ time f n }
 {

@@ -1,4 +1,4 @@
-//! Truth values, numbers and lists as terms.
+//! Truth values, numbers, and lists as terms.
 ghost use Rattle.std.specs.Prelude.{◌≡◌, [], IfOk, if◌then◌else◌, codes};
 ghost use Rattle.std.specs.Option.{option_copied};
 ghost use Rattle.tb_terms.specs.declared.term.Term.{out-Term};
@@ -8,7 +8,7 @@ ghost use Rattle.tb_func.specs.Arguments.{bool_of, int_of, list_of, bool_term};
 use std::alloc::Global;
 use tb_terms::{Items, Name, NoMemory, Term};
 
-/// The truth value that the term stands for, where it is `true` or `false`.
+/// Returns the truth value that the term represents, or `None` if the term is neither `true` nor `false`.
 pub fn bool_of(term: &Term) -> Option<bool>
     ensures { result ≡ bool_of term.now }
 {
@@ -30,7 +30,7 @@ fn is_word(term: &Term, word: &[u8]) -> bool
     }
 }
 
-/// The number that the term is, where it is one.
+/// Returns the number that the term is, or `None` if the term isn't a number.
 pub fn int_of(term: &Term) -> Option<i64>
     ensures { result ≡ int_of term.now }
 {
@@ -49,7 +49,7 @@ pub(crate) fn list_of(term: &Term) -> Option<&[Term]>
     }
 }
 
-/// The term that stands for a truth value.
+/// Returns the term that represents a truth value.
 pub(crate) fn bool_term(alloc: Global, is_true: bool) -> Result<Term, NoMemory>
     ensures { IfOk result (λ term. term ≡ bool_term is_true) }
 {

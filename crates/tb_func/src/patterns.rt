@@ -1,4 +1,4 @@
-//! The pattern of an expression.
+//! The patterns of expressions.
 ghost use Rattle.std.specs.Prelude.{◌≡◌, IfOk, map, option_and_then, option_map};
 ghost use Rattle.tb_terms.specs.declared.pattern.Pattern.TheVariants as pattern;
 ghost use Rattle.tb_func.specs.Helpers.Parts.{as_pattern, as_patterns};
@@ -14,8 +14,8 @@ use crate::values::{measured, value_of_call, variable};
 use std::alloc::Global;
 use tb_terms::{Expr, Func, Name, NoMemory, Pattern, Sort, Term};
 
-/// What the expression is as a pattern, where the parts that stand for one term have a value. Only what is put together
-/// is measured.
+/// Returns the pattern of the expression, or `None` if it has none. For example, there is none if a part that represents a term has no
+/// value. A number or a variable alone isn't measured.
 pub fn pattern(alloc: Global, e: &Expr, s: &Store) -> Result<Option<Pattern>, NoMemory>
     ensures { IfOk result (λ v. v ≡ pattern_of s.now e.now) }
 {
@@ -48,7 +48,7 @@ fn whole(part: Option<Part>) -> Option<Pattern>
     }
 }
 
-/// The pattern of the expression, with its size and levels where it is one term alone.
+/// Returns the pattern of the expression. If the pattern is one term alone, the result has the size and the depth of the term.
 #[cycle(build)]
 fn build(alloc: Global, e: &Expr, s: &Store) -> Result<Option<Part>, NoMemory>
     ensures { IfOk result (λ v. option_map as_pattern v ≡ pattern_of s.now e.now) }

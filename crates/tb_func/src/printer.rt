@@ -7,7 +7,7 @@ use itoa::Buffer;
 use std::alloc::Global;
 use tb_terms::{NoMemory, Term, write_term};
 
-/// What has been printed so far, how many arguments that took, and whether a `%` came last.
+/// The text so far, the number of arguments in it, and whether the last byte was a `%` that the next byte completes.
 #[derive(Drop)]
 pub(crate) struct Printer {
     text: Vec<u8>,
@@ -32,7 +32,7 @@ impl Printer {
         }
     }
 
-    /// Takes the next byte of the format, and says whether the format goes on.
+    /// Takes the next byte of the format. Returns `false` if there is no text for these arguments, whatever the rest of the format.
     pub(crate) fn take(&mut self, byte: u8, args: &[Term]) -> Result<bool, NoMemory>
         ensures { IfOk result (λ goes. (rest : List ℕ)
             → in_all self.old (byte ∷ rest) args.now
@@ -49,7 +49,7 @@ impl Printer {
         Ok(true)
     }
 
-    /// Takes the letter after a `%`.
+    /// Takes the letter after a `%`. Returns `false` if there is no text for these arguments, whatever the rest of the format.
     fn directive(&mut self, letter: u8, args: &[Term]) -> Result<bool, NoMemory>
         ensures { IfOk result (λ goes. (rest : List ℕ)
             → in_all (record self.old { is_after_percent = true }) (letter ∷ rest) args.now
@@ -68,7 +68,7 @@ impl Printer {
         push_shown(letter, term, &mut self.text)
     }
 
-    /// What was printed, where the format and the arguments end together.
+    /// Returns the text at the end of the format, or `None` if the next byte must complete a `%`, or an argument is left.
     pub(crate) fn finish(self, args: &[Term]) -> Option<Vec<u8>>
         ensures { option_map (λ text. vec_items text) result ≡ in_all self [] args.now }
     {
@@ -84,7 +84,8 @@ impl Printer {
     }
 }
 
-/// Puts the argument at the end as the letter asks, and says whether it could.
+/// Writes the argument at the end of `into`, as the letter requires. Returns `false` if the letter isn't `d`, `s`, or `t`, or doesn't allow
+/// this argument.
 fn push_shown(letter: u8, term: &Term, into: &mut Vec<u8>) -> Result<bool, NoMemory>
     ensures { IfOk result
         (λ is_shown. option_map (λ text. into.old.items ++ text) (shown letter term.now)

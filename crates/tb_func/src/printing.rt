@@ -13,7 +13,7 @@ use crate::printer::Printer;
 use std::alloc::Global;
 use tb_terms::{NoMemory, Term, Terms, Text, show_proper};
 
-/// What `printf` prints, as a string: the first argument is the format.
+/// Returns the text that `printf` prints, as a string, or `None` if there is none. The first argument is the format.
 pub fn printf_text(alloc: Global, args: &Terms) -> Result<Option<Term>, NoMemory>
     ensures { IfOk result (λ v. v ≡ printf_of args.now) }
 {
@@ -34,7 +34,7 @@ fn format_text(alloc: Global, format: &Text, args: &[Term]) -> Result<Option<Ter
     }
 }
 
-/// Changes nothing, as `show_proper`.
+/// States that these terms are proper. Changes nothing, as `show_proper`.
 fn show_all_proper(terms: &[Term])
     ensures { IsTrue (list_all is_proper terms.now) }
 {

@@ -9,7 +9,7 @@ use std::alloc::Global;
 use std::marker::Model;
 use tb_terms::{NoMemory, Sort, Sorts, Term, initial};
 
-/// The variables of a process by their slots. Contracts see it as the list of its slots.
+/// The variables of a process, by slot. Contracts see a store as the list of its slots.
 #[derive(Drop)]
 pub struct Store {
     slots: Vec<Slot>,
@@ -33,7 +33,7 @@ impl Model for Store {
 }
 
 impl Store {
-    /// A store with a slot for each of these sorts, which holds the value with which it begins.
+    /// Returns a store with a slot for each of these types, in order. Each slot holds the initial value of its type.
     pub fn fresh(alloc: Global, sorts: &Sorts) -> Result<Store, NoMemory>
         ensures { IfOk result (λ store. store ≡ map fresh_slot sorts.now) }
     {
@@ -46,6 +46,7 @@ impl Store {
         Ok(Store { slots })
     }
 
+    /// Returns the value at this slot.
     pub fn value(&self, slot: u32) -> &Term
         requires { slot < length self.now }
         ensures value { value_at self.now slot ≡ Some result.now }
@@ -54,7 +55,7 @@ impl Store {
         &self.slots[slot as usize].value
     }
 
-    /// The value at this slot, where there is one.
+    /// Returns the value at this slot, or `None` if the slot doesn't exist.
     pub fn get(&self, slot: u32) -> Option<&Term>
         ensures { option_copied result ≡ value_at self.now slot }
     {
@@ -66,6 +67,7 @@ impl Store {
         }
     }
 
+    /// Returns the type of this slot.
     pub fn sort(&self, slot: u32) -> &Sort
         requires { slot < length self.now }
         ensures { sort_at self.now slot ≡ Some result.now }
@@ -73,7 +75,7 @@ impl Store {
         &self.slots[slot as usize].sort
     }
 
-    /// The sort of this slot, where there is one.
+    /// Returns the type of this slot, or `None` if the slot doesn't exist.
     pub fn get_sort(&self, slot: u32) -> Option<&Sort>
         ensures { option_copied result ≡ sort_at self.now slot }
     {
@@ -85,6 +87,7 @@ impl Store {
         }
     }
 
+    /// Replaces the value at this slot.
     pub fn set(&mut self, slot: u32, t: Term)
         requires in_range { slot < length self.old }
         requires well_sorted { ForSome (sort_at self.old slot) (λ sort. IsTrue (has_sort t sort)) }
@@ -93,6 +96,7 @@ impl Store {
         self.slots[slot as usize].value = t;
     }
 
+    /// Returns the same store in memory of its own.
     pub fn copy(&self, alloc: Global) -> Result<Store, NoMemory>
         ensures { IfOk result (λ store. store ≡ self.now) }
     {

@@ -1,4 +1,4 @@
-//! The value of an expression.
+//! The values of expressions.
 ghost use Rattle.std.specs.Prelude.{◌≡◌, IfOk, map, option_and_then, option_map};
 ghost use Rattle.tb_terms.specs.declared.term.Term.TheVariants as term;
 ghost use Rattle.tb_func.specs.Apply.{apply_of};
@@ -12,7 +12,7 @@ use crate::{Store, apply};
 use std::alloc::Global;
 use tb_terms::{Expr, Func, Items, Name, NoMemory, Term};
 
-/// What the expression is worth in the store, where it is worth anything. Only what is put together is measured.
+/// Returns the value of the expression in the store, or `None` if it has no value. A number or a variable alone isn't measured.
 #[cycle(eval)]
 pub fn eval(alloc: Global, e: &Expr, s: &Store) -> Result<Option<Term>, NoMemory>
     ensures { IfOk result (λ v. v ≡ value_of s.now e.now) }
@@ -26,7 +26,7 @@ pub fn eval(alloc: Global, e: &Expr, s: &Store) -> Result<Option<Term>, NoMemory
     }
 }
 
-/// What the function gives for the values of the expressions. Two values need no list of arguments.
+/// Returns the value of the function for the values of the expressions. Two values need no list of arguments.
 #[cycle(eval)]
 fn eval_call(alloc: Global, func: Func, exprs: &[Expr], s: &Store) -> Result<Option<Term>, NoMemory>
     ensures { IfOk result
@@ -47,7 +47,7 @@ fn eval_call(alloc: Global, func: Func, exprs: &[Expr], s: &Store) -> Result<Opt
     }
 }
 
-/// The term that was measured.
+/// Returns the term without its size and depth.
 fn term_in(value: Option<Measured>) -> Option<Term>
     ensures { result ≡ option_map (λ m. m.term) value }
 {
@@ -57,7 +57,7 @@ fn term_in(value: Option<Measured>) -> Option<Term>
     }
 }
 
-/// The value of the expression, with its size and levels, where it is worth anything.
+/// Returns the value of the expression with its size and depth, or `None` if the expression has no value.
 #[cycle(eval_measured)]
 fn eval_measured(alloc: Global, e: &Expr, s: &Store) -> Result<Option<Measured>, NoMemory>
     ensures { IfOk result (λ v. option_map (λ m. m.term) v ≡ value_of s.now e.now) }
@@ -79,7 +79,7 @@ fn eval_measured(alloc: Global, e: &Expr, s: &Store) -> Result<Option<Measured>,
     }
 }
 
-/// The values of the expressions, where each is worth anything.
+/// Returns the values of the expressions, or `None` if one has no value.
 #[cycle(eval_measured)]
 fn eval_all(alloc: Global, exprs: &[Expr], s: &Store) -> Result<Option<MeasuredParts>, NoMemory>
     ensures { IfOk result

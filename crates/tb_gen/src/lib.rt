@@ -1,4 +1,4 @@
-//! Scripts that are made and not written.
+//! Generated scripts.
 #![tactic(auto)]
 
 mod ring;

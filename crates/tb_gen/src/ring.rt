@@ -17,8 +17,8 @@ const BEFORE_LIMIT: &[u8] =
 const BEHIND_LIMIT: &[u8] =
     b") then snd-msg(2, add(T, 1)) else shutdown(done) fi) * delta endlet\n";
 
-/// The script of a ring of `n` processes, which a message goes round `k` times: each hands on the number of messages
-/// so far, and after `n` times `k` of them the first ends the bus.
+/// Returns the script of a ring of `n` processes, round which a message goes `k` times. Each message carries the number of messages
+/// so far. When the first process receives number `n * k`, it shuts the bus down. Fails only if memory runs out.
 #[tactic(auto, using(crate::proofs::Lengths::ring_short))]
 pub fn ring_script(alloc: Global, n: u32, k: u32) -> Result<Vec<u8>, NoMemory>
     requires processes { (2 ≤ n) × (n ≤ 10000) }
@@ -33,7 +33,7 @@ pub fn ring_script(alloc: Global, n: u32, k: u32) -> Result<Vec<u8>, NoMemory>
     Ok(script)
 }
 
-/// The first process, which ends the bus after so many messages.
+/// Adds the definition of the first process, which shuts the bus down after this many messages.
 fn push_first(messages: u32, into: &mut Vec<u8>) -> Result<(), NoMemory>
     ensures { OnOk result (into.new.items ≡ into.old.items ++ first_line messages) }
 {
@@ -43,7 +43,7 @@ fn push_first(messages: u32, into: &mut Vec<u8>) -> Result<(), NoMemory>
     Ok(())
 }
 
-/// The processes with which the bus begins.
+/// Adds the calls with which the bus starts.
 fn push_toolbus(n: u32, into: &mut Vec<u8>) -> Result<(), NoMemory>
     requires { (2 ≤ n) × (n ≤ 10000) }
     ensures { OnOk result (into.new.items ≡ into.old.items ++ toolbus_line n) }
@@ -55,7 +55,7 @@ fn push_toolbus(n: u32, into: &mut Vec<u8>) -> Result<(), NoMemory>
     Ok(())
 }
 
-/// The processes from the second to the last but one, each of which sends to the next.
+/// Adds the processes from the second to the last but one. Each sends to the next.
 fn push_nodes(n: u32, into: &mut Vec<u8>) -> Result<(), NoMemory>
     requires { (2 ≤ n) × (n ≤ 10000) }
     ensures { OnOk result (into.new.items ≡ into.old.items ++ nodes_text 2 (n - 2)) }
@@ -68,7 +68,7 @@ fn push_nodes(n: u32, into: &mut Vec<u8>) -> Result<(), NoMemory>
     Ok(())
 }
 
-/// A process behind another.
+/// Adds a process after another one. It sends to the process with the number `next`.
 fn push_later(process: u32, next: u32, into: &mut Vec<u8>) -> Result<(), NoMemory>
     ensures { OnOk result (into.new.items ≡ into.old.items ++ later (node process next)) }
 {

@@ -1,11 +1,11 @@
-//! The sentence about bytes that have no tokens.
+//! The sentence about bytes that can't be tokenized.
 
 use crate::reals::say_real;
 use std::alloc::Global;
 use tb_hint_parts::{Said, between, text_of};
 use tb_lex::{LexFault, lex};
 
-/// Why a byte begins no token. A `%` is the byte.
+/// The reason why no token begins with a byte. A `%` is replaced by the byte.
 static OUTSIDE: [(&str, &str); 7] = [
     (";", "`%` isn't part of the language"),
     ("|", "`%` alone is no symbol"),
@@ -16,7 +16,7 @@ static OUTSIDE: [(&str, &str); 7] = [
     ("/", "`%` begins no token"),
 ];
 
-/// What helps against such a byte.
+/// The help about such a byte.
 static INSTEAD: [(&str, &str); 7] = [
     (
         ";",
@@ -36,7 +36,7 @@ static INSTEAD: [(&str, &str); 7] = [
     ("/", "a comment begins with two percent signs"),
 ];
 
-/// Says why the bytes of the script have no tokens.
+/// Says why the bytes of the script can't be tokenized.
 pub(crate) fn say_lex(said: &mut Said, fault: LexFault) {
     let text = said.source.text;
     match fault {
@@ -71,7 +71,7 @@ pub(crate) fn say_lex(said: &mut Said, fault: LexFault) {
     }
 }
 
-/// The sign, digits and points with which the text begins.
+/// Returns the signs, digits and points with which the text begins.
 fn numeral(text: &[u8]) -> &[u8] {
     for (position, byte) in text.iter().enumerate() {
         if !matches!(*byte, b'0'..=b'9' | b'.' | b'-') {
@@ -81,7 +81,7 @@ fn numeral(text: &[u8]) -> &[u8] {
     text
 }
 
-/// Says why no token goes on with the byte at this position.
+/// Says why no token can begin or continue with the byte at this position.
 fn say_byte(said: &mut Said, at: usize) {
     let text = said.source.text;
     let byte = between(text, at, at.saturating_add(1));
@@ -102,7 +102,7 @@ fn lex_fault(alloc: Global, text: &[u8]) -> Option<LexFault> {
     }
 }
 
-/// Says why no string goes on with the first of these two bytes.
+/// Says why the open string can't continue with the first of these two bytes.
 fn say_in_string(said: &mut Said, bytes: &[u8]) {
     match bytes {
         [b'\\', 33..=126] => {

@@ -1,4 +1,4 @@
-//! The sentences about calls that have no end, and about too much of something.
+//! The sentences about recursive calls, and about scripts that are too large.
 
 use sqlite_items::at;
 use tb_expand::ExpandFault;
@@ -9,7 +9,7 @@ use tb_parse::parse;
 use tb_syntax::Script;
 use tb_terms::Ident;
 
-/// Says why the expansions of a script can't be.
+/// Says why the calls of a script can't be replaced by the bodies of the called processes.
 pub(crate) fn say_expand(said: &mut Said, tokens: &Tokens, fault: &ExpandFault) {
     match fault {
         ExpandFault::Recursion(names) => say_recursion(said, tokens, names.as_slice()),
@@ -38,7 +38,7 @@ fn say_recursion(said: &mut Said, tokens: &Tokens, names: &[Ident]) {
     }
 }
 
-/// Says which process calls which.
+/// Says which process of a cycle calls which.
 fn say_cycle(said: &mut Said, names: &[Ident]) {
     let first = first_name(names);
     if names.len() < 2 {
@@ -52,13 +52,13 @@ fn say_cycle(said: &mut Said, names: &[Ident]) {
     said.say(" again: a process can't contain itself", &[]);
 }
 
-/// Says how a process repeats, and how it does so for ever.
+/// Adds help that shows how to repeat a process, and how to repeat it forever.
 pub(crate) fn say_repetition(said: &mut Said) {
     say_repeat(said);
     said.help("to repeat for ever, write `x * delta`", &[]);
 }
 
-/// Says how a process repeats.
+/// Adds help that shows how to repeat a process.
 fn say_repeat(said: &mut Said) {
     said.help(
         "to repeat, write `x * y`: x any number of times, and then y",
@@ -66,7 +66,7 @@ fn say_repeat(said: &mut Said) {
     );
 }
 
-/// Says how the process of this name is started.
+/// Adds help that shows how to start the process of this name.
 fn say_start(said: &mut Said, name: &[u8]) {
     let source = said.source;
     let definition = definition_of(&source, "process", name).unwrap_or(0);
@@ -81,7 +81,7 @@ fn say_start(said: &mut Said, name: &[u8]) {
     );
 }
 
-/// Adds a note for each call of a cycle.
+/// Adds a note at each call of a cycle.
 fn say_calls(said: &mut Said, script: &Script, names: &[Ident]) {
     for (position, name) in names.iter().enumerate() {
         let called = name_behind(names, position);
@@ -91,7 +91,7 @@ fn say_calls(said: &mut Said, script: &Script, names: &[Ident]) {
     }
 }
 
-/// The name after the one at this position, or the first.
+/// Returns the name after the name at this position, or the first name after the last.
 fn name_behind(names: &[Ident], position: usize) -> &[u8] {
     match at(names, position.saturating_add(1)) {
         Some(next) => next.as_bytes(),
@@ -118,7 +118,7 @@ fn say_large(said: &mut Said, name: &[u8]) {
     );
 }
 
-/// Says that a script starts with too many processes.
+/// Says that a script starts too many processes.
 pub(crate) fn say_roots(said: &mut Said, count: usize) {
     said.say("`toolbus(..)` starts ", &[]);
     said.say_grouped(count);

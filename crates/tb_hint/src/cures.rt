@@ -1,4 +1,4 @@
-//! Help about tokens that spell no script.
+//! Help about a token at which the source can't be parsed.
 
 use crate::syntax::{begins_process, has};
 use std::alloc::Global;
@@ -9,18 +9,18 @@ use tb_hint_parts::{
 use tb_syntax::{atom_word, is_reserved, is_time_word};
 use tb_terms::NoMemory;
 
-/// The words that are never names.
+/// The reserved words, which are never names.
 static RESERVED: [&str; 11] = [
     "process", "is", "tool", "toolbus", "let", "in", "endlet", "if", "then", "else", "fi",
 ];
 
-/// The words of times.
+/// The words with which a time begins.
 static TIMES: [&str; 4] = ["delay", "timeout", "abs-delay", "abs-timeout"];
 
 /// The word in the braces of a tool.
 static COMMAND: [&str; 1] = ["command"];
 
-/// What is said of a definition behind `toolbus(..)`. A `%` is its first word.
+/// The help about a definition after `toolbus(..)`, by its first word. A `%` is replaced by this word.
 static AFTER_END: [(&str, &str); 3] = [
     (
         "process",
@@ -36,7 +36,7 @@ static AFTER_END: [(&str, &str); 3] = [
     ),
 ];
 
-/// Says what helps against the token that is found, or against the end of the script.
+/// Adds help about the token that is found, or about the end of the script. `expected` has the tokens that may come here.
 pub(crate) fn cure(said: &mut Said, expected: &[&'static str], token: usize) {
     if said.source.word(token).is_empty() {
         cure_end(said, expected);
@@ -45,7 +45,7 @@ pub(crate) fn cure(said: &mut Said, expected: &[&'static str], token: usize) {
     }
 }
 
-/// Says what helps if the script ends too early.
+/// Adds help about a script that ends too early.
 fn cure_end(said: &mut Said, expected: &[&'static str]) {
     if has(expected, "toolbus") {
         said.help(
@@ -73,7 +73,7 @@ fn cure_token(said: &mut Said, expected: &[&'static str], token: usize) {
     }
 }
 
-/// Says how `create` is written, if its first argument ends before this token.
+/// Adds help that shows the form of `create`, if this token is directly within the brackets of a `create`.
 fn cure_create(said: &mut Said, token: usize) {
     let source = said.source;
     if let Some(head) = head_of(&source, token) {
@@ -83,7 +83,7 @@ fn cure_create(said: &mut Said, token: usize) {
     }
 }
 
-/// Says which function stands for the operator at this token, or before it.
+/// Adds help that names the function to write in place of the operator at this token or before it.
 fn cure_operator(said: &mut Said, expected: &[&'static str], token: usize) {
     let source = said.source;
     if begins_process(expected) {
@@ -93,7 +93,7 @@ fn cure_operator(said: &mut Said, expected: &[&'static str], token: usize) {
     }
 }
 
-/// Whether an expression ends before this token, and not the type of a variable or of a parameter.
+/// Returns whether an expression ends before this token. The type of a variable or of a parameter isn't an expression.
 fn is_behind_expression(source: &Source, expected: &[&'static str], token: usize) -> bool {
     let is_behind = has(expected, "then")
         || has(expected, "?")
@@ -102,7 +102,7 @@ fn is_behind_expression(source: &Source, expected: &[&'static str], token: usize
     is_behind && !has(expected, "in") && !is_among_parameters(source, token)
 }
 
-/// Whether this token is behind the name of a process, and its `is` doesn't come before the token.
+/// Returns whether this token is between the word `process` and the `is` of its definition.
 fn is_among_parameters(source: &Source, token: usize) -> bool {
     for position in (0..token).rev() {
         if source.is(position, "process") {
@@ -115,12 +115,12 @@ fn is_among_parameters(source: &Source, token: usize) -> bool {
     false
 }
 
-/// Whether a placeholder such as `<int>` begins at this token.
+/// Returns whether a placeholder such as `<int>` begins at this token.
 fn is_placeholder(source: &Source, token: usize) -> bool {
     source.is(token, "<") && source.is(token.saturating_add(2), ">")
 }
 
-/// Says that nothing follows `toolbus(..)`.
+/// Adds help that says that nothing can follow `toolbus(..)`.
 fn cure_after_end(said: &mut Said, found: &[u8]) {
     let help = text_of(AFTER_END.as_slice(), found);
     said.help(
@@ -129,7 +129,7 @@ fn cure_after_end(said: &mut Said, found: &[u8]) {
     );
 }
 
-/// Says what helps if a word is misspelt, or a letter is of the other case.
+/// Adds help about a word that is misspelt, or that begins with a letter of the wrong case.
 fn cure_word(said: &mut Said, expected: &[&'static str], token: usize) {
     let source = said.source;
     let found = source.word(token);
@@ -148,7 +148,7 @@ fn cure_word(said: &mut Said, expected: &[&'static str], token: usize) {
     }
 }
 
-/// Offers the words that may come and that a writer can't choose.
+/// Offers the fixed words of the language that may come here.
 fn offer_expected(near: &mut Near, expected: &[&'static str]) {
     for word in RESERVED.as_slice() {
         if has(expected, *word) {
@@ -169,7 +169,7 @@ fn offer_expected(near: &mut Near, expected: &[&'static str]) {
     }
 }
 
-/// Says what helps if a name begins with a letter of the other case.
+/// Adds help about a name that begins with a letter of the wrong case.
 fn cure_case(said: &mut Said, expected: &[&'static str], found: &[u8]) {
     if has(expected, "X") && !has(expected, "x") && is_lower(found) && !is_reserved(found) {
         said.help(
@@ -188,7 +188,7 @@ fn cure_case(said: &mut Said, expected: &[&'static str], found: &[u8]) {
     }
 }
 
-/// Says which name to write in place of one that begins with a letter of the other case.
+/// Adds help that shows the name with its first letter in the other case.
 fn say_other_case(said: &mut Said, name: &[u8]) {
     match with_other_case(said.alloc, name) {
         Ok(other) => say_instead(said, other.as_slice()),
@@ -202,7 +202,7 @@ fn say_instead(said: &mut Said, name: &[u8]) {
     }
 }
 
-/// The name with its first letter in the other case.
+/// Returns the name with its first letter in the other case.
 fn with_other_case(alloc: Global, name: &[u8]) -> Result<Vec<u8>, NoMemory> {
     let mut other = Vec::new(alloc);
     if let [first, rest @ ..] = name {
@@ -212,7 +212,7 @@ fn with_other_case(alloc: Global, name: &[u8]) -> Result<Vec<u8>, NoMemory> {
     Ok(other)
 }
 
-/// Says how that is written which has empty parentheses.
+/// Adds help about a call, an atom or a term with empty parentheses, which end at this token.
 fn cure_parentheses(said: &mut Said, token: usize) {
     let source = said.source;
     if !source.has_before(token, 1, "(") {
@@ -226,7 +226,7 @@ fn cure_parentheses(said: &mut Said, token: usize) {
     }
 }
 
-/// Whether a call, an atom or a term of this name can be without arguments.
+/// Returns whether a call, an atom or a term of this name can be written without arguments.
 fn stands_alone(said: &mut Said, word: &[u8]) -> bool {
     match atom_word(word) {
         Some(atom) => atom.fewest() == 0,

@@ -1,4 +1,4 @@
-//! The message about a script that is rejected: the place, a sentence, the line with a mark beneath it, notes, and help.
+//! The message about a rejected script: the place, a sentence, the line with a mark beneath it, notes, and help.
 #![tactic(auto)]
 
 mod bytes;

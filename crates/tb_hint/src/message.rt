@@ -1,4 +1,4 @@
-//! The message about a script that is rejected.
+//! The message about a rejected script.
 ghost use Rattle.std.specs.Prelude.{IfOk};
 ghost use Rattle.tb_fault_place.specs.Points.{TellsFault};
 
@@ -14,8 +14,8 @@ use tb_parse::ParseFault;
 use tb_script::ScriptFault;
 use tb_terms::{Items, NoMemory};
 
-/// The lines about a script that is rejected: the place, the name of the fault and a sentence, the line of the
-/// script with a mark beneath it, notes, and help. `text` is the script, and `name` the name of its file.
+/// Returns the message about a rejected script: the place, the name of the error, a sentence, the line of the script with a mark beneath
+/// it, notes, and help. `text` is the script, `name` the name of its file, and `point` the error with its place.
 #[tactic(auto, using(tb_fault_place::proofs::Tells::tells))]
 pub fn message_text(
     alloc: Global,
@@ -35,7 +35,7 @@ pub fn message_text(
     Ok(lines)
 }
 
-/// All that follows the name of the fault, except the last newline.
+/// Returns the message after the name of the error and its colon, without the last newline.
 fn rest_of(alloc: Global, name: &str, text: &[u8], point: &Point) -> Result<Vec<u8>, NoMemory> {
     match lex(alloc, text) {
         Ok(tokens) => rest_by(alloc, name, text, &tokens, point),

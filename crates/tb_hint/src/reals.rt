@@ -22,7 +22,7 @@ pub(crate) fn say_real(said: &mut Said, number: &[u8], prefix: &[u8]) {
     }
 }
 
-/// The word whose first argument begins after all tokens. It is empty if there is none.
+/// Returns the word whose first argument begins after all tokens, or an empty text if there is none.
 fn word_of_argument<'a>(source: &Source<'a>) -> &'a [u8] {
     let end = source.tokens.len();
     if source.has_before(end, 1, "(") {
@@ -31,7 +31,7 @@ fn word_of_argument<'a>(source: &Source<'a>) -> &'a [u8] {
     b""
 }
 
-/// Says what the number is, if it is the argument of a time or of `sec`.
+/// Adds help about a number that is the argument of a time or of `sec`: its unit, or its form in milliseconds.
 fn say_time(said: &mut Said, number: &[u8], word: &[u8]) {
     let is_time = is_time_word(word);
     if is_time {
@@ -45,7 +45,7 @@ fn say_time(said: &mut Said, number: &[u8], word: &[u8]) {
     }
 }
 
-/// Whether the number is a whole number of milliseconds, more than none, and not too many.
+/// Returns whether the number, taken as seconds, is a whole number of milliseconds, more than 0, and not too large.
 fn has_milliseconds(number: &[u8]) -> bool {
     let whole = before_point(number);
     let part = behind_point(number);
@@ -56,7 +56,7 @@ fn has_milliseconds(number: &[u8]) -> bool {
         && !(without_zeros(whole).is_empty() && without_zeros(part).is_empty())
 }
 
-/// Says how a time of so many seconds is written.
+/// Adds help that shows how to write a time of this number of seconds.
 fn say_milliseconds(said: &mut Said, number: &[u8]) {
     let whole = without_zeros(before_point(number));
     let digits = behind_point(number);
@@ -81,7 +81,7 @@ fn behind_point(number: &[u8]) -> &[u8] {
     between(number, point_of(number).saturating_add(1), number.len())
 }
 
-/// The position of the first point.
+/// Returns the position of the first point, or the length of the number if it has none.
 fn point_of(number: &[u8]) -> usize {
     for position in 0..number.len() {
         if number[position] == b'.' {
@@ -100,7 +100,7 @@ fn are_digits(text: &[u8]) -> bool {
     true
 }
 
-/// The digits from the first on that isn't 0.
+/// Returns the digits from the first on that isn't 0.
 fn without_zeros(digits: &[u8]) -> &[u8] {
     for position in 0..digits.len() {
         if digits[position] != b'0' {

@@ -1,4 +1,4 @@
-//! The sentence about tokens that spell no script. Which tokens may come next is found by trying the parser.
+//! The sentence about a token at which the source can't be parsed. Trying the parser shows which tokens may come there.
 
 use crate::cures::cure;
 use crate::unfinished::{is_behind_symbol, is_symbol, missing_word, note_open, note_symbol};
@@ -9,42 +9,45 @@ use tb_parse::{ParseFault, parse};
 use tb_source_map::mark_at;
 use tb_terms::{Items, NoMemory};
 
-/// A token of each kind that the grammar tells apart.
+/// A token of each kind that the grammar distinguishes.
 static CANDIDATES: [&str; 40] = [
     "process", "is", "tool", "toolbus", "let", "in", "endlet", "if", "then", "else", "fi",
     "create", "command", "tau", "delay", "int", "x", "X", "0", "\"\"", "(", ")", "[", "]", "{",
     "}", ",", ".", ":", ":=", "=", "?", "+", "*", "||", ">>", "<", ">", "list", "bool",
 ];
 
-/// The tokens with which a process may begin. One name represents them.
+/// The candidates with which a process may begin. A single name represents them all in the sentence.
 static PROCESS: [&str; 6] = ["tau", "create", "X", "(", "let", "if"];
 
-/// The tokens with which an expression may begin. One name represents them.
+/// The candidates with which an expression may begin. A single name represents them all in the sentence.
 static EXPRESSION: [&str; 13] = [
     "0", "\"\"", "x", "X", "[", "<", "tau", "delay", "int", "list", "bool", "command", "create",
 ];
 
-/// The tokens that a name or a type may be. One name represents them.
+/// The candidates that may be a name or a type. A single name represents them all in the sentence.
 static NAME: [&str; 8] = [
     "x", "tau", "delay", "int", "list", "bool", "command", "create",
 ];
 
-/// What the list calls a candidate that isn't quoted.
+/// The names of the candidates that the sentence doesn't quote.
 static UNQUOTED: [(&str, &str); 3] = [
     ("X", "a name that begins with an upper-case letter"),
     ("\"\"", "a string"),
     ("delay", "a time such as `delay(1)`"),
 ];
 
-/// How tokens are read.
+/// What the parser makes of tokens.
 #[derive(Clone, Copy, PartialEq, Eq)]
 enum Reading {
+    /// The tokens parse as a script.
     Script,
+    /// The tokens may begin a script.
     Begun,
+    /// No script begins with the tokens, or the text can't be tokenized.
     Broken,
 }
 
-/// Says what may come at this token, and what is there.
+/// Says which tokens may come at this place, and which token is there.
 pub(crate) fn say_syntax(said: &mut Said, token: usize) {
     let source = said.source;
     let prefix = between(source.text, 0, mark_at(source.tokens, token).from);
@@ -59,8 +62,8 @@ pub(crate) fn say_syntax(said: &mut Said, token: usize) {
     }
 }
 
-/// Says what may come: one name for each kind of construct, with commas between them, and `or` before the last. The
-/// missing word comes first, if there is one.
+/// Says what may come: a name for each kind of construct, with commas between them and `or` before the last. The missing word comes after
+/// the name of the construct that may begin here.
 fn say_expected(said: &mut Said, expected: &[&'static str], missing: &str, prefix: &[u8]) {
     let construct = construct_of(expected);
     let ends = is_script(said, prefix);
@@ -85,7 +88,7 @@ fn say_expected(said: &mut Said, expected: &[&'static str], missing: &str, prefi
     }
 }
 
-/// Whether the script may end here.
+/// Returns whether the tokens of the prefix parse as a script, so that it may end here.
 fn is_script(said: &mut Said, prefix: &[u8]) -> bool {
     match reading_of(said.alloc, prefix) {
         Ok(reading) => reading == Reading::Script,
@@ -96,7 +99,7 @@ fn is_script(said: &mut Said, prefix: &[u8]) -> bool {
     }
 }
 
-/// How many names the list has.
+/// Returns the number of names in the sentence.
 fn count_names(expected: &[&'static str], construct: Construct, ends: bool) -> usize {
     let mut count: usize = 0;
     for word in expected {
@@ -129,8 +132,8 @@ fn say_found(said: &mut Said, expected: &[&'static str], token: usize) {
     say_cure(said, expected, token);
 }
 
-/// Says what helps: a note at what isn't finished before this token, or help against the token. A `+` or a `*` behind
-/// an open parenthesis is hardly meant as an operator of an expression.
+/// Adds a note at a construct before this token that isn't finished, or help about the token. After an open parenthesis, a `+` or `*` is
+/// probably not meant as an operator of an expression, so the note takes precedence.
 fn say_cure(said: &mut Said, expected: &[&'static str], token: usize) {
     let source = said.source;
     if is_behind_symbol(&source, expected, token) {
@@ -148,7 +151,7 @@ fn say_cure(said: &mut Said, expected: &[&'static str], token: usize) {
     }
 }
 
-/// The candidates that may come after the tokens of this text.
+/// Returns the candidates that may come after the tokens of this text.
 fn expected_behind(alloc: Global, prefix: &[u8]) -> Result<Items<&'static str>, NoMemory> {
     let mut expected = Items::new(alloc);
     for candidate in CANDIDATES.as_slice() {
@@ -159,7 +162,7 @@ fn expected_behind(alloc: Global, prefix: &[u8]) -> Result<Items<&'static str>, 
     Ok(expected)
 }
 
-/// How the tokens of the prefix and this one are read.
+/// Returns what the parser makes of the tokens of the prefix and this candidate.
 fn reading_with(alloc: Global, prefix: &[u8], candidate: &str) -> Result<Reading, NoMemory> {
     let mut text = Vec::from_slice(alloc, prefix)?;
     text.push(b'\n')?;
@@ -188,7 +191,7 @@ pub(crate) fn has(words: &[&'static str], word: &str) -> bool {
     is_among(words, word.as_bytes())
 }
 
-/// Whether a process may begin here. Words that begin one begin an expression too.
+/// Returns whether a process may begin here. Where an expression may begin, a lower-case name (`x`) is expected too.
 pub(crate) fn begins_process(expected: &[&'static str]) -> bool {
     has(expected, "tau") && !has(expected, "x")
 }
@@ -200,7 +203,7 @@ struct Construct {
     words: &'static [&'static str],
 }
 
-/// The construct that may begin here; one without a name if none may.
+/// Returns the construct that may begin here, or a construct without a name if none may.
 fn construct_of(expected: &[&'static str]) -> Construct {
     if begins_process(expected) {
         return Construct {
@@ -236,7 +239,7 @@ fn shown(word: &'static str) -> &'static str {
     text_of(UNQUOTED.as_slice(), word.as_bytes()).unwrap_or(word)
 }
 
-/// A name of several words isn't quoted.
+/// Returns the template for this name. A name of several words isn't quoted.
 fn template_of(name: &str) -> &'static str {
     for byte in name.as_bytes() {
         if *byte == b' ' {

@@ -1,16 +1,16 @@
-//! Notes at what is begun before a token that spells no script, and isn't finished.
+//! Notes at a construct that begins before a token at which the source can't be parsed, and that isn't finished.
 
 use crate::calls::say_repetition;
 use crate::syntax::{begins_process, has};
 use tb_hint_parts::{Said, Source, is_among, is_lower, text_of};
 
-/// The symbols that stand between two processes.
+/// The operators between two processes.
 static BETWEEN: [&str; 5] = [".", "+", "*", "||", ">>"];
 
-/// The other tokens before which a process has ended.
+/// The other tokens before which a process must have ended.
 static ENDS: [&str; 7] = [")", "endlet", "fi", "else", "process", "tool", "toolbus"];
 
-/// What is closed: how it begins, and how it ends.
+/// The bracketed constructs: the token with which each begins, and the token with which it ends.
 static CLOSED: [(&str, &str); 5] = [
     ("(", ")"),
     ("[", "]"),
@@ -19,10 +19,10 @@ static CLOSED: [(&str, &str); 5] = [
     ("let", "endlet"),
 ];
 
-/// How what is closed ends.
+/// The tokens with which bracketed constructs end.
 static CLOSERS: [&str; 5] = [")", "]", "}", "fi", "endlet"];
 
-/// What is said of a beginning without its end.
+/// The note about a construct without its end, by its first token.
 static NOTES: [(&str, &str); 5] = [
     ("(", "this `(` isn't closed"),
     ("[", "this `[` isn't closed"),
@@ -34,7 +34,7 @@ static NOTES: [(&str, &str); 5] = [
 /// The words with which a definition begins.
 static DEFINITIONS: [&str; 3] = ["process", "tool", "toolbus"];
 
-/// Whether a process is missing at this token, behind a symbol that stands between two.
+/// Returns whether a process is missing at this token, after an operator between two processes.
 pub(crate) fn is_behind_symbol(source: &Source, expected: &[&'static str], token: usize) -> bool {
     let found = source.word(token);
     let has_ended = found.is_empty()
@@ -43,12 +43,12 @@ pub(crate) fn is_behind_symbol(source: &Source, expected: &[&'static str], token
     has_ended && begins_process(expected) && is_symbol(source, token.saturating_sub(1))
 }
 
-/// Whether a symbol that stands between two processes is at this token.
+/// Returns whether this token is an operator between two processes.
 pub(crate) fn is_symbol(source: &Source, token: usize) -> bool {
     is_among(BETWEEN.as_slice(), source.word(token))
 }
 
-/// Adds a note at the symbol before this token: no process stands behind it.
+/// Adds a note at the operator before this token, after which no process comes.
 pub(crate) fn note_symbol(said: &mut Said, token: usize) {
     let source = said.source;
     let symbol = token.saturating_sub(1);
@@ -62,7 +62,7 @@ pub(crate) fn note_symbol(said: &mut Said, token: usize) {
     }
 }
 
-/// Adds a note at the innermost construct around this token, if it may end here and ends nowhere.
+/// Adds a note at the innermost bracketed construct around this token, if its end may come here and is missing.
 pub(crate) fn note_open(said: &mut Said, expected: &[&'static str], token: usize) {
     let source = said.source;
     if let Some(open) = unclosed(&source, expected, token) {
@@ -71,8 +71,8 @@ pub(crate) fn note_open(said: &mut Said, expected: &[&'static str], token: usize
     }
 }
 
-/// The `fi` or `endlet` of the innermost construct around this token, if it may come here and comes nowhere. If not, an
-/// empty text.
+/// Returns the `fi` or `endlet` of the innermost bracketed construct around this token, if this end may come here and is missing.
+/// Otherwise, returns an empty text.
 pub(crate) fn missing_word(
     source: &Source,
     expected: &[&'static str],
@@ -85,7 +85,7 @@ pub(crate) fn missing_word(
     if is_lower(end.as_bytes()) { end } else { "" }
 }
 
-/// The token that begins the innermost construct around this token, if it may end here and ends nowhere.
+/// Returns the first token of the innermost bracketed construct around this token, if its end may come here and is missing.
 fn unclosed(source: &Source, expected: &[&'static str], token: usize) -> Option<usize> {
     let open = open_before(source, token)?;
     let end = end_of(source.word(open));
@@ -95,7 +95,7 @@ fn unclosed(source: &Source, expected: &[&'static str], token: usize) -> Option<
     None
 }
 
-/// The last token before this one that begins what isn't closed between them.
+/// Returns the first token of the innermost bracketed construct that isn't closed before this token.
 fn open_before(source: &Source, token: usize) -> Option<usize> {
     let mut depth: usize = 0;
     for position in (0..token).rev() {
@@ -112,8 +112,8 @@ fn open_before(source: &Source, token: usize) -> Option<usize> {
     None
 }
 
-/// Whether this end comes for what begins at `open`, from this token on. A wrong end is passed over as superfluous
-/// if nothing around `open` can have it.
+/// Returns whether the construct that begins at `open` is closed by this end, from `token` on. If another end comes first that no
+/// construct around `open` can have, that end counts as superfluous, and the construct as closed.
 fn is_closed(source: &Source, open: usize, token: usize, end: &str) -> bool {
     let mut depth: usize = 0;
     for position in token..source.tokens.len() {
@@ -132,7 +132,7 @@ fn is_closed(source: &Source, open: usize, token: usize, end: &str) -> bool {
     false
 }
 
-/// Whether something that begins before this token can have this end.
+/// Returns whether an open construct that begins before this token can have this end.
 fn is_wanted(source: &Source, token: usize, end: &[u8]) -> bool {
     let mut inner = token;
     for _turn in 0..token {
@@ -151,7 +151,7 @@ fn is_begin(word: &[u8]) -> bool {
     !end_of(word).is_empty()
 }
 
-/// How that ends which begins with this word.
+/// Returns the token that ends a construct which begins with this word, or an empty text if none does.
 fn end_of(word: &[u8]) -> &'static str {
     text_of(CLOSED.as_slice(), word).unwrap_or("")
 }

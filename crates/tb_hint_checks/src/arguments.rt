@@ -1,4 +1,4 @@
-//! The sentences about numbers of arguments, and about arguments of a wrong kind.
+//! The sentences about wrong numbers of arguments, and about arguments of a wrong kind.
 
 use crate::names::say_definition;
 use tb_hint_parts::{
@@ -7,7 +7,7 @@ use tb_hint_parts::{
 };
 use tb_syntax::{AtomWord, atom_word};
 
-/// Why an argument must be a variable with `?`, by the word of the atom.
+/// The reason why an argument must be a variable with `?`, by the word of the atom.
 static RESULTS: [(&str, &str); 3] = [
     (
         "create",
@@ -23,7 +23,7 @@ static RESULTS: [(&str, &str); 3] = [
     ),
 ];
 
-/// Says that what begins at this token has a wrong number of arguments.
+/// Says that the call, atom or function at this token has a wrong number of arguments.
 pub(crate) fn say_count(said: &mut Said, token: usize) {
     let source = said.source;
     let word = source.word(token);
@@ -109,7 +109,7 @@ pub(crate) fn say_not_result(said: &mut Said, token: usize) {
     say_mark(said, text);
 }
 
-/// Says what is in the place of a variable with `?`.
+/// Says what is written in place of a variable with `?`.
 fn say_instead(said: &mut Said, text: &[u8]) {
     match text {
         [b'A'..=b'Z', ..] => said.say(", but `%` has no `?`", &[text]),
@@ -119,19 +119,19 @@ fn say_instead(said: &mut Said, text: &[u8]) {
     }
 }
 
-/// Says how a variable is written that takes a value.
+/// Adds help that shows how to write this variable so that it takes a value.
 fn say_mark(said: &mut Said, text: &[u8]) {
     if is_upper(text) {
         said.help("write `%?`", &[text]);
     }
 }
 
-/// Whether the process that is named at this token is a root, or the process of a `create`.
+/// Returns whether the process that is named at this token is a root, or the process of a `create`.
 fn is_started(source: &Source, token: usize) -> bool {
     scope_of(source, token).is_none() || source.has_before(token, 2, "create")
 }
 
-/// Says that a variable with `?` or a placeholder is where nothing is taken or matched.
+/// Says that a variable with `?` or a placeholder is in a place where no value is taken or matched.
 pub(crate) fn say_misplaced(said: &mut Said, token: usize) {
     let source = said.source;
     let text = source.word(token);
@@ -153,7 +153,7 @@ pub(crate) fn say_misplaced(said: &mut Said, token: usize) {
     say_takers(said, token, text);
 }
 
-/// Says where the variable of this name can take a value.
+/// Adds help that says where the variable of this name can take a value.
 fn say_takers(said: &mut Said, token: usize, name: &[u8]) {
     said.help(
         "to take a value, write `%?` in `rec-msg(..)`, `rec-note(..)`, `rec-value(T, ..)` or `rec-event(T, ..)`",

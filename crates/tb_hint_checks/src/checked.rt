@@ -1,4 +1,4 @@
-//! The sentence about a condition that fails.
+//! The sentence about a failed check of a script.
 
 use crate::arguments::{say_count, say_misplaced, say_not_result};
 use crate::clashes::say_clash;
@@ -6,7 +6,7 @@ use crate::names::{say_no_function, say_no_process, say_no_tool, say_twice, say_
 use tb_hint_parts::Said;
 use tb_types::CheckFault;
 
-/// Says which condition fails, and why.
+/// Says which check of the script fails, and why.
 pub fn say_check(said: &mut Said, fault: CheckFault) {
     match fault {
         CheckFault::Twice(token) => say_twice(said, token),

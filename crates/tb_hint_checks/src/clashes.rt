@@ -28,7 +28,7 @@ fn say_valued(said: &mut Said, token: usize, value: &Term) {
     say_value(said, token, value);
 }
 
-/// Says what fits the place, or which variable takes each value.
+/// Adds help: a function that may be meant, the forms of a test, or the type of variable that takes each value.
 fn say_fitting(said: &mut Said, token: usize, is_test: bool) {
     let source = said.source;
     let is_term = is_no_call(said, token);

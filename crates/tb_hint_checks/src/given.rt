@@ -1,10 +1,10 @@
-//! What an expression is that doesn't fit.
+//! The part of a sentence that says what an expression is that doesn't fit its place.
 
 use crate::names::note_declared;
 use crate::wanted::shape_text;
 use tb_hint_parts::{Said, declaration_of, is_lower, signature_of};
 
-/// Says what begins at this token, and of which type it is.
+/// Says which expression begins at this token, and its type.
 pub(crate) fn say_given(said: &mut Said, token: usize) {
     let source = said.source;
     let word = source.word(token);
@@ -35,7 +35,7 @@ fn say_variable(said: &mut Said, token: usize, name: &[u8]) {
     }
 }
 
-/// Whether a term begins at this token that is written as a call of a function.
+/// Returns whether a term begins at this token that looks like a call of a function, while no function has its name.
 pub(crate) fn is_no_call(said: &mut Said, token: usize) -> bool {
     let source = said.source;
     let word = source.word(token);

@@ -1,4 +1,4 @@
-//! The sentences about names that are defined twice, or not at all.
+//! The sentences about names that are defined twice, or not defined.
 
 use tb_hint_parts::{
     Near, Said, declared_in, definition_of, is_lower, say_assigned_operator, say_known, scope_of,
@@ -6,7 +6,7 @@ use tb_hint_parts::{
 };
 use tb_syntax::is_sort_word;
 
-/// The words of types.
+/// The names of the types that aren't tools.
 static TYPES: [&str; 5] = ["bool", "int", "str", "list", "term"];
 
 /// The names of all functions.
@@ -65,7 +65,7 @@ static FOREIGN: [(&str, &str); 24] = [
     ("nth", "index"),
 ];
 
-/// Says that what is defined or declared at this token has a name that is taken.
+/// Says that the name that is defined or declared at this token is already taken.
 pub(crate) fn say_twice(said: &mut Said, token: usize) {
     let source = said.source;
     let name = source.word(token.saturating_add(1));
@@ -130,7 +130,7 @@ pub(crate) fn say_no_process(said: &mut Said, token: usize) {
     say_assigned_operator(said, token);
 }
 
-/// Says that the word at this token is no type, or no tool that `execute` can start.
+/// Says that the word at this token isn't a type, or isn't a tool that `execute` can start.
 pub(crate) fn say_no_tool(said: &mut Said, token: usize) {
     let source = said.source;
     let name = source.word(token);
@@ -159,7 +159,7 @@ pub(crate) fn say_no_tool(said: &mut Said, token: usize) {
     }
 }
 
-/// Says how the tool of this name is declared.
+/// Adds help that shows how to declare the tool of this name.
 fn say_tool(said: &mut Said, name: &[u8]) {
     said.help(
         "declare the tool above the process: `tool % is { command = \"..\" }`",
@@ -196,7 +196,8 @@ pub(crate) fn say_no_function(said: &mut Said, token: usize) {
     said.help_words("the functions are ", FUNCTIONS.as_slice());
 }
 
-/// Asks which function is meant by this name of none. Returns whether there is one.
+/// Adds help that asks whether a certain function was meant by this name, which isn't a function's. Returns whether there is such a
+/// function.
 pub(crate) fn ask_function(said: &mut Said, name: &[u8]) -> bool {
     if let Some(function) = text_of(FOREIGN.as_slice(), name) {
         said.help("did you mean `%`?", &[function.as_bytes()]);
@@ -225,7 +226,7 @@ pub(crate) fn say_undeclared(said: &mut Said, token: usize) {
     }
 }
 
-/// Says how the variable of this name is declared, so that it is known at this token.
+/// Adds help that shows how to declare the variable of this name, so that it is known at this token.
 fn say_declaration(said: &mut Said, token: usize, name: &[u8]) {
     if scope_of(&said.source, token).is_none() {
         return said.help("the arguments of `toolbus(..)` have no variables", &[]);

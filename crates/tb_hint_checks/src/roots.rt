@@ -1,4 +1,4 @@
-//! The sentence about an argument of `toolbus(..)` that has no value, or one of another type.
+//! The sentence about an argument of `toolbus(..)` that has no value, or a value of a wrong type.
 
 use crate::given::{is_no_call, say_given};
 use crate::names::ask_function;
@@ -10,21 +10,21 @@ use tb_syntax::{Ast, Call};
 use tb_terms::{NoMemory, Term, write_term};
 use tb_types::closed_value;
 
-/// A longer text of a value isn't written.
+/// The greatest length of the text of a value. A longer text isn't written.
 const MOST_BYTES: usize = 60;
 
-/// What is known of an argument of a root.
+/// An argument of a root, if one begins at a token, and its value.
 #[derive(Drop)]
 pub(crate) enum Argument {
-    /// None begins at the token.
+    /// No argument of a root begins at the token.
     Absent,
-    /// It has no value.
+    /// The argument has no value.
     Without,
-    /// It has this value.
+    /// The argument has this value.
     With(Term),
 }
 
-/// The argument of a root that begins at this token.
+/// Returns the argument of a root that begins at this token, with its value.
 pub(crate) fn argument_at(said: &Said, token: usize) -> Result<Argument, NoMemory> {
     if scope_of(&said.source, token).is_some() {
         return Ok(Argument::Absent);
@@ -97,7 +97,7 @@ pub(crate) fn say_no_value(said: &mut Said, token: usize) {
     );
 }
 
-/// Says which value of another type the argument of a root at this token has.
+/// Says which value the argument of a root at this token has, if the value is of a wrong type.
 pub(crate) fn say_value(said: &mut Said, token: usize, value: &Term) {
     let source = said.source;
     if !source.is(token.saturating_add(1), "(") {

@@ -1,4 +1,4 @@
-//! What is expected of an expression at its place.
+//! The part of a sentence that says what is expected of an expression at its place.
 
 use crate::names::note_declared;
 use tb_func::Shape;
@@ -7,7 +7,7 @@ use tb_hint_parts::{
     signature_of, text_of,
 };
 
-/// What is expected of the first argument of an atom or of a time, by its word. A `%` is the word.
+/// What is expected of the first argument, by the word of the atom or of the time. A `%` is replaced by this word.
 static FIRST: [(&str, &str); 13] = [
     ("printf", "the format of `%` must be a str"),
     ("rec-connect", "`%` gives a tool"),
@@ -24,7 +24,8 @@ static FIRST: [(&str, &str); 13] = [
     ("abs-timeout", "the time of `%` must be an int"),
 ];
 
-/// What is expected of the second argument. The second `%` is the first argument.
+/// What is expected of the second argument, by the word of the atom. The first `%` is replaced by this word, the second one by the first
+/// argument.
 static SECOND: [(&str, &str); 2] = [
     ("create", "`%` gives the number of a process, an int"),
     ("execute", "`%` gives a tool of the type %"),
@@ -38,7 +39,7 @@ fn wanted_by(word: &[u8], argument: usize) -> Option<&'static str> {
     }
 }
 
-/// Says what is expected of the expression that begins at this token. Returns whether a bool is.
+/// Says what is expected of the expression that begins at this token. Returns whether a bool is expected.
 pub(crate) fn say_wanted(said: &mut Said, token: usize) -> bool {
     let source = said.source;
     if source.has_before(token, 1, ":=") {
@@ -59,7 +60,7 @@ fn say_unfit(said: &mut Said) -> bool {
     false
 }
 
-/// Says of which type the variable at this token is.
+/// Says which type the variable at this token has. Returns whether the type is bool.
 fn say_assigned(said: &mut Said, token: usize) -> bool {
     let source = said.source;
     let name = source.word(token);
@@ -70,7 +71,7 @@ fn say_assigned(said: &mut Said, token: usize) -> bool {
     }
 }
 
-/// Says with which type the name at this token is declared, and where. Returns whether it is bool.
+/// Says with which type the name at this token is declared, and where. Returns whether the type is bool.
 fn say_declared(said: &mut Said, declared: usize) -> bool {
     said.say_type(declared);
     note_declared(said, declared);
@@ -129,7 +130,7 @@ fn say_argument_type<'w>(said: &mut Said, number: &'w str, word: &'w [u8], text:
     text == b"bool".as_slice()
 }
 
-/// The type that a function takes or gives.
+/// Returns the name of a type that a function takes or gives.
 pub(crate) fn shape_text(shape: Shape) -> &'static [u8] {
     match shape {
         Shape::Bool => b"bool",

@@ -1,9 +1,9 @@
-//! The atoms of the language: how each is written, and what its arguments are.
+//! The atoms of the language: the form of each, and its arguments.
 
 use crate::said::Said;
 use crate::source::text_of;
 
-/// The word of each atom, with its form and what the arguments of the form are.
+/// The word of each atom, with its form and a description of its arguments.
 pub(crate) static ATOMS: [(&str, &str); 21] = [
     ("delta", "`delta`: it never happens"),
     ("tau", "`tau`: it only makes a step"),
@@ -79,7 +79,7 @@ pub(crate) static ATOMS: [(&str, &str); 21] = [
     ),
 ];
 
-/// Says how the atom of this word is written. Of another word nothing is said.
+/// Adds help that shows the form of the atom with this word. If the word isn't an atom's, adds nothing.
 pub fn say_form(said: &mut Said, word: &[u8]) {
     if let Some(form) = text_of(ATOMS.as_slice(), word) {
         said.help("write %", &[form.as_bytes()]);

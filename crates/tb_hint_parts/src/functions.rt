@@ -1,11 +1,11 @@
-//! The functions of the language: what each takes and gives, and which one stands for an operator of other languages.
+//! The functions of the language: their signatures, and the functions that replace operators of other languages.
 
 use crate::said::Said;
 use crate::source::text_of;
 use tb_func::{Signature, function, signature};
 use tb_terms::Name;
 
-/// The functions that stand for the operators of other languages.
+/// The operators of other languages, each with the functions that replace it.
 static OPERATORS: [(&str, &str); 5] = [
     ("<", "`less(x, y)` or `less-equal(x, y)`"),
     (">", "`greater(x, y)` or `greater-equal(x, y)`"),
@@ -14,7 +14,7 @@ static OPERATORS: [(&str, &str); 5] = [
     ("*", "`mul(x, y)`"),
 ];
 
-/// What the function of this name takes and gives, if there is one.
+/// Returns the signature of the function with this name, if there is such a function. If memory runs out, records this in `said`.
 pub fn signature_of(said: &mut Said, word: &[u8]) -> Option<Signature> {
     match Name::from_bytes(said.alloc, word) {
         Ok(Some(name)) => signature_named(&name),
@@ -33,7 +33,7 @@ fn signature_named(name: &Name) -> Option<Signature> {
     }
 }
 
-/// Says which function stands for the operator before this token, if it is the first one behind a `:=`.
+/// Adds help about the operator in the token before this one, if the operator is the second token after a `:=`.
 pub fn say_assigned_operator(said: &mut Said, token: usize) {
     let source = said.source;
     if source.has_before(token, 3, ":=") {
@@ -41,7 +41,7 @@ pub fn say_assigned_operator(said: &mut Said, token: usize) {
     }
 }
 
-/// Says which function stands for this operator. Of another word nothing is said.
+/// Adds help that names the functions to write in place of this operator. If the word isn't an operator of the table, adds nothing.
 pub fn say_functions(said: &mut Said, operator: &[u8]) {
     if let Some(functions) = text_of(OPERATORS.as_slice(), operator) {
         said.help(

@@ -1,4 +1,4 @@
-//! The parts of a message about a rejected script: what the source has around a token, and a message piece by piece.
+//! The parts of a message about a rejected script: the source around a token, and the message piece by piece.
 #![tactic(auto)]
 
 mod forms;

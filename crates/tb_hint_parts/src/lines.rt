@@ -1,15 +1,15 @@
-//! The line of a script, and a mark beneath it.
+//! The line of a script, with a mark beneath it.
 
 use crate::source::between;
 use tb_source_map::Mark;
 use tb_terms::NoMemory;
 use unicode_width::{UnicodeWidthChar, UnicodeWidthStr};
 
-/// How many bytes of a line are shown before its place, at most, and how many from there on.
+/// The greatest number of bytes of a line that are shown before the beginning of the mark, and from there on.
 const MOST_SHOWN: usize = 100;
 
-/// Adds the line of these bytes, and a mark beneath them, each behind a newline. In place of what is too far
-/// from them, there is `..`.
+/// Adds the line of the script on which the mark begins, and below it a line with `^` at the marked bytes. Each line follows a newline.
+/// Two points (`..`) replace the parts of the line that are too far from the beginning of the mark.
 pub(crate) fn push_marked(text: &[u8], mark: Mark, into: &mut Vec<u8>) -> Result<(), NoMemory> {
     let from = mark.from.min(text.len());
     let before = last_line(&text[..from]);
@@ -28,12 +28,13 @@ pub(crate) fn push_marked(text: &[u8], mark: Mark, into: &mut Vec<u8>) -> Result
     push_times(b'^', columns_of(marked).max(1), into)
 }
 
-/// How many points stand for what is left out of a line.
+/// Returns the number of points that replace the bytes of a line outside this part.
 fn cut_of(line: &[u8], part: &[u8]) -> usize {
     if part.len() < line.len() { 2 } else { 0 }
 }
 
-/// The last bytes, from the beginning of a character on.
+/// Returns the last bytes of a line, at most `MOST_SHOWN`, from the beginning of a character on. If no character begins there, returns the
+/// whole line.
 fn last_part(line: &[u8]) -> &[u8] {
     let begin = line.len().saturating_sub(MOST_SHOWN);
     for position in begin..line.len() {
@@ -44,7 +45,8 @@ fn last_part(line: &[u8]) -> &[u8] {
     line
 }
 
-/// The first bytes, up to the end of a character.
+/// Returns the first bytes of a line, at most `MOST_SHOWN`, up to the end of a character. If no character ends there, returns the whole
+/// line.
 fn first_part(line: &[u8]) -> &[u8] {
     if line.len() <= MOST_SHOWN {
         return line;
@@ -57,7 +59,7 @@ fn first_part(line: &[u8]) -> &[u8] {
     line
 }
 
-/// Whether the byte at this position continues a character.
+/// Returns whether the byte at this position continues a character of UTF-8.
 fn is_inner(line: &[u8], position: usize) -> bool {
     matches!(
         between(line, position, position.saturating_add(1)),
@@ -65,7 +67,7 @@ fn is_inner(line: &[u8], position: usize) -> bool {
     )
 }
 
-/// The part after the last newline.
+/// Returns the part after the last newline.
 fn last_line(bytes: &[u8]) -> &[u8] {
     for position in (0..bytes.len()).rev() {
         if bytes[position] == b'\n' {
@@ -75,7 +77,7 @@ fn last_line(bytes: &[u8]) -> &[u8] {
     bytes
 }
 
-/// The part before the first newline, and before the carriage return at its end.
+/// Returns the part before the first newline, without a carriage return at its end.
 fn first_line(bytes: &[u8]) -> &[u8] {
     for (position, byte) in bytes.iter().enumerate() {
         if *byte == b'\n' {
@@ -92,8 +94,7 @@ fn without_return(line: &[u8]) -> &[u8] {
     }
 }
 
-/// Adds the bytes, with a space in place of a carriage return, and `?` in place of other control characters. A tab
-/// stays.
+/// Adds the bytes, with a space in place of a carriage return, and `?` in place of other control characters. Tabs remain.
 fn push_shown(bytes: &[u8], into: &mut Vec<u8>) -> Result<(), NoMemory> {
     for byte in bytes {
         into.push(shown(*byte))?;

@@ -1,4 +1,4 @@
-//! The name among several that is nearest to another.
+//! A search for the name among several that is nearest to another.
 
 use crate::forms::ATOMS;
 use crate::said::Said;
@@ -7,10 +7,10 @@ use crate::source::{Source, is_upper};
 use std::alloc::Global;
 use strsim::osa_distance;
 
-/// Longer names are compared with none.
+/// The greatest length of a name that is compared. Longer names are never near.
 const MOST_BYTES: usize = 64;
 
-/// A name, and the nearest to it so far.
+/// A name, and the nearest to it of the names that were offered so far.
 #[derive(Drop)]
 pub struct Near<'a> {
     alloc: Global,
@@ -22,7 +22,8 @@ pub struct Near<'a> {
 }
 
 impl<'a> Near<'a> {
-    /// A name is near that differs in a third of the bytes and one, at most, and in less than a half.
+    /// Begins a search for the name that is nearest to `name`. Another name is near only if its edit distance to `name` is less than half
+    /// of the length of `name`, and at most a third of this length (rounded down) plus 1.
     pub fn to(alloc: Global, name: &'a [u8]) -> Near<'a> {
         let third = name.len() / 3;
         let half = name.len() - name.len() / 2;
@@ -35,7 +36,7 @@ impl<'a> Near<'a> {
         }
     }
 
-    /// Takes the other name, if it is nearer than those before.
+    /// Compares the other name, and keeps it if it is nearer than the names before.
     fn offer(&mut self, other: &'a [u8]) {
         if self.name.len() > MOST_BYTES || other.len() > MOST_BYTES {
             return;
@@ -77,7 +78,7 @@ impl<'a> Near<'a> {
         }
     }
 
-    /// Offers each name that is defined with this keyword.
+    /// Offers each name that a definition with this keyword defines.
     pub fn offer_definitions(&mut self, source: &Source<'a>, keyword: &str) {
         for position in 0..source.tokens.len() {
             if source.has_before(position, 1, keyword) {
@@ -111,12 +112,12 @@ impl<'a> Near<'a> {
         }
     }
 
-    /// Whether a name is near.
+    /// Returns whether a near name was offered.
     pub fn has_found(&self) -> bool {
         !self.best.is_empty()
     }
 
-    /// Asks whether the nearest name was meant, if there is one.
+    /// Adds help that asks whether the nearest name was meant, if there is one.
     pub fn ask(&self, said: &mut Said) {
         if self.lacks {
             said.lack();

@@ -6,11 +6,10 @@ use crate::source::{Source, is_upper};
 use std::alloc::Global;
 use tb_terms::NoMemory;
 
-/// No more variables are listed.
+/// The greatest number of variables that are listed.
 const MOST_LISTED: usize = 8;
 
-/// Adds help that lists the variables that are known at this token, with their types. If there are none, nothing is
-/// said.
+/// Adds help that lists the variables that are known at this token, with their types. If there are none, adds nothing.
 pub fn say_known(said: &mut Said, token: usize) {
     let source = said.source;
     let listed = match known_at(said.alloc, &source, token) {
@@ -22,7 +21,8 @@ pub fn say_known(said: &mut Said, token: usize) {
     }
 }
 
-/// The tokens that declare the variables that are known at this token, in their order. Of many, the innermost ones.
+/// Returns the tokens that declare the variables known at this token, in the order of the script. If there are more than `MOST_LISTED`,
+/// the variables of inner scopes take precedence.
 fn known_at(alloc: Global, source: &Source, token: usize) -> Result<Vec<usize>, NoMemory> {
     let mut known = Vec::new(alloc);
     let mut inner = token;
@@ -37,7 +37,7 @@ fn known_at(alloc: Global, source: &Source, token: usize) -> Result<Vec<usize>, 
     Ok(known)
 }
 
-/// Adds the tokens at which this `let` or `process` declares variables that are known at a token.
+/// Adds the tokens at which this `let` or `process` declares variables that are known at `token`.
 fn add_declared(
     source: &Source,
     scope: usize,
@@ -55,7 +55,7 @@ fn add_declared(
     Ok(())
 }
 
-/// Whether the variable that is declared at the first of these tokens is known at the second one.
+/// Returns whether the variable that is declared at `declared` is known at `token`.
 fn is_known(source: &Source, declared: usize, token: usize) -> bool {
     let name = source.word(declared);
     match declaration_of(source, token, name) {

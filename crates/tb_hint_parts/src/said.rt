@@ -1,4 +1,4 @@
-//! A message, piece by piece.
+//! A message that is built piece by piece.
 
 use crate::lines::push_marked;
 use crate::scan::{push_parameters, push_type};
@@ -9,11 +9,13 @@ use tb_fault_place::write_place;
 use tb_source_map::{Mark, mark_at};
 use tb_terms::NoMemory;
 
-/// What is said of a script: a sentence, and the lines after it. If memory runs out at a piece, the message lacks this
-/// piece, and `joined` returns `NoMemory`.
+/// A message about a script: a sentence, and the lines after it. If memory runs out at a piece, the message lacks this piece, and `joined`
+/// returns `NoMemory`.
 #[derive(Drop)]
 pub struct Said<'a> {
+    /// The allocator of the message.
     pub alloc: Global,
+    /// The script that the message is about.
     pub source: Source<'a>,
     sentence: Vec<u8>,
     /// The lines after the sentence and its mark. Each follows a newline.
@@ -23,7 +25,7 @@ pub struct Said<'a> {
 }
 
 impl<'a> Said<'a> {
-    /// Nothing is said yet.
+    /// Returns an empty message.
     pub fn new(alloc: Global, source: Source<'a>) -> Said<'a> {
         Said {
             alloc,
@@ -34,14 +36,14 @@ impl<'a> Said<'a> {
         }
     }
 
-    /// Adds the template to the sentence, with the parts in place of its `%`, in order.
+    /// Adds the template to the sentence. Each `%` of the template is replaced by the next of the parts.
     pub fn say(&mut self, template: &str, parts: &[&[u8]]) {
         if fill(template, parts, &mut self.sentence).is_err() {
             self.lack();
         }
     }
 
-    /// Adds the type to the sentence with which the name at this token is declared.
+    /// Adds to the sentence the type that the declaration at this token gives its name.
     pub fn say_type(&mut self, declared: usize) {
         let source = self.source;
         if push_type(&source, declared, &mut self.sentence).is_err() {
@@ -55,7 +57,7 @@ impl<'a> Said<'a> {
         self.say("%", &[buffer.format(number).as_bytes()]);
     }
 
-    /// Adds a number to the sentence, with a comma before each three digits.
+    /// Adds a number to the sentence, with a comma before each group of three digits.
     pub fn say_grouped(&mut self, number: usize) {
         let mut buffer = Buffer::new();
         let digits = buffer.format(number).as_bytes();
@@ -70,7 +72,7 @@ impl<'a> Said<'a> {
         }
     }
 
-    /// Adds how many there are to the sentence.
+    /// Adds a number and this noun to the sentence, with an `s` unless the number is 1.
     pub fn say_count(&mut self, number: usize, noun: &str) {
         self.say_number(number);
         self.say(" %", &[noun.as_bytes()]);
@@ -79,14 +81,14 @@ impl<'a> Said<'a> {
         }
     }
 
-    /// Adds a line of help likewise.
+    /// Adds a line of help. Each `%` of the template is replaced by the next of the parts.
     pub fn help(&mut self, template: &str, parts: &[&[u8]]) {
         if push_help(template, parts, &mut self.rest).is_err() {
             self.lack();
         }
     }
 
-    /// Adds a line of help that shows a call of the process whose name is at this token.
+    /// Adds a line of help that shows a call of the process whose name is at this token, with its parameters.
     pub fn help_call(&mut self, definition: usize) {
         let source = self.source;
         if push_call(&source, definition, &mut self.rest).is_err() {
@@ -101,7 +103,7 @@ impl<'a> Said<'a> {
         }
     }
 
-    /// Adds a note at a token likewise, with the line of the script.
+    /// Adds a note at a token, with its place and its line of the script. Each `%` of the template is replaced by the next of the parts.
     pub fn note(&mut self, token: usize, template: &str, parts: &[&[u8]]) {
         let source = self.source;
         if push_note(&source, token, template, parts, &mut self.rest).is_err() {
@@ -109,18 +111,18 @@ impl<'a> Said<'a> {
         }
     }
 
-    /// Makes `joined` return `NoMemory`, since memory ran out at a piece.
+    /// Records that memory ran out at a piece, so that `joined` returns `NoMemory`.
     pub fn lack(&mut self) {
         self.lacks = true;
     }
 
-    /// Whether there is a note, or a line of help.
+    /// Returns whether there is a note or a line of help.
     pub fn has_more(&self) -> bool {
         !self.rest.is_empty()
     }
 
-    /// The sentence, the line of the script with its mark, and the other lines. `NoMemory` also if memory ran out at a
-    /// piece.
+    /// Returns the sentence, the line of the script with its mark, and the other lines. If memory ran out at an earlier piece, this call
+    /// returns `NoMemory`, too.
     pub fn joined(&self, mark: Option<Mark>) -> Result<Vec<u8>, NoMemory> {
         if self.lacks {
             return Err(NoMemory);
@@ -155,7 +157,8 @@ fn push_words(begin: &str, words: &[&'static str], into: &mut Vec<u8>) -> Result
     Ok(())
 }
 
-/// What stands before the word at this position of a list: a comma, or another text before the last word.
+/// Returns the separator before the word at this position of a list: a comma, or `last` before the last word. There is none before the
+/// first word.
 pub fn joint(position: usize, count: usize, last: &'static str) -> &'static str {
     if position == 0 {
         ""
@@ -181,7 +184,7 @@ fn push_note(
     push_marked(source.text, mark, into)
 }
 
-/// Adds the template, with the parts in place of its `%`, in order.
+/// Adds the template. Each `%` of the template is replaced by the next of the parts.
 fn fill(template: &str, parts: &[&[u8]], into: &mut Vec<u8>) -> Result<(), NoMemory> {
     let mut next: usize = 0;
     for byte in template.as_bytes() {

@@ -1,16 +1,18 @@
-//! The surroundings of a token: what it is an argument of, and what is defined and declared there.
+//! The surroundings of a token: the call in which it is an argument, and the definitions and declarations there.
 
 use crate::source::{Source, is_upper};
 use tb_terms::NoMemory;
 
-/// What a token is an argument of, and its number from 0.
+/// The token before the bracket around an argument, and the number of the argument, from 0.
 #[derive(Clone, Copy)]
 pub struct Head {
+    /// The token before the bracket: the name of a call, an atom or a term, if the bracket follows one.
     pub token: usize,
+    /// The number of the argument, from 0.
     pub argument: usize,
 }
 
-/// What the expression that begins at this token is an argument of.
+/// Returns the token before the innermost bracket that is open before `token`, and the number of the argument that begins at `token`.
 pub fn head_of(source: &Source, token: usize) -> Option<Head> {
     let mut depth: usize = 0;
     let mut argument: usize = 0;
@@ -31,7 +33,7 @@ pub fn head_of(source: &Source, token: usize) -> Option<Head> {
     None
 }
 
-/// How many arguments follow this token.
+/// Returns the number of arguments in the parentheses after this token: 0 if there are no parentheses, and 1 if they are empty.
 pub fn count_arguments(source: &Source, token: usize) -> usize {
     if !source.is(token.saturating_add(1), "(") {
         return 0;
@@ -54,7 +56,7 @@ pub fn count_arguments(source: &Source, token: usize) -> usize {
     count
 }
 
-/// The token of the name in the first definition that has this keyword and this name.
+/// Returns the token of the name in the first definition with this keyword and this name.
 pub fn definition_of(source: &Source, keyword: &str, name: &[u8]) -> Option<usize> {
     for position in 0..source.tokens.len() {
         if source.word(position) == name && source.has_before(position, 1, keyword) {
@@ -64,7 +66,7 @@ pub fn definition_of(source: &Source, keyword: &str, name: &[u8]) -> Option<usiz
     None
 }
 
-/// The token of the parameter with this number, from 0, of the process whose name is at this token.
+/// Returns the token of the parameter with this number, from 0, of the process whose name is at `definition`.
 pub fn parameter_of(source: &Source, definition: usize, number: usize) -> Option<usize> {
     let mut left = number;
     for position in definition.saturating_add(1)..source.tokens.len() {
@@ -82,7 +84,7 @@ pub fn parameter_of(source: &Source, definition: usize, number: usize) -> Option
     None
 }
 
-/// How many parameters the process has whose name is at this token.
+/// Returns the number of parameters of the process whose name is at `definition`.
 pub fn count_parameters(source: &Source, definition: usize) -> usize {
     let mut count: usize = 0;
     for position in definition.saturating_add(1)..source.tokens.len() {
@@ -97,12 +99,12 @@ pub fn count_parameters(source: &Source, definition: usize) -> usize {
     count
 }
 
-/// Whether the parameter at this token is a result parameter.
+/// Returns whether the parameter at this token is a result parameter.
 pub fn is_result(source: &Source, parameter: usize) -> bool {
     source.is(type_end(source, parameter), "?")
 }
 
-/// Adds the type with which the name at this token is declared.
+/// Adds the type that the declaration at this token gives its name.
 pub(crate) fn push_type(
     source: &Source,
     declared: usize,
@@ -146,7 +148,7 @@ fn push_parameter(source: &Source, parameter: usize, into: &mut Vec<u8>) -> Resu
     Ok(())
 }
 
-/// The token after the type of the name at this token.
+/// Returns the token after the type that the declaration at this token gives its name.
 fn type_end(source: &Source, declared: usize) -> usize {
     let mut depth: usize = 0;
     for position in declared.saturating_add(2)..source.tokens.len() {
@@ -165,8 +167,8 @@ fn type_end(source: &Source, declared: usize) -> usize {
     source.tokens.len()
 }
 
-/// The innermost `let` or `process` whose variables are known at this token. `None` in a tool and in
-/// `toolbus(..)`.
+/// Returns the token of the innermost `let` or `process` whose variables are known at this token. Returns `None` if there is none, for
+/// example in a tool's definition and in `toolbus(..)`.
 pub fn scope_of(source: &Source, token: usize) -> Option<usize> {
     if source.is(token, "process") {
         return None;
@@ -191,7 +193,7 @@ pub fn scope_of(source: &Source, token: usize) -> Option<usize> {
     None
 }
 
-/// The first token at which a `let` or a `process` can declare a variable.
+/// Returns the first token at which this `let` or `process` can declare a variable.
 pub(crate) fn first_declared(source: &Source, scope: usize) -> usize {
     if source.is(scope, "process") {
         return scope.saturating_add(2);
@@ -199,7 +201,7 @@ pub(crate) fn first_declared(source: &Source, scope: usize) -> usize {
     scope.saturating_add(1)
 }
 
-/// The token at which the variable of this name is declared that is known at this token.
+/// Returns the token that declares the variable with this name which is known at `token`.
 pub fn declaration_of(source: &Source, token: usize, name: &[u8]) -> Option<usize> {
     let mut inner = token;
     for _turn in 0..source.tokens.len() {
@@ -212,7 +214,7 @@ pub fn declaration_of(source: &Source, token: usize, name: &[u8]) -> Option<usiz
     None
 }
 
-/// The token at which this `let` or `process` declares the name.
+/// Returns the first token at which this `let` or `process` declares the name.
 pub fn declared_in(source: &Source, scope: usize, name: &[u8]) -> Option<usize> {
     for position in first_declared(source, scope)..source.tokens.len() {
         let word = source.word(position);

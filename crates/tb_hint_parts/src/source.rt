@@ -1,4 +1,4 @@
-//! A script as the texts of its tokens.
+//! A script, and the texts of its tokens.
 
 use sqlite_items::at;
 use tb_lex::Token;
@@ -6,13 +6,16 @@ use tb_lex::Token;
 /// A script, its tokens, and the name of its file.
 #[derive(Clone, Copy)]
 pub struct Source<'a> {
+    /// The name of the file.
     pub name: &'a str,
+    /// The bytes of the script.
     pub text: &'a [u8],
+    /// The tokens of the script.
     pub tokens: &'a [Token<'a>],
 }
 
 impl<'a> Source<'a> {
-    /// The text of a token. After all tokens it is empty.
+    /// Returns the text of a token. After the last token, the text is empty.
     pub fn word(&self, token: usize) -> &'a [u8] {
         match at(self.tokens, token) {
             Some(token) => between(self.text, token.from, token.to),
@@ -20,12 +23,12 @@ impl<'a> Source<'a> {
         }
     }
 
-    /// Whether a token has this text.
+    /// Returns whether a token has this text.
     pub fn is(&self, token: usize, word: &str) -> bool {
         self.word(token) == word.as_bytes()
     }
 
-    /// Whether the token so many before this one has this text.
+    /// Returns whether the token `back` places before this one has this text.
     pub fn has_before(&self, token: usize, back: usize, word: &str) -> bool {
         match token.checked_sub(back) {
             Some(earlier) => self.is(earlier, word),
@@ -34,7 +37,7 @@ impl<'a> Source<'a> {
     }
 }
 
-/// Whether a word is one of these.
+/// Returns whether a word is one of these words.
 pub fn is_among(words: &[&'static str], word: &[u8]) -> bool {
     for each in words {
         if each.as_bytes() == word {
@@ -44,7 +47,7 @@ pub fn is_among(words: &[&'static str], word: &[u8]) -> bool {
     false
 }
 
-/// The text of this word in a table.
+/// Returns the text of this word in a table.
 pub fn text_of(
     table: &'static [(&'static str, &'static str)],
     word: &[u8],
@@ -57,18 +60,18 @@ pub fn text_of(
     None
 }
 
-/// The bytes from one position to before another, as far as there are any.
+/// Returns the bytes from position `from` to before position `to`, as far as the text has them.
 pub fn between(text: &[u8], from: usize, to: usize) -> &[u8] {
     let to = to.min(text.len());
     &text[from.min(to)..to]
 }
 
-/// Whether a word begins with an upper-case letter.
+/// Returns whether a word begins with an upper-case letter of ASCII.
 pub fn is_upper(word: &[u8]) -> bool {
     matches!(word, [b'A'..=b'Z', ..])
 }
 
-/// Whether a word begins with a lower-case letter.
+/// Returns whether a word begins with a lower-case letter of ASCII.
 pub fn is_lower(word: &[u8]) -> bool {
     matches!(word, [b'a'..=b'z', ..])
 }

@@ -1,4 +1,5 @@
--- The items that a step queues on the lanes for tools, and which step of a trace queued a line that the trace sends later.
+-- The lines that a step queues on the lanes for tools, with the items after them, and the step of a trace that queued a line which the
+-- trace sends later.
 use Rattle.std.specs.Prelude.{◌≡◌, ◌⊎◌, ℕ, List, [], ◌∷◌, ◌++◌, IsTrue, Contains, codes, if◌then◌else◌}
 use Rattle.std.specs.Str.{bytes_eq}
 use Rattle.tb_terms.specs.declared.term.Term.{Term}
@@ -20,17 +21,18 @@ use Rattle.tb_bus.specs.declared.origin.Origin.{Origin}
 use Rattle.tb_iface.specs.Hearing.{MatchesOne}
 use Rattle.tb_iface.specs.Interfaces.{to_of}
 
--- a line with this word for the tool that is the first of these terms, with the other terms as its parts, and the items after it: on
--- the lane of this tool
+-- The items that a step queues on a lane for the tool that is the first of its terms: a line with this word and the other terms, and then
+-- the items `behind`. If the lane doesn't have this tool, there are none.
 abbrev pub to_tool : List ℕ → List Out → List Term → Lane → List Out
 to_tool word behind [] lane = []
 to_tool word behind (tool ∷ parts) lane = if has_tool tool lane then tool_line word parts ∷ behind else []
 
--- the reason of a shutdown, and the lane's end: on each lane that is up and hasn't ended
+-- the items that a shutdown queues on a lane that is up and hasn't ended: the line with the reason, and the lane's end
 abbrev pub to_all : List Term → Lane → List Out
 to_all reason lane = if is_open lane then tool_line (codes "rec-terminate") reason ∷ End ∷ [] else []
 
--- The items that a step with these terms queues on a lane that has this state before it: one equation for each kind of step.
+-- The line that a step with these terms queues on a lane, and the items after it, by the lane's state before the step: one equation for
+-- each kind of step. A step without a line has none; `execute` queues a start, which isn't listed here.
 abbrev pub puts_as : LabelKind → List Term → Lane → List Out
 puts_as kind.SndEval terms lane = to_tool (codes "rec-eval") [] terms lane
 puts_as kind.SndDo terms lane = to_tool (codes "rec-do") [] terms lane
@@ -45,7 +47,8 @@ puts_as _ terms lane = []
 abbrev pub puts : Label → Lane → List Out
 puts label lane = puts_as label.kind label.terms lane
 
--- A step queues a line on this lane: the line is one of the items that such a step queues there, and exactly these come to the end of the lane's queue.
+-- The step queues the line on the lane: the line is one of the step's items for the lane, and the step appends exactly these items to the
+-- lane's queue.
 pub record Puts (bus : Bus) (label : Label) (lane : ℕ) (term : Term) : Type 0 where
   pub is : Contains (puts label (lane_at lane bus.bench)) (Line term)
   pub at_end : outs_at lane (after bus (Did label)).bench ≡ outs_at lane bus.bench ++ puts label (lane_at lane bus.bench)
@@ -58,11 +61,11 @@ pub record WasPut (origin : Origin) (log : List Entry) (lane : ℕ) (term : Term
   pub is : log ≡ before ++ Did label ∷ rest
   pub puts : Puts (replay (start origin) before) label lane term
 
--- The items that a step queues on a lane are for a tool of this name: the bus shuts down, which is sent to every tool, or the lane has such a tool.
+-- The items that a step queues on a lane are for a tool of this name: the bus shuts down at the step, or the lane has a tool of this name.
 abbrev pub IsFor : List ℕ → Label → Lane → Type 0
 IsFor tool label lane = TakesDown label.kind ⊎ IsTrue (of_tool (λ (it : Tool). bytes_eq it.name tool) lane.tool)
 
--- A step of this log queued the line on this lane. The line is for a tool, and matches a `to` pattern of each tool that it is for.
+-- A step of this log queued the line on this lane. The line is for a tool. It matches a `to` pattern of each tool that it is for.
 pub record WasPutAsListed (origin : Origin) (log : List Entry) (lane : ℕ) (term : Term) : Type 0 where
   pub put : WasPut origin log lane term
   pub whose : (tool : List ℕ) × IsFor tool put.label (lane_at lane (replay (start origin) put.before).bench)

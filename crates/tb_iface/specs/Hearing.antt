@@ -1,4 +1,4 @@
--- The lines that a tool receives by a log, and the lines that the log takes from it.
+-- The lines that a tool receives by a log, and the lines that the program takes from the tool by the log.
 use Rattle.std.specs.Prelude.{ℕ, List, [], ◌∷◌, Contains, IsSome, codes, if◌then◌else◌}
 use Rattle.std.specs.List.{flat_map}
 use Rattle.tb_terms.specs.declared.term.Term.{Term}
@@ -12,12 +12,12 @@ use Rattle.tb_log.specs.declared.entry.Entry.TheVariants.{Did, Quiet, Fed, Gave}
 use Rattle.tb_log.specs.declared.entry.LabelKind.{LabelKind}
 use Rattle.tb_log.specs.declared.entry.LabelKind.TheVariants as kind
 
--- a line with this word and the terms after the first, if the first is a tool of this name
+-- the line with this word and all terms except the first, if the first term is a tool of this name
 abbrev pub line_if : List ℕ → List ℕ → List Term → List Term
 line_if tool word [] = []
 line_if tool word (first ∷ terms) = if has_sort first (Tool tool) then Appl word terms ∷ [] else []
 
--- the reason of a shutdown
+-- the line with the reason of a shutdown
 abbrev pub last_line : List Term → List Term
 last_line reason = Appl (codes "rec-terminate") reason ∷ []
 
@@ -32,7 +32,7 @@ told_as tool kind.Finish terms = last_line (Appl (codes "finish") [] ∷ [])
 told_as tool kind.Halt terms = last_line (Appl (codes "halt") [] ∷ [])
 told_as tool _ terms = []
 
--- The line that the step takes from such a tool.
+-- The line that a step with these terms takes from a tool of this name: one equation for each kind of step.
 abbrev pub heard_as : List ℕ → LabelKind → List Term → List Term
 heard_as tool kind.RecValue terms = line_if tool (codes "snd-value") terms
 heard_as tool kind.RecEvent terms = line_if tool (codes "snd-event") terms
@@ -56,11 +56,11 @@ heard_by tool (Gave lane out) = []
 abbrev pub told : List ℕ → List Entry → List Term
 told tool log = flat_map (told_by tool) log
 
--- The lines that the log takes from it, in order.
+-- The lines that the program takes from a tool of this name by a log, in order.
 abbrev pub heard : List ℕ → List Entry → List Term
 heard tool log = flat_map (heard_by tool) log
 
--- a term matches one of these patterns
+-- the term matches one of these patterns
 pub record MatchesOne (patterns : List Pattern) (term : Term) : Type 0 where
   pub pattern : Pattern
   pub among : Contains patterns pattern

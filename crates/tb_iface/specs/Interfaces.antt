@@ -1,4 +1,5 @@
--- The interface of a tool, from the program alone: the lines that it may receive, and the lines of it that a process may take.
+-- The interface of a tool, from the program alone: the patterns of the lines that the tool may receive, and of the lines that a process may
+-- take from the tool.
 use Rattle.std.specs.Prelude.{ℕ, List, [], ◌∷◌, ◌++◌, map, Bool, Option, Some, None, find, fold, slice_get, codes, if◌then◌else◌}
 use Rattle.std.specs.List.{flat_map, list_any}
 use Rattle.std.specs.Str.{bytes_eq}
@@ -22,11 +23,11 @@ use Rattle.tb_iface.specs.declared.answer.Interface.{Interface}
 abbrev pub line : List ℕ → List Pattern → List Pattern
 line word parts = pattern.Appl word parts ∷ []
 
--- the line of an atom whose first argument is this, if this may be the tool
+-- the line with this word and the outlines of these expressions, if the first argument of the atom may be the tool
 abbrev pub line_if : List ℕ → List Sort → Expr → List ℕ → List Expr → List Pattern
 line_if tool sorts first word parts = if may_be tool (outline sorts first) then line word (map (outline sorts) parts) else []
 
--- The lines that an atom may send to a tool of this name, in a body whose slots have these sorts.
+-- The line that an atom may send to a tool of this name, in a body whose slots have these types.
 abbrev pub tells : List ℕ → List Sort → Act → List Pattern
 tells tool sorts (SndEval first expr) = line_if tool sorts first (codes "rec-eval") (expr ∷ [])
 tells tool sorts (SndDo first expr) = line_if tool sorts first (codes "rec-do") (expr ∷ [])
@@ -36,7 +37,7 @@ tells tool sorts (SndTerminate first expr) = line_if tool sorts first (codes "re
 tells tool sorts (Shutdown reason) = line (codes "rec-terminate") (outline sorts reason ∷ [])
 tells tool sorts _ = []
 
--- The lines that an atom may take from such a tool, in a program with these kinds of tools.
+-- The line that an atom may take from a tool of this name, in a program that declares these tools.
 abbrev pub hears : List ToolKind → List ℕ → List Sort → Act → List Pattern
 hears kinds tool sorts (RecValue first expr) = line_if tool sorts first (codes "snd-value") (expr ∷ [])
 hears kinds tool sorts (RecEvent first exprs) = line_if tool sorts first (codes "snd-event") exprs
@@ -48,14 +49,14 @@ hears kinds tool sorts _ = []
 abbrev pub of_atoms : (List Sort → Act → List Pattern) → List Body → List Pattern
 of_atoms lines bodies = flat_map (λ (body : Body). flat_map (λ (atom : Atom). lines body.sorts atom.act) body.atoms) bodies
 
--- the bus shuts down if no process is left, or if no process can do anything any more
+-- the lines if the bus shuts down by itself: `finish` if no process is left, `halt` if no atom can happen and no more ticks come
 abbrev pub last_lines : List Pattern
 last_lines = line (codes "rec-terminate") (pattern.Appl (codes "finish") [] ∷ []) ++ line (codes "rec-terminate") (pattern.Appl (codes "halt") [] ∷ [])
 
 abbrev pub is_same_pattern : Pattern → Pattern → Bool
 is_same_pattern = is_same pattern_row.the_row.coded
 
--- a pattern after others, unless it is among them
+-- the patterns with this one at the end, unless they have it already
 abbrev pub with_new : List Pattern → Pattern → List Pattern
 with_new patterns pattern = if list_any (is_same_pattern pattern) patterns then patterns else patterns ++ pattern ∷ []
 
@@ -63,11 +64,11 @@ with_new patterns pattern = if list_any (is_same_pattern pattern) patterns then 
 abbrev pub once : List Pattern → List Pattern
 once = fold with_new []
 
--- The lines that a tool of this name may receive.
+-- The patterns of the lines that a tool of this name may receive.
 abbrev pub to_of : Program → List ℕ → List Pattern
 to_of program tool = once (of_atoms (tells tool) program.bodies ++ last_lines)
 
--- The lines of it that a process may take.
+-- The patterns of the lines that a process may take from a tool of this name.
 abbrev pub from_of : Program → List ℕ → List Pattern
 from_of program tool = once (of_atoms (hears program.tools tool) program.bodies)
 

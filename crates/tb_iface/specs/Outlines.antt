@@ -1,4 +1,4 @@
--- The outline of an expression: the pattern of all values that it may have, by the sorts of its variables alone.
+-- The outline of an expression: a pattern that all its values match. Of the variables in the expression, only the types count.
 use Rattle.std.specs.Prelude.{ℕ, List, [], ◌∷◌, Bool, true, false, slice_get, unwrap_or}
 use Rattle.std.specs.Str.{bytes_eq}
 use Rattle.tb_terms.specs.declared.term.Term.TheVariants as term
@@ -14,28 +14,28 @@ use Rattle.tb_terms.specs.declared.pattern.Pattern.TheVariants as pattern
 use Rattle.tb_func.specs.Fitting.{sort_of}
 use Rattle.tb_func.specs.Functions.{signature_of}
 
--- the sort of a slot
+-- the type of a slot; the type of all terms if there is no such slot
 abbrev pub slot_sort : List Sort → ℕ → Sort
 slot_sort sorts slot = unwrap_or (slice_get sorts slot) sort.Any
 
--- one expression, with the outline of each part in the part's place
+-- the outline of an expression, from the outlines of its parts
 abbrev pub outline_step : List Sort → expr.Expr-F Pattern → Pattern
--- a number and a string are themselves
+-- a number or a string is its own outline
 outline_step sorts (expr.Int number) = pattern.Fixed (term.Int number)
 outline_step sorts (expr.Str bytes) = pattern.Fixed (term.Str bytes)
--- a variable has any value of its sort
+-- a variable or a placeholder has the hole of its type
 outline_step sorts (expr.Var slot) = pattern.Hole (slot_sort sorts slot)
 outline_step sorts (expr.Result slot) = pattern.Hole (slot_sort sorts slot)
 outline_step sorts (expr.Hole sort) = pattern.Hole sort
 outline_step sorts (expr.Appl name parts) = pattern.Appl name parts
--- a function gives any value of its result's sort
+-- a call of a function has the hole of the result's type
 outline_step sorts (expr.Call func parts) = pattern.Hole (sort_of (signature_of func).result)
 outline_step sorts (expr.List parts) = pattern.List parts
 
 abbrev pub outline : List Sort → Expr → Pattern
 outline sorts = fold-Expr Pattern (outline_step sorts)
 
--- a placeholder of this sort may be the tool: one of any term, and that of the tool itself
+-- whether a value of this type may be a tool of this name: the type is that of all terms, or the tool's own
 abbrev pub may_be_sort : List ℕ → layer.Sort-F Sort → Bool
 may_be_sort tool layer.Bool = false
 may_be_sort tool layer.Int = false
@@ -44,7 +44,7 @@ may_be_sort tool (layer.List members) = false
 may_be_sort tool layer.Any = true
 may_be_sort tool (layer.Tool name) = bytes_eq name tool
 
--- so may an application of the tool's name to one part
+-- whether a value with this outline may be a tool of this name: the outline is such a hole, or the tool's name with one argument
 abbrev pub may_be_in : List ℕ → Pattern-F Pattern → Bool
 may_be_in tool (Fixed fixed) = false
 may_be_in tool (Hole sort) = may_be_sort tool (out-Sort sort)

@@ -1,24 +1,24 @@
-//! The answer to a query for a tool's interface.
+//! The interface of a tool, and the errors of `interface`.
 
 use tb_terms::{NoMemory, Patterns, Text};
 
-/// The lines that a tool may receive, and the lines of the tool that a process may take.
+/// The interface of a tool: the lines that the program may send to the tool or take from it.
 #[derive(Drop)]
 pub struct Interface {
     /// The command that starts the tool, if it has one.
     pub command: Option<Text>,
-    /// The lines that the tool may read, each once.
+    /// The patterns of the lines that the tool may receive, each pattern once.
     pub to: Patterns,
-    /// The lines of the tool that a process may take, each once.
+    /// The patterns of the lines that a process may take from the tool, each pattern once.
     pub from: Patterns,
 }
 
-/// Why there is no interface.
+/// The reason why there is no interface.
 #[derive(Clone, Copy, Debug, PartialEq, Eq)]
 pub enum IfaceFault {
     /// The program declares no tool of this name.
     Stranger,
-    /// Out of memory. This says nothing of the program.
+    /// Out of memory. This makes no claim about the program.
     NoMemory,
 }
 

@@ -1,4 +1,4 @@
-//! Theorems on the lines that a trace sends to tools. The calls change nothing: their contracts are the theorems.
+//! Theorems about the lines that a trace sends to tools. The calls change nothing: their contracts are the theorems.
 
 ghost use Rattle.std.specs.Prelude.{◌++◌, ◌∷◌, ℕ, List, Contains};
 ghost use Rattle.tb_terms.specs.declared.term.Term.{Term};
@@ -12,9 +12,8 @@ ghost use Rattle.tb_bus.specs.Traces.{IsTrace, replay};
 ghost use Rattle.tb_iface.specs.Handing.{IsFor, WasPut, WasPutAsListed};
 ghost use Rattle.tb_iface.specs.Hearing.{told};
 
-/// An earlier step of a trace queues each line that the trace sends to a lane. If the bus shuts down at this step, the line
-/// is for every tool. If not, the line is for the tool of the lane. The log says that each tool receives the lines that are
-/// for the tool.
+/// For each line that a trace sends to a lane, an earlier step of the trace queues the line. If the bus shuts down at this step, the
+/// line is for every tool. If not, the line is for the tool of the lane. By the log, each tool that a line is for receives this line.
 pub fn lines_handed_out_were_put()
     ensures put { (origin : Origin) (before rest : List Entry) (lane : ℕ) (term : Term)
         → IsTrace (start origin) (before ++ Gave lane (Line term) ∷ rest)

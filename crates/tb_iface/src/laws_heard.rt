@@ -1,5 +1,5 @@
-//! Theorems on the values that processes store, and on the terms that a tool receives and sends by a log. The calls change
-//! nothing: their contracts are the theorems.
+//! Theorems about the values of variables, and about the terms that a tool receives and sends by a log. The calls change nothing:
+//! their contracts are the theorems.
 
 ghost use Rattle.std.specs.Prelude.{◌≡◌, ℕ, List, Some, IsTrue, Contains, map, slice_get};
 ghost use Rattle.tb_terms.specs.declared.term.Term.{Term};
@@ -26,8 +26,7 @@ pub fn values_have_the_sorts_of_their_slots()
 {}
 
 /// If a log is a trace of the program, each term that a tool receives by the log matches a `to` pattern of the tool's interface.
-/// Each term that the program takes from the tool by the log matches a `from` pattern. The name of a tool represents all tools
-/// of this name.
+/// Each term that the program takes from the tool by the log matches a `from` pattern. All tools of one name count as one tool.
 pub fn told_and_heard_terms_match_the_interface()
     ensures told { (origin : Origin) (log : List Entry) (tool : List ℕ) (term : Term)
         → IsTrace (start origin) log → Contains (told tool log) term

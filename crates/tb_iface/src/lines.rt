@@ -1,4 +1,4 @@
-//! The lines that an act may send to a tool or take from it.
+//! The patterns of the lines that an atom may send to a tool or take from it.
 ghost use Rattle.std.specs.Prelude.{◌≡◌, ◌∷◌, [], IsTrue, IfOk, codes, option_to_list, slice_get};
 ghost use Rattle.tb_bus.specs.Exchanges.{name_of};
 ghost use Rattle.tb_iface.specs.Interfaces.{hears, line, line_if, tells};
@@ -12,7 +12,7 @@ use std::slice;
 use tb_body::{Act, Tool};
 use tb_terms::{Expr, Items, Name, NoMemory, Pattern, Patterns, Sort};
 
-/// Returns the line that the act may send to the tool, if there is one.
+/// Returns the pattern of the line that an atom may send to the tool, if it may send one. `sorts` has the types of the body's slots.
 pub(crate) fn told_line(
     alloc: Global,
     tool: &Name,
@@ -63,7 +63,8 @@ pub(crate) fn told_line(
     }
 }
 
-/// Returns the line that the act may take from the tool, if there is one, in a program with these kinds of tools.
+/// Returns the pattern of the line that an atom may take from the tool, if it may take one. `kinds` has the tools that the program
+/// declares.
 pub(crate) fn heard_line(
     alloc: Global,
     kinds: &[Tool],
@@ -98,7 +99,7 @@ pub(crate) fn heard_line(
     }
 }
 
-/// The line with this word and the outlines of these expressions, if the first argument may be the tool.
+/// Returns the line with this word and the outlines of these expressions, if the first argument of the atom may be the tool.
 fn line_if(
     alloc: Global,
     tool: &Name,
@@ -118,7 +119,7 @@ fn line_if(
     Ok(Some(line(alloc, word, parts)?))
 }
 
-/// The name of this kind of tool.
+/// Returns the name of a declared tool, or the empty name if the index is out of range.
 fn name_at(kinds: &[Tool], kind: u32) -> &[u8]
     ensures { result.now ≡ name_of (slice_get kinds.now kind) }
 {
@@ -128,7 +129,7 @@ fn name_at(kinds: &[Tool], kind: u32) -> &[u8]
     }
 }
 
-/// The line with the reason of a shutdown.
+/// Returns the line that each tool receives if the bus shuts down for this reason.
 pub(crate) fn last_line(alloc: Global, reason: &[u8]) -> Result<Pattern, NoMemory>
     requires { IsTrue (is_name reason.now) }
     ensures { IfOk result (λ it. it ∷ []
@@ -137,7 +138,7 @@ pub(crate) fn last_line(alloc: Global, reason: &[u8]) -> Result<Pattern, NoMemor
     line_of_name(alloc, b"rec-terminate", Name::new(alloc, reason)?)
 }
 
-/// The line with this word and, as its one part, this name.
+/// Returns the line with this word and this name as its only part.
 fn line_of_name(alloc: Global, word: &[u8], name: Name) -> Result<Pattern, NoMemory>
     requires { IsTrue (is_name word.now) }
     ensures { IfOk result (λ it. it ∷ [] ≡ line word.now (pattern.Appl name [] ∷ [])) }
@@ -147,6 +148,7 @@ fn line_of_name(alloc: Global, word: &[u8], name: Name) -> Result<Pattern, NoMem
     line(alloc, word, parts)
 }
 
+/// Returns the line with this word and these parts.
 fn line(alloc: Global, word: &[u8], parts: Patterns) -> Result<Pattern, NoMemory>
     requires { IsTrue (is_name word.now) }
     ensures { IfOk result (λ it. it ∷ [] ≡ line word.now parts) }

@@ -1,4 +1,4 @@
-//! The interface of a tool, computed from a program.
+//! How the interface of a tool is computed from a program.
 
 ghost use Rattle.std.specs.Prelude.{◌≡◌, ◌∷◌, [], None, Some, Err, IfOk, OnOk, find, fold, map, option_to_list};
 ghost use Rattle.std.specs.List.{flat_map, list_any};
@@ -35,7 +35,7 @@ fn kind_named<'a>(kinds: &'a [Tool], name: &Name) -> Option<&'a Tool>
     None
 }
 
-/// The interface of the tool of this name, which is of this kind.
+/// Returns the interface of the tool of this name. `kind` is its declaration.
 fn interface_of_kind(
     alloc: Global,
     program: &Program,
@@ -65,7 +65,7 @@ fn to_of(alloc: Global, program: &Program, tool: &Name) -> Result<Patterns, NoMe
     Ok(to)
 }
 
-/// Adds the lines that every tool may receive if the bus shuts down by itself.
+/// Adds the lines that every tool may receive if the bus shuts down without a `shutdown` of the program, unless they are listed.
 fn add_last(alloc: Global, to: &mut Patterns) -> Result<(), NoMemory>
     ensures { OnOk result (to.new ≡ fold with_new to.old last_lines) }
 {
@@ -74,7 +74,7 @@ fn add_last(alloc: Global, to: &mut Patterns) -> Result<(), NoMemory>
     Ok(())
 }
 
-/// Adds the lines that the atoms of the body may send to the tool.
+/// Adds the patterns of the lines that the atoms of a body may send to the tool, unless they are listed.
 fn add_told(alloc: Global, tool: &Name, body: &Body, to: &mut Patterns) -> Result<(), NoMemory>
     ensures { OnOk result (to.new ≡ fold with_new to.old
         (flat_map (λ atom. tells tool.now body.now.sorts atom.act) body.now.atoms)) }
@@ -98,7 +98,7 @@ fn from_of(alloc: Global, program: &Program, tool: &Name) -> Result<Patterns, No
     Ok(from)
 }
 
-/// Adds the lines that the atoms of the body may take from the tool.
+/// Adds the patterns of the lines that the atoms of a body may take from the tool, unless they are listed.
 fn add_heard(
     alloc: Global,
     kinds: &[Tool],
@@ -127,7 +127,7 @@ fn add_line(line: Option<Pattern>, patterns: &mut Patterns) -> Result<(), NoMemo
     }
 }
 
-/// Adds the pattern, unless it is there.
+/// Adds a pattern, unless it is listed.
 fn add_new(pattern: Pattern, patterns: &mut Patterns) -> Result<(), NoMemory>
     ensures { OnOk result (patterns.new ≡ with_new patterns.old pattern) }
 {

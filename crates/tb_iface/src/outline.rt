@@ -1,4 +1,4 @@
-//! The pattern of all values that an expression may have.
+//! The outline of an expression: a pattern that all values of the expression match.
 ghost use Rattle.std.specs.Prelude.{◌≡◌, IfOk, map};
 ghost use Rattle.tb_func.specs.Fitting.{sort_of};
 ghost use Rattle.tb_iface.specs.Outlines.{may_be, may_be_sort, outline, slot_sort};
@@ -9,7 +9,7 @@ use std::alloc::Global;
 use tb_func::{Shape, signature};
 use tb_terms::{Boxed, Expr, Items, Name, NoMemory, Pattern, Patterns, Sort, Term};
 
-/// Returns the pattern of all values that the expression may have, if the slots have these sorts.
+/// Returns the outline of an expression of a body whose slots have these types.
 #[cycle(outline)]
 pub(crate) fn outline(alloc: Global, expr: &Expr, sorts: &[Sort]) -> Result<Pattern, NoMemory>
     ensures { IfOk result (λ pattern. pattern ≡ outline sorts.now expr.now) }
@@ -29,7 +29,7 @@ pub(crate) fn outline(alloc: Global, expr: &Expr, sorts: &[Sort]) -> Result<Patt
     }
 }
 
-/// The outlines of these expressions, in their order.
+/// Returns the outlines of these expressions, in their order.
 #[cycle(outline)]
 pub(crate) fn outlines(alloc: Global, exprs: &[Expr], sorts: &[Sort]) -> Result<Patterns, NoMemory>
     ensures { IfOk result (λ patterns. patterns ≡ map (outline sorts.now) exprs.now) }
@@ -41,6 +41,7 @@ pub(crate) fn outlines(alloc: Global, exprs: &[Expr], sorts: &[Sort]) -> Result<
     Ok(patterns)
 }
 
+/// Returns the type of a slot, or the type of all terms if there is no such slot.
 fn slot_sort(alloc: Global, sorts: &[Sort], slot: u32) -> Result<Sort, NoMemory>
     ensures { IfOk result (λ sort. sort ≡ slot_sort sorts.now slot) }
 {
@@ -50,6 +51,7 @@ fn slot_sort(alloc: Global, sorts: &[Sort], slot: u32) -> Result<Sort, NoMemory>
     }
 }
 
+/// Returns the type of a function's results.
 fn sort_of(alloc: Global, shape: Shape) -> Result<Sort, NoMemory>
     ensures { IfOk result (λ sort. sort ≡ sort_of shape) }
 {
@@ -75,6 +77,7 @@ pub(crate) fn may_be(tool: &Name, outline: &Pattern) -> bool
     }
 }
 
+/// Returns whether a value of this type may be the tool.
 fn may_be_sort(tool: &Name, sort: &Sort) -> bool
     ensures { result ≡ may_be_sort tool.now (out-Sort sort.now) }
 {

@@ -1,4 +1,4 @@
-//! The text of a pattern, and that of an interface.
+//! How the text of a pattern is written, and the text of an interface.
 ghost use Rattle.std.specs.Prelude.{◌≡◌, ◌++◌, ◌∷◌, [], OnOk, OnErr, codes, map};
 ghost use Rattle.tb_terms.specs.Helpers.Prefixes.{KeepsPrefix, comma_before};
 ghost use Rattle.tb_terms.specs.Texts.{appl_text, joined, list_text};
@@ -7,7 +7,7 @@ ghost use Rattle.tb_iface.specs.PatternTexts.{command_words, interface_text, pat
 use crate::Interface;
 use tb_terms::{Name, NoMemory, Pattern, Sort, Text, push_quoted, write_term};
 
-/// Appends the text of a pattern: that of a term in which each placeholder is its type in angle brackets.
+/// Appends the text of a pattern, in the syntax of terms. A hole is its type in angle brackets.
 pub fn write_pattern(pattern: &Pattern, into: &mut Vec<u8>) -> Result<(), NoMemory>
     ensures ok { OnOk result (into.new.items ≡ into.old.items ++ pattern_text pattern.now) }
     ensures err { OnErr result (into.new.items ≡ into.old.items) }
@@ -22,7 +22,7 @@ pub fn write_pattern(pattern: &Pattern, into: &mut Vec<u8>) -> Result<(), NoMemo
     }
 }
 
-/// Appends the interface of the tool of this name: a line for the tool, then a line for each pattern.
+/// Appends the text of the interface of the tool of this name: a line for the tool, then a line for each pattern.
 pub fn write_interface(
     tool: &Name,
     interface: &Interface,
@@ -97,7 +97,7 @@ fn push_joined(patterns: &[Pattern], into: &mut Vec<u8>) -> Result<(), NoMemory>
     Ok(())
 }
 
-/// The comma before the text at this position of a list.
+/// Appends the comma before the part at this position of a list, unless this part is the first.
 fn push_comma(position: usize, into: &mut Vec<u8>) -> Result<(), NoMemory>
     ensures ok { OnOk result (into.new.items ≡ into.old.items ++ comma_before position) }
     ensures err { OnErr result (into.new.items ≡ into.old.items) }
@@ -133,7 +133,7 @@ fn push_type(sort: &Sort, into: &mut Vec<u8>) -> Result<(), NoMemory>
     }
 }
 
-/// The type of lists whose members have this type.
+/// Appends the type of lists whose members have this type.
 #[cycle(types)]
 fn push_list_type(members: &Sort, into: &mut Vec<u8>) -> Result<(), NoMemory>
     ensures ok { OnOk result
@@ -168,7 +168,7 @@ fn push_interface(tool: &Name, interface: &Interface, into: &mut Vec<u8>) -> Res
     push_lines(b"from ", interface.from.as_slice(), into)
 }
 
-/// The line of the tool itself.
+/// Appends the first line of an interface: the tool's name, and its command if it has one.
 fn push_tool(tool: &Name, command: &Option<Text>, into: &mut Vec<u8>) -> Result<(), NoMemory>
     ensures ok { OnOk result (into.new.items
         ≡ into.old.items ++ codes "tool " ++ tool.now ++ command_words command.now ++ 10 ∷ []) }
@@ -184,7 +184,7 @@ fn push_tool(tool: &Name, command: &Option<Text>, into: &mut Vec<u8>) -> Result<
     Ok(())
 }
 
-/// Appends a line for each pattern, after this word.
+/// Appends a line for each pattern: this word and the text of the pattern.
 fn push_lines(word: &[u8], patterns: &[Pattern], into: &mut Vec<u8>) -> Result<(), NoMemory>
     ensures ok { OnOk result
         (into.new.items ≡ into.old.items ++ pattern_lines word.now patterns.now) }

@@ -72,7 +72,7 @@ module _ (r : Pairs) (but : List Mark) where
       (λ (same : received ≡ x). ap (has_mark a) same ∙ just other (ap (λ (k : Mark). has r k other) (sym same) ∙ h))
       (meets-cases received x (ap (λ (k : Mark). meets received k) (sym (only-mark x sent e)) ∙ m))
 
-  -- where no open mark is told, nobody receives under one
+  -- if the index doesn't count, no process receives under an open mark
   pub sent-untold : (x : Mark) (a : List Mark) (opened : Bool) → AllOpened opened r → opened ≡ false → ((its : ℕ) → has r x its ≡ true → has_mark a x ≡ true) → SentAreHeard (x ∷ []) but r a
   sent-untold x a opened told none just = sent-checked x a just (λ its h. absurd (not-both opened (told (wide x) its h refl) none))
 
@@ -112,7 +112,7 @@ module _ (s : Pairs) (but : List Mark) where
       (λ (t : has_mark (get_or marks i d ∷ []) received ≡ true). here received sent proc t f h m)
       (or-cases (has_mark (take i marks) received) (has_mark (get_or marks i d ∷ []) received) (sym (list_any-append (is_mark received) (take i marks) (get_or marks i d ∷ [])) ∙ e)))
 
--- nobody sends what is received under the mark
+-- if no process is counted under an open mark, no process sends a message that is received under it
 pub unsent-open : (s c : Pairs) (x : Mark) → x.head ≡ open_head → AreCounted s c → ((its : ℕ) → has c x its ≡ false) → (sent : Mark) (proc : ℕ) → has s sent proc ≡ true → meets x sent ≡ false
 unsent-open s c x is_open counted nobody sent proc h = ⊎_elim
     (λ (m : meets x sent ≡ true). absurd (not-both (has c x proc) (ap (λ (k : Mark). has c k proc) (open-meets x sent is_open m) ∙ counted sent proc h) (nobody proc)))
@@ -125,7 +125,7 @@ unsent-closed s x closed nobody sent proc h = ⊎_elim
     (λ (apart : meets x sent ≡ false). apart)
     (bool-cases (meets x sent))
 
--- so it may go
+-- such a mark needn't stay active
 pub unsent : (s : Pairs) (x : Mark) (a a2 : List Mark) → ((sent : Mark) (proc : ℕ) → has s sent proc ≡ true → meets x sent ≡ false) →
     ((k : Mark) → is_mark k x ≡ false → has_mark a k ≡ true → has_mark a2 k ≡ true) → SentAreKept a a2 s
 unsent s x a a2 nobody others = λ received sent proc e h m. ⊎_elim
@@ -140,7 +140,7 @@ unreceived r x a a2 nobody others = λ received other e h. ⊎_elim
     (λ (apart : is_mark received x ≡ false). others received apart e)
     (bool-cases (is_mark received x))
 
--- what is left of a list without one place
+-- a list has an element with a property, also without an element that doesn't have it
 pub any-without : {X : Type 0} (p : X → Bool) (xs : List X) (i : ℕ) (d : X) → i < length xs → p (get_or xs i d) ≡ false → list_any p (take i xs ++ drop (i + 1) xs) ≡ list_any p xs
 any-without p [] i d l e = absurd (omega arith)
 any-without p (x ∷ xs) zero d l e = sym (ap (λ b. b || list_any p xs) e)
@@ -148,7 +148,7 @@ any-without p (x ∷ xs) (suc i) d l e =
     let on : suc i + 1 ≡ suc (i + 1) = omega arith in
     ap (λ n. list_any p (take (suc i) (x ∷ xs) ++ drop n (x ∷ xs))) on ∙ ap (λ b. p x || b) (any-without p xs i d (omega arith) e)
 
--- counting
+-- the number of terms of a mark
 has-count : (marks : List Mark) (k : Mark) → has_mark marks k ≡ true → has_count marks k.count ≡ true
 has-count marks k e = pairs.any-marked (λ (m : Mark). k.count == m.count) marks k e (same-number k.count)
 
@@ -169,7 +169,7 @@ counted-one c c2 x p says = says x p ∙ pairs.or-right (has c x p) (is_pair x p
 pub counted-kept : (c c2 : Pairs) (x : Mark) (p : ℕ) → ((k : Mark) (its : ℕ) → has c2 k its ≡ (has c k its || is_pair x p k its)) → (k : Mark) (its : ℕ) → has c k its ≡ true → has c2 k its ≡ true
 counted-kept c c2 x p says k its e = says k its ∙ ap (λ b. b || is_pair x p k its) e
 
--- what a process has once marks were added to it
+-- the marks of processes after marks were added to one of them
 module _ (s0 s1 : Pairs) (p : ℕ) (old new : List Mark) (own : AreOf s0 old p) (more : AreAdded s0 s1 new p) where
   pub added-cases : (k : Mark) (i : ℕ) → has s1 k i ≡ true → (has s0 k i ≡ true) ⊎ ((has_mark new k ≡ true) × (i ≡ p))
   added-cases k i e = ⊎_elim
@@ -177,7 +177,7 @@ module _ (s0 s1 : Pairs) (p : ℕ) (old new : List Mark) (own : AreOf s0 old p) 
       (λ (there : (has_mark new k && (i == p)) ≡ true). inr (pairs.both-left (has_mark new k) (i == p) there, eqb-true i p (pairs.both-right (has_mark new k) (i == p) there)))
       (or-cases (has s0 k i) (has_mark new k && (i == p)) (sym (more k i) ∙ e))
 
-  -- somebody had it, or it is new
+  -- some process had the mark before, or it is a new one that the process didn't have
   pub old-or-new : (k : Mark) (i : ℕ) → has s1 k i ≡ true → ((j : ℕ) × (has s0 k j ≡ true)) ⊎ ((has_mark new k ≡ true) × (has_mark old k ≡ false))
   old-or-new k i e = ⊎_elim
       (λ (before : has s0 k i ≡ true). inl (i, before))
@@ -207,7 +207,7 @@ come-heard s0 s1 r0 r1 p old new gone came l l2 own its more others heard kept s
     (λ (fresh : (has_mark new sent ≡ true) × (has_mark old sent ≡ false)). sent_heard received sent other fresh.0 fresh.1 g m)
     (old-or-new s0 s1 p old new own more sent proc h)
 
--- the same pairs are heard and counted alike
+-- for the same pairs, the same marks must be active
 pub same-heard : (s0 s2 r0 r2 : Pairs) (l l2 : List Mark) → SamePairs s0 s2 → SamePairs r0 r2 → AreHeard s0 r0 l → AreKept l l2 → AreHeard s2 r2 l2
 same-heard s0 s2 r0 r2 l l2 same equal heard kept = λ received sent proc other h g m.
     kept received (heard received sent proc other (sym (same sent proc) ∙ h) (sym (equal received other) ∙ g) m)
@@ -215,11 +215,11 @@ same-heard s0 s2 r0 r2 l l2 same equal heard kept = λ received sent proc other 
 pub same-counted : (s0 s2 c c2 : Pairs) → SamePairs s0 s2 → AreCounted s0 c → ((k : Mark) (i : ℕ) → has c k i ≡ true → has c2 k i ≡ true) → AreCounted s2 c2
 same-counted s0 s2 c c2 same counted kept = λ k i h. kept (wide k) i (counted k i (sym (same k i) ∙ h))
 
--- where there are no marks none is removed
+-- if there are no marks, none is removed
 pub none-removed : (s : Pairs) (marks others : List Mark) (p : ℕ) → marks ≡ [] → AreRemoved s s marks others p
 none-removed s marks others p e = λ k i. sym (pairs.and-true (has s k i)) ∙ ap (λ (some : List Mark). has s k i && not ((has_mark some k && not (has_mark others k)) && (i == p))) (sym e)
 
--- where marks were removed
+-- the pairs after marks were removed
 module _ (s1 s2 : Pairs) (p : ℕ) (marks others : List Mark) (less : AreRemoved s1 s2 marks others p) where
   pub left : (k : Mark) (i : ℕ) → has s2 k i ≡ true → has s1 k i ≡ true
   left k i e = pairs.gone-less (has s2 k i) (has s1 k i) ((has_mark marks k && not (has_mark others k)) && (i == p)) (less k i) e
@@ -232,7 +232,7 @@ pub left-heard : (s1 s2 r1 r2 : Pairs) (l1 l2 l3 : List Mark) → AreHeard s1 r1
 left-heard s1 s2 r1 r2 l1 l2 l3 heard sent_left received_left sent_kept received_kept = λ received sent proc other h g m.
     received_kept received other (sent_kept received sent proc (heard received sent proc other (sent_left sent proc h) (received_left received other g) m) h m) g
 
--- one mark more is counted
+-- one more mark is counted
 pub count-more : (marks but : List Mark) (i : ℕ) (d : Mark) (c c2 : Pairs) (p : ℕ) → i < length marks →
     ((m : Mark) → has_mark (take i marks) m ≡ true → has_mark but m ≡ false → has c (wide m) p ≡ true) → ((k : Mark) (its : ℕ) → has c k its ≡ true → has c2 k its ≡ true) →
     (has_mark but (get_or marks i d) ≡ false → has c2 (wide (get_or marks i d)) p ≡ true) →
@@ -260,12 +260,12 @@ counted-pair c m p t e h =
     let count : t.0 ≡ m.count = eqb-true t.0 m.count (pairs.both-left (t.0 == m.count) (t.1 == m.head) (pairs.both-left ((t.0 == m.count) && (t.1 == m.head)) (t.2 == p) same)) in
     ap (λ n. has c (record { count = n; head = open_head }) p) (sym count) ∙ ap (has c (record { count = t.0; head = open_head })) (sym proc) ∙ h
 
--- where none is open, each that is open is told
+-- if no mark is open, the index needn't count
 pub none-open : (opened : Bool) (marks : List Mark) → has_open marks ≡ false → AreOpened opened marks
 none-open opened marks none = λ mark e is_open. absurd (not-both (has_open marks)
     (pairs.any-marked (λ (m : Mark). m.head == open_head) marks mark e (ap (λ n. n == open_head) is_open)) none)
 
--- nobody receives under an open mark that isn't told
+-- after new marks were added, the index still counts if some process receives under an open mark
 pub come-opened : (o o2 : Bool) (r0 r1 : Pairs) (p : ℕ) (new : List Mark) → AllOpened o r0 → (o ≡ true → o2 ≡ true) → AreOpened o2 new → AreAdded r0 r1 new p → AllOpened o2 r1
 come-opened o o2 r0 r1 p new all kept marks more = λ mark proc e is_open. ⊎_elim
     (λ (before : has r0 mark proc ≡ true). kept (all mark proc before is_open))

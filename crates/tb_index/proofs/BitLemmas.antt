@@ -7,14 +7,14 @@ use Rattle.std.proofs.Math.Nat.{div-div-eq-div-mul}
 use Rattle.std.specs.Int.{bit_at}
 use Rattle.tb_index.specs.Helpers.Bits.{bit_in, IsNextBit, IsTwoRows}
 
--- a word that is written is read there
+-- a written word is read at its place
 pub bit_in-written : (words : List ℕ) (n v : ℕ) → n / 64 < length words → bit_in (slice_set words (n / 64) v) n ≡ bit_at v (n % 64)
 bit_in-written words n v l = ap (λ w. bit_at w (n % 64)) (get_or-set_same words (n / 64) v 0 l)
 
 pub bit_in-apart : (words : List ℕ) (n k v : ℕ) → k / 64 ≢ n / 64 → bit_in (slice_set words (n / 64) v) k ≡ bit_in words k
 bit_in-apart words n k v apart = ap (λ w. bit_at w (k % 64)) (get_or-set_other words (n / 64) (k / 64) v 0 apart)
 
--- one bit of a word is another, and its others stay
+-- one bit of a word changes, and the other bits don't
 bit_in-others-by : (words : List ℕ) (n k v : ℕ) → n / 64 < length words → k ≢ n →
     ((i : ℕ) → i < 64 → i ≢ n % 64 → bit_at v i ≡ bit_at (slice_index words (n / 64)) i) → ((k / 64) ≡ (n / 64)) ⊎ ((k / 64) ≢ (n / 64)) → bit_in (slice_set words (n / 64) v) k ≡ bit_in words k
 bit_in-others-by words n k v l apart keeps (inl same) =
@@ -37,7 +37,7 @@ filled (suc word) bit e = omega arith
 pub shifted : (word from i : ℕ) → bit_at (word / 2 ^ from) i ≡ bit_at word (from + i)
 shifted word from i = ap (λ n. n % 2) (div-div-eq-div-mul word (2 ^ from) (2 ^ i) ∙ ap (λ n. word / n) (sym (pow-add 2 from i)))
 
--- the first bit of the word that is left is the first at or behind
+-- the first bit of the shifted word is the first bit from a position on
 pub next-shifted : (word from found : ℕ) → IsNextBit (bit_at (word / 2 ^ from)) 0 (Some found) → IsNextBit (bit_at word) from (Some (from + found))
 next-shifted word from found h = (
   omega arith,
@@ -73,7 +73,7 @@ next-here words from bit h l = (
 abbrev pub Empty : List ℕ → ℕ → ℕ → Type 0
 Empty words from to = (word : ℕ) → from ≤ word → word < to → slice_index words word ≡ 0
 
--- behind a word without a bit the first is that of the first word that isn't 0
+-- after a word, the first bit is that of the next word that isn't 0
 pub next-behind : (words : List ℕ) (at other bit : ℕ) → at < other → Empty words (at + 1) other → IsNextBit (bit_at (slice_index words other)) 0 (Some bit) → bit < 64 →
     IsNextBit (bit_in words) (64 * (at + 1)) (Some (64 * other + bit))
 next-behind words at other bit l empty h small = (
@@ -88,7 +88,7 @@ next-behind words at other bit l empty h small = (
 pub none-behind : (words : List ℕ) (at : ℕ) → ((word : ℕ) → at < word → slice_index words word ≡ 0) → IsNextBit (bit_in words) (64 * (at + 1)) None
 none-behind words at empty = λ k l. ap (λ w. bit_at w (k % 64)) (empty (k / 64) (omega arith)) ∙ bit_at-zero (k % 64)
 
--- behind a place whose word has no bit left, the first is that behind the word
+-- if the rest of a word has no bit, the first bit is the first one after the word
 pub next-on : (words : List ℕ) (from : ℕ) (found : Option ℕ) → IsNextBit (bit_at (slice_index words (from / 64))) (from % 64) None → IsNextBit (bit_in words) (64 * (from / 64 + 1)) found →
     IsNextBit (bit_in words) from found
 next-on words from None empty h = λ k l. ⊎_elim
@@ -136,7 +136,7 @@ rows-inserted low high now above at rows same_low same_high others some set kept
   few_high = let few = rows.few_high in omega arith;
 }
 
--- a word that is empty now isn't marked above
+-- if a word becomes 0, its bit in the upper row is cleared
 pub rows-emptied : (low high now above : List ℕ) (at : ℕ) → IsTwoRows low high → length now ≡ length low → length above ≡ length high →
     ((word : ℕ) → word ≢ at → slice_index now word ≡ slice_index low word) → slice_index now at ≡ 0 →
     bit_in above at ≡ 0 → ((word : ℕ) → word ≢ at → bit_in above word ≡ bit_in high word) → IsTwoRows now above
@@ -154,7 +154,7 @@ rows-emptied low high now above at rows same_low same_high others none clear kep
   few_high = let few = rows.few_high in omega arith;
 }
 
--- a word that isn't empty now wasn't either
+-- if a changed word isn't 0, the upper row needn't change
 pub rows-lessened : (low high now : List ℕ) (at : ℕ) → IsTwoRows low high → length now ≡ length low →
     ((word : ℕ) → word ≢ at → slice_index now word ≡ slice_index low word) → slice_index now at ≤ slice_index low at → slice_index now at ≢ 0 → IsTwoRows now high
 rows-lessened low high now at rows same_low others less some = record {
@@ -174,7 +174,7 @@ rows-lessened low high now at rows same_low others less some = record {
   few_high = rows.few_high;
 }
 
--- the next of the upper row and the first of its word are the next behind a word
+-- the next bit of the upper row and the first bit of its word are the next bit after a word
 pub next-two_rows : (low high : List ℕ) (at other bit : ℕ) → IsTwoRows low high → IsNextBit (bit_in high) (at + 1) (Some other) → IsNextBit (bit_at (slice_index low other)) 0 (Some bit) → bit < 64 →
     IsNextBit (bit_in low) (64 * (at + 1)) (Some (64 * other + bit))
 next-two_rows low high at other bit rows h found small =
@@ -190,7 +190,7 @@ filled-within words at some = ⊎_elim
     (λ (l : length words ≤ at). absurd (let z : get_or words at 0 ≡ 0 = get_or_past words at 0 l in omega arith))
     (cases_lt at (length words))
 
--- what is read within a row is the word there
+-- a word that is read within a row is the word at its place
 pub read : (words : List ℕ) (at value : ℕ) → at < length words → value ≡ get_or words at value → value ≡ get_or words at 0
 read [] at value l e = absurd (omega arith)
 read (word ∷ words) zero value l e = e

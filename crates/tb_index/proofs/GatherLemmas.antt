@@ -14,7 +14,7 @@ use Rattle.tb_index.proofs.ActiveLemmas as active
 use Rattle.tb_index.proofs.PairLemmas as pairs
 use Rattle.tb_index.proofs.IndexLemmas.{state}
 
--- first those in slots, and then those in order
+-- first the processes in slots are gathered, and then those in the ordered set
 pub gathered-has : (marked : Pairs) (x y z : BTreeSet ℕ) (sent : Option Mark) → AreGathered x y sent (in_few marked.few.items) → AreGathered y z sent (in_many marked.many) → AreGathered x z sent (has marked)
 unfolding has
 gathered-has marked x y z sent one two = record {
@@ -35,11 +35,11 @@ gathered-has marked x y z sent one two = record {
 triple-at : (a b p c d q : ℕ) → is_eq (triple_cmp (a, b, p) (c, d, q)) ≡ ((a == c) && (b == d)) && (p == q)
 triple-at a b p c d q = grind (arith, nat_tests)
 
--- a triple answers for its own mark and process
+-- a triple is the pair of its own mark and process
 pair-at : (m : Mark) (p : ℕ) (t : ℕ × ℕ × ℕ) → is_at (triple_cmp (m.count, m.head, p)) t ≡ is_pair (record { count = t.0; head = t.1 }) t.2 m p
 pair-at m p t = triple-at m.count m.head p t.0 t.1 t.2
 
--- one triple more was gathered
+-- one more triple is gathered
 pub gathered-triple : (many : BTreeSet (ℕ × ℕ × ℕ)) (first old new : BTreeSet ℕ) (sent : Option Mark) (t : ℕ × ℕ × ℕ) (coming rest : List (ℕ × ℕ × ℕ)) → coming ≡ t ∷ rest →
     AreGathered old new sent (is_pair (record { count = t.0; head = t.1 }) t.2) →
     ((p : ℕ) → contains nat_cmp first p ≡ true → contains nat_cmp old p ≡ true) →
@@ -71,7 +71,7 @@ none-in : (found : BTreeSet ℕ) (p : ℕ) → found.keys ≡ [] → contains na
 none-in found p e = ap (list_any (is_at (nat_cmp p))) e
 
 module _ (s r : Pairs) (q : Bool) (c : Pairs) (a : List ℕ) (l : List Mark) (empty found : BTreeSet ℕ) (none : empty.keys ≡ []) where
-  -- where each mark is wanted, these are all who send
+  -- if each mark is wanted, the set has exactly the processes that send
   pub all-senders : AreGathered empty found None (has s) → AreThose (IsSender (state s r q c a l)) found
   unfolding sends
   all-senders gathered p = (
@@ -82,7 +82,7 @@ module _ (s r : Pairs) (q : Bool) (c : Pairs) (a : List ℕ) (l : List Mark) (em
     λ sender. gathered.all sender.0 p sender.1 refl,
   )
 
-  -- where those that meet a mark are wanted, these are all who receive what is sent under it
+  -- if the marks that meet a mark are wanted, the set has exactly the processes that receive a message with it
   pub all-receivers : (mark : Mark) → AreGathered empty found (Some mark) (has r) → AreThose (IsReceiver (state s r q c a l) mark) found
   unfolding receives
   all-receivers mark gathered p = (

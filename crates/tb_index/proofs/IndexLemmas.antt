@@ -1,4 +1,4 @@
--- What an index is after a change of its parts.
+-- The facts of an index after a change of its parts.
 use Rattle.std.proofs.Common.{◌≡◌, ◌≢◌, ℕ, ◌<◌, ◌≤◌, ◌/◌, Bool, true, false, ◌||◌, ◌==◌, List, [], length, Option, Some, None, refl, ap, ◌∙◌, arith, ⊎_elim, Result, Ok, Err, OnOk, OnErr}
 use Rattle.std.proofs.lemmas.Bool.{eqb-true}
 use Rattle.std.proofs.lemmas.Nat.Bits.{bit_at-zero}
@@ -125,7 +125,7 @@ module _ (s r : Pairs) (q : Bool) (c : Pairs) (a : List ℕ) (l : List Mark) whe
   unfolding receives
   next-receiver m from just open_ones h g = pairs.first-next _ from (earlier just open_ones) (pairs.first-both (has r m) (has r (wide m)) from just open_ones h g)
 
-  -- where no open mark is told, nobody receives under one
+  -- if the index doesn't count, no process receives under an open mark
   pub next-closed : IsTied s r q c l → q ≡ false → (m : Mark) (from : ℕ) (just : Option ℕ) → IsFirst (has r m) from just → IsNext (is_receiver (state s r q c a l) m) from just
   unfolding receives
   next-closed tied none m from just h = pairs.first-next _ from just (pairs.first-same (has r m) (λ p. has r m p || has r (wide m) p) from just
@@ -153,7 +153,7 @@ module _ (s r : Pairs) (q : Bool) (c : Pairs) (a : List ℕ) (l : List Mark) whe
       active.sender-closed s c k p apart ∙ ap (λ (mark : Mark). has s mark p) (active.closed-meets k m apart met) ∙ e)
       (active.bool-cases (k.head == open_head))
 
-  -- who sends what somebody receives is asked
+  -- if some process receives a message of a process, the index names this process
   heard-asked : IsTied s r q c l → (m : Mark) (p o : ℕ) → sends (state s r q c a l) m p ≡ true → is_receiver (state s r q c a l) m o ≡ true → is_asked s c a l p ≡ true
   unfolding sends receives is_asked
   heard-asked tied m p o e f = pairs.or-right (bit_in a p == 1) (list_any (λ (k : Mark). is_sender s c k p) l) (⊎_elim
@@ -171,7 +171,7 @@ module _ (s r : Pairs) (q : Bool) (c : Pairs) (a : List ℕ) (l : List Mark) whe
   none-passed tied from None next = λ p small low may. active.not-both (is_asked s c a l p) (begins-asked tied p may) (next p small low)
   none-passed tied from (Some found) next = (next.0, λ p low less may. active.not-both (is_asked s c a l p) (begins-asked tied p may) (next.2 p low less))
 
-  -- nobody is passed over who may begin
+  -- no process that may begin a move is passed over
   pub next-starter : IsTied s r q c l → (from : ℕ) (one other : Option ℕ) → IsFirst (λ n. bit_in a n == 1) from one →
       IsFirst (λ p. list_any (λ (m : Mark). is_sender s c m p) l) from other → NobodyPassed (MayBegin (state s r q c a l)) from (earlier one other)
   next-starter tied from one other h g = none-passed tied from (earlier one other) (next-asked from one other h g)

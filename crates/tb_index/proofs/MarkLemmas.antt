@@ -1,4 +1,4 @@
--- What matches has as many, and heads that meet.
+-- If terms match patterns, there are as many of both, and the heads meet.
 use Rattle.std.proofs.Common.{◌≡◌, ℕ, List, [], ◌∷◌, map, length, Bool, true, false, Option, Some, None, refl, ap, sym, ◌∙◌, arith, ◌⊎◌, inl, inr, if◌then◌else◌, slice_get}
 use Rattle.std.proofs.lemmas.List.{length-map}
 use Rattle.std.specs.Str.{bytes_eq}
@@ -43,7 +43,7 @@ binds-true : (b : Bool) (some binds : List Bind) → binds_if b some ≡ Some bi
 binds-true true some binds e = refl
 binds-true false some binds e = cc
 
--- a received head is open, or is the one that is sent
+-- the received head is open, or equals the sent head
 abbrev pub HeadsMeet : ℕ → ℕ → Type 0
 HeadsMeet received sent = (received ≡ open_head) ⊎ (received ≡ sent)
 
@@ -83,7 +83,7 @@ meets-by : (count head other_count other_head : ℕ) → count ≡ other_count �
 meets-by count head other_count other_head e (inl open_one) = rw (e, open_one) (grind (arith, nat_tests))
 meets-by count head other_count other_head e (inr same) = rw (e, same) (grind (arith, nat_tests))
 
--- What matches has marks that meet.
+-- If terms match patterns, their marks meet.
 pub matched-meets : (patterns : List Pattern) (terms : List Term) (binds : List Bind) → match_list patterns terms ≡ Some binds →
     meets (received_mark patterns) (sent_mark terms) ≡ true
 unfolding received_mark sent_mark

@@ -12,18 +12,18 @@ use Rattle.tb_index.specs.Marks.{is_mark, has_mark}
 use Rattle.tb_index.specs.Helpers.Pairs.{in_many, triple_cmp, IsFirst, earlier}
 use Rattle.tb_index.specs.Indexes.{IsNext}
 
--- triples are the same where their parts are
+-- triples are equal if and only if their parts are
 pub same-triple : (a b p c d q : ℕ) → is_eq (triple_cmp (a, b, p) (c, d, q)) ≡ ((c == a) && (d == b)) && (q == p)
 same-triple a b p c d q = grind (arith, nat_tests)
 
--- between a mark's triples there are only its own
+-- between the triples of a mark, there are only triples of this mark
 pub between : (a b p c d q m : ℕ) → is_gt (triple_cmp (a, b, p) (c, d, q)) ≡ false → is_gt (triple_cmp (c, d, q) (a, b, m)) ≡ false → (c ≡ a) × (d ≡ b) × (p ≤ q)
 between a b p c d q m low high = (grind (arith, nat_tests), grind (arith, nat_tests), grind (arith, nat_tests))
 
 pub from : (a b p q : ℕ) → p ≤ q → is_gt (triple_cmp (a, b, p) (a, b, q)) ≡ false
 from a b p q l = grind (arith, nat_tests)
 
--- what an update says of one process
+-- an update, seen for one mark and one process
 pub added-by : (now old at pair : Bool) → now ≡ cond at true old → at ≡ pair → now ≡ (old || pair)
 added-by now true true pair e f = e
 added-by now true false pair e f = e
@@ -91,7 +91,7 @@ removed-other : (now before first any mark : Bool) → now ≡ (before && not ((
 removed-other now before first any mark e f =
     e ∙ ap (λ b. before && not (b && true)) (and-false mark) ∙ and-true before ∙ f ∙ ap (λ b. first && not b) (and-false (any && true) ∙ sym (and-false ((any || mark) && true)))
 
--- one mark more
+-- one more mark is added
 pub added-more : (now before first any mark same : Bool) → now ≡ (before || (mark && same)) → before ≡ (first || (any && same)) → now ≡ (first || ((any || mark) && same))
 added-more now true true any mark same e f = e
 added-more now false true any mark same e f = absurd (let g : false ≡ true = f in cc)
@@ -101,7 +101,7 @@ added-more now before false true true false e f = e ∙ or-false before ∙ f
 added-more now before false true false false e f = e ∙ or-false before ∙ f
 added-more now before false false mark same e f = e ∙ ap (λ b. b || (mark && same)) f
 
--- and one less, where it isn't kept
+-- one more mark is removed, unless it is kept
 pub removed-more : (now before first any mark but same : Bool) → now ≡ (before && not ((mark && same) && not but)) → before ≡ (first && not ((any && not but) && same)) →
     now ≡ (first && not (((any || mark) && not but) && same))
 removed-more now before first any mark true same e f = removed-kept now before first any mark same e f
@@ -111,7 +111,7 @@ removed-more now before first true false false true e f = e ∙ and-true before 
 removed-more now before first false true false true e f = e ∙ and-false before ∙ sym (and-false first)
 removed-more now before first false false false true e f = e ∙ and-true before ∙ f
 
--- what was added and is removed again leaves what was there
+-- if added marks are removed again, the pairs are as before
 pub undone : (now then' before all some but same : Bool) → now ≡ (then' && not ((all && not but) && same)) → then' ≡ (before || (some && same)) → (same ≡ true → before ≡ but) → (some ≡ true → all ≡ true) → now ≡ before
 undone now then' before all some but false e f own more =
     e ∙ ap (λ b. then' && not b) (and-false (all && not but)) ∙ and-true then' ∙ f ∙ ap (λ b. before || b) (and-false some) ∙ or-false before
@@ -122,7 +122,7 @@ undone now then' false true some false true e f own more = e ∙ and-false then'
 undone now then' false false true false true e f own more = absurd (let t = more refl in cc)
 undone now then' false false false false true e f own more = e ∙ and-true then' ∙ f
 
--- what a process has once its new marks were added and those were removed that aren't new
+-- after its new marks were added and the others removed, a process has exactly the new marks
 pub set-own : (now then' before new old same : Bool) → now ≡ (then' && not ((old && not new) && same)) → then' ≡ (before || (new && same)) → same ≡ true → before ≡ old → now ≡ new
 set-own now then' before true old true e f s own = e ∙ ap (λ b. then' && not (b && true)) (and-false old) ∙ and-true then' ∙ f ∙ or-true before
 set-own now then' before false true true e f s own = e ∙ and-false then'
@@ -133,7 +133,7 @@ pub set-other : (now then' before new old same : Bool) → now ≡ (then' && not
 set-other now then' before new old false e f s = e ∙ ap (λ b. then' && not b) (and-false (old && not new)) ∙ and-true then' ∙ f ∙ ap (λ b. before || b) (and-false new) ∙ or-false before
 set-other now then' before new old true e f s = absurd (let t : true ≡ false = s in cc)
 
--- nothing is there that wasn't added
+-- a mark that is there was there before, or was added
 pub set-less : (now then' before new old same : Bool) → now ≡ (then' && not ((old && not new) && same)) → then' ≡ (before || (new && same)) → now ≡ true → (before ≡ true) ⊎ (new ≡ true)
 set-less now then' true new old same e f t = inl refl
 set-less now then' false true old same e f t = inr refl
@@ -152,7 +152,7 @@ pub gone-less : (now before gone : Bool) → now ≡ (before && not gone) → no
 gone-less now true gone e t = refl
 gone-less now false gone e t = absurd (let g : now ≡ false = e in cc)
 
--- the first of both
+-- the first of two properties
 or-none : (a b : Bool) → a ≡ false → b ≡ false → (a || b) ≡ false
 or-none a b e f = rw (e, f) refl
 
@@ -218,7 +218,7 @@ pub any-marked : (holds : Mark → Bool) (l : List Mark) (m : Mark) → has_mark
 any-marked holds [] m t e = t
 any-marked holds (k ∷ l) m t e = any-marked-by holds k l m e (is_mark m k) refl t (λ more. any-marked holds l m more e)
 
--- the first of a list up to one more
+-- the first for a list with one more element
 pub first-more : {X : Type 0} (holds : X → ℕ → Bool) (l : List X) (i : ℕ) (d : X) (from : ℕ) (one other : Option ℕ) → i < length l →
     IsFirst (λ p. list_any (λ (k : X). holds k p) (take i l)) from one → IsFirst (holds (get_or l i d)) from other →
     IsFirst (λ p. list_any (λ (k : X). holds k p) (take (i + 1) l)) from (earlier one other)

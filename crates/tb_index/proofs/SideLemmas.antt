@@ -37,7 +37,7 @@ pub skipped-heard : (side : Side) (across : Pairs) (but : List Mark) (x : Mark) 
 skipped-heard Sends across but x a there = active.sent-skipped across but x a there
 skipped-heard Receives across but x a there = active.received-skipped across but x a there
 
--- what is heard of a mark is heard of it but for others
+-- a claim about a mark also holds if some marks are excepted
 pub sent-but : (across : Pairs) (but : List Mark) (x : Mark) (a : List Mark) → SentAreHeard (x ∷ []) [] across a → SentAreHeard (x ∷ []) but across a
 sent-but across but x a heard = λ received sent other e f h m. heard received sent other e refl h m
 

@@ -13,14 +13,14 @@ use Rattle.tb_index.specs.Marks.{is_mark, wide, open_head}
 use Rattle.tb_index.specs.Helpers.Pairs.{is_pair, is_of, is_in, in_few, in_many, slot_of, has, SamePairs, IsFirst, earlier}
 use Rattle.tb_index.proofs.PairLemmas as pairs
 
--- a pair that was found answers for its own process and mark alone
+-- a found pair is only that of its own process and mark
 found-pair : (mark : Mark) (proc : ℕ) (x : Pair) → is_of mark proc x ≡ true → (o : Mark) (i : ℕ) → is_of o i x ≡ is_pair mark proc o i
 found-pair mark proc x e o i =
     let same : mark ≡ x.mark = pairs.same-mark mark x.mark (pairs.both-left (is_mark mark x.mark) (proc == x.proc) e) in
     let number : proc ≡ x.proc = eqb-true proc x.proc (pairs.both-right (is_mark mark x.mark) (proc == x.proc) e) in
     ap (λ (m : Mark). is_mark o m && (i == x.proc)) (sym same) ∙ ap (λ n. is_mark o mark && (i == n)) (sym number)
 
--- what a slot has lost by one removal
+-- the pairs of a slot before and after one removal
 pub gone-one : (xs ys : List Pair) (place : ℕ) (x d : Pair) (mark : Mark) (proc : ℕ) → place < length xs → x ≡ get_or xs place x → ys ≡ swap_remove xs place x →
     is_of mark proc (get_or xs place d) ≡ true → (o : Mark) (i : ℕ) → is_in xs o i ≡ (is_pair mark proc o i || is_in ys o i)
 gone-one xs ys place x d mark proc less read left e o i =
@@ -32,14 +32,14 @@ pub removed-step : (now before first pair : Bool) → before ≡ (pair || now) �
 removed-step now before first true e f = pairs.or-true now ∙ sym (pairs.or-true first)
 removed-step now before first false e f = pairs.or-false now ∙ sym e ∙ sym (pairs.or-false before) ∙ f
 
--- the same mark and process have the same answer
+-- a function of mark and process has the same value for the same pair
 alike : (answer : Mark → ℕ → Bool) (mark : Mark) (proc : ℕ) (o : Mark) (i : ℕ) → is_pair mark proc o i ≡ true → answer o i ≡ answer mark proc
 alike answer mark proc o i e =
     let same : o ≡ mark = pairs.same-mark o mark (pairs.both-left (is_mark o mark) (i == proc) e) in
     let number : i ≡ proc = eqb-true i proc (pairs.both-right (is_mark o mark) (i == proc) e) in
     ap (λ (m : Mark). answer m i) same ∙ ap (answer mark) number
 
--- who has the mark already needn't be added
+-- a pair that is there already needn't be added
 there-already : (answer pair : Bool) → (pair ≡ true → answer ≡ true) → answer ≡ (answer || pair)
 there-already answer true e = e refl ∙ sym (pairs.or-true answer)
 there-already answer false e = sym (pairs.or-false answer)
@@ -47,11 +47,11 @@ there-already answer false e = sym (pairs.or-false answer)
 pub had-already : (answer : Mark → ℕ → Bool) (mark : Mark) (proc : ℕ) → answer mark proc ≡ true → (o : Mark) (i : ℕ) → answer o i ≡ (answer o i || is_pair mark proc o i)
 had-already answer mark proc had o i = there-already (answer o i) (is_pair mark proc o i) (λ e. alike answer mark proc o i e ∙ had)
 
--- where there are no slots nobody is in one
+-- if the slot of a mark isn't there, no process has the mark in it
 none-here : (few : List (List Pair)) (o : Mark) (i : ℕ) → length few ≤ slot_of o → in_few few o i ≡ false
 none-here few o i past = ap (λ (ps : List Pair). is_in ps o i) (get_or_past few (slot_of o) [] past)
 
--- where nobody is in order
+-- if the ordered set is empty, it has no pair
 pub none-many : (set : BTreeSet (ℕ × ℕ × ℕ)) → length set.keys ≡ 0 → (o : Mark) (i : ℕ) → in_many set o i ≡ false
 none-many set none o i = ap (list_any _) (nil_from_length set.keys none)
 
@@ -84,7 +84,7 @@ not-shift true false true = refl
 not-shift true false false = refl
 not-shift false m p = refl
 
--- one process more or less in the slots, or in order
+-- one pair more or less, in the slots or in the ordered set
 module _ (old new : Pairs) (mark : Mark) (proc : ℕ) where
   pub few-added : ((o : Mark) (i : ℕ) → in_few new.few.items o i ≡ (in_few old.few.items o i || is_pair mark proc o i)) → ((o : Mark) (i : ℕ) → in_many new.many o i ≡ in_many old.many o i) →
       (o : Mark) (i : ℕ) → has new o i ≡ (has old o i || is_pair mark proc o i)
@@ -102,12 +102,12 @@ module _ (old new : Pairs) (mark : Mark) (proc : ℕ) where
   unfolding has
   both-removed few many o i = or-same _ _ _ _ (few o i) (many o i) ∙ not-shift (in_few old.few.items o i) (in_many old.many o i) (is_pair mark proc o i)
 
-  -- where nobody is in order nobody is removed there
+  -- if the ordered set is empty, nothing needs to be removed from it
   pub few-removed : ((o : Mark) (i : ℕ) → in_few new.few.items o i ≡ (in_few old.few.items o i && not (is_pair mark proc o i))) → new.many ≡ old.many → length old.many.keys ≡ 0 →
       (o : Mark) (i : ℕ) → has new o i ≡ (has old o i && not (is_pair mark proc o i))
   few-removed few same none = both-removed few (λ o i. ap (λ (many : BTreeSet (ℕ × ℕ × ℕ)). in_many many o i) same ∙ none-many old.many none o i ∙ sym (ap (λ b. b && not (is_pair mark proc o i)) (none-many old.many none o i)))
 
--- the first in the slots, and in order
+-- the first process, in the slots and in the ordered set
 pub next-few : (all : Pairs) (mark : Mark) (from : ℕ) (found : Option ℕ) → IsFirst (in_few all.few.items mark) from found → length all.many.keys ≡ 0 → IsFirst (has all mark) from found
 unfolding has
 next-few all mark from found first none = pairs.first-same (in_few all.few.items mark) (λ i. in_few all.few.items mark i || in_many all.many mark i) from found
@@ -117,7 +117,7 @@ pub next-both : (all : Pairs) (mark : Mark) (from : ℕ) (one other : Option ℕ
 unfolding has
 next-both all mark from one other few many = pairs.first-both (in_few all.few.items mark) (in_many all.many mark) from one other few many
 
--- who is in a slot is among all
+-- a pair in its slot is in some slot
 pub few-any : (few : List (List Pair)) (mark : Mark) (i : ℕ) → in_few few mark i ≡ true → list_any (λ (ps : List Pair). is_in ps mark i) few ≡ true
 few-any few mark i e = ⊎_elim
     (λ (less : slot_of mark < length few). list_any_at (λ (ps : List Pair). is_in ps mark i) few (slot_of mark) [] less e)
@@ -132,7 +132,7 @@ pub has-cases : (all : Pairs) (mark : Mark) (i : ℕ) → has all mark i ≡ tru
 unfolding has
 has-cases all mark i e = or-cases (in_few all.few.items mark i) (in_many all.many mark i) e
 
--- whom the slots count
+-- the counted processes, after one more pair of a slot
 pub counted-more : (counted : Pairs) (xs : List Pair) (n : ℕ) (d : Pair) → n < length xs → ((mark : Mark) (i : ℕ) → is_in (take n xs) mark i ≡ true → has counted (wide mark) i ≡ true) →
     has counted (record { count = (get_or xs n d).mark.count; head = open_head }) (get_or xs n d).proc ≡ true →
     (mark : Mark) (i : ℕ) → is_in (take (n + 1) xs) mark i ≡ true → has counted (wide mark) i ≡ true

@@ -1,4 +1,4 @@
--- The mark of what is sent or received: how many terms, and what the first of them begins with.
+-- The mark of a message or of a receive: the number of terms or patterns, and the head of the first one.
 use Rattle.std.specs.Prelude.{ℕ, ◌+◌, ◌*◌, ◌%◌, ◌^◌, ◌==◌, ◌&&◌, ◌||◌, Bool, List, [], ◌∷◌, length, fold}
 use Rattle.std.specs.List.{list_any}
 use Rattle.std.specs.Int.{w64, cast_unsigned}
@@ -8,23 +8,26 @@ use Rattle.tb_terms.specs.declared.pattern.Pattern.{Pattern, out-Pattern}
 use Rattle.tb_terms.specs.declared.pattern.Pattern.TheOpen as pattern
 use Rattle.tb_index.specs.declared.mark.Mark.{Mark}
 
+-- the 64-bit hash after one more value
 abbrev pub mixed : ℕ → ℕ → ℕ
 mixed hash value = (hash * 31 % 2 ^ 64 + value) % 2 ^ 64
 
--- an open head, which any may meet
+-- the head of an open first pattern, and of an empty list of terms or patterns
 abbrev pub open_head : ℕ
 open_head = 0
 
+-- the head of a string
 abbrev pub text_head : ℕ
 text_head = 1
 
+-- the head of a list
 abbrev pub row_head : ℕ
 row_head = 2
 
 abbrev pub number_head : ℕ → ℕ
 number_head number = mixed 5000000001 number
 
--- a name with as many parts
+-- the head of a name with this number of arguments
 abbrev pub name_head : List ℕ → ℕ → ℕ
 name_head name parts = mixed (fold mixed 7 name) parts
 
@@ -55,11 +58,11 @@ abbrev pub first_pattern_head : List Pattern → ℕ
 first_pattern_head [] = open_head
 first_pattern_head (pattern ∷ patterns) = pattern_head pattern
 
--- the mark of terms that are sent
+-- the mark of the terms of a message
 unfoldable pub sent_mark : List Term → Mark
 sent_mark terms = record { count = length terms; head = first_term_head terms }
 
--- the mark of patterns that receive
+-- the mark of the patterns of a receive
 unfoldable pub received_mark : List Pattern → Mark
 received_mark patterns = record { count = length patterns; head = first_pattern_head patterns }
 
@@ -69,10 +72,10 @@ is_mark a b = (a.count == b.count) && (a.head == b.head)
 abbrev pub has_mark : List Mark → Mark → Bool
 has_mark marks mark = list_any (is_mark mark) marks
 
--- the mark of as many, whatever the first begins with
+-- the open mark with as many terms
 abbrev pub wide : Mark → Mark
 wide mark = record { count = mark.count; head = open_head }
 
--- whether what is received under one mark may match what is sent under another
+-- whether the marks of a receive and of a message meet: only then can the message match the receive
 abbrev pub meets : Mark → Mark → Bool
 meets received sent = (received.count == sent.count) && ((received.head == open_head) || (received.head == sent.head))

@@ -12,15 +12,16 @@ use crate::pairs::Pairs;
 use crate::slot::earlier;
 use tb_terms::NoMemory;
 
-/// Whose marks: those of the senders, or those of the receivers.
+/// The side of marks: the marks of the senders, or those of the receivers.
 #[derive(Clone, Copy)]
 pub(crate) enum Side {
     Sends,
     Receives,
 }
 
-/// What a process now sends and receives under the new marks makes these active, where somebody
-/// receives it or sends it.
+/// Makes marks active for the marks of a process that are in `new` and not in `old`. For a sent mark, these are the marks under which
+/// some process receives its messages. A received mark becomes active if some process sends a message for it.
+/// After an error, some of these marks may be active.
 pub(crate) fn activate(
     active: &mut Vec<Mark>,
     sending: &Pairs,
@@ -60,7 +61,7 @@ pub(crate) fn activate(
     Ok(())
 }
 
-/// Makes the marks of one side active that aren't among the others. `across` has the pairs of the other side.
+/// Makes marks active for the marks of one side that aren't among `but`. `across` has the pairs of the other side.
 #[inline(always)]
 fn activate_side(
     active: &mut Vec<Mark>,
@@ -144,7 +145,7 @@ fn activate_received(
     Ok(())
 }
 
-/// The mark is active where somebody has it.
+/// Makes the mark active if some process has it in these pairs.
 #[inline(always)]
 fn activate_where(active: &mut Vec<Mark>, pairs: &Pairs, mark: Mark) -> Result<(), NoMemory>
     ensures kept { AreKept active.old.items active.new.items }
@@ -162,7 +163,8 @@ fn activate_where(active: &mut Vec<Mark>, pairs: &Pairs, mark: Mark) -> Result<(
     Ok(())
 }
 
-/// The marks of one side that aren't among the others become inactive, unless a process still sends under them and another receives.
+/// Removes active marks after a process lost the marks of one side that aren't among `but`. An active mark stays if some process
+/// of this side still sends a message for it, or receives under it.
 #[inline(always)]
 pub(crate) fn quiet_side(
     active: &mut Vec<Mark>,
@@ -201,7 +203,7 @@ fn quiet_one(
     }
 }
 
-/// What is received under the mark, or under that of as many, is no longer active, where nobody sends it.
+/// Makes the mark, and the open mark with as many terms, inactive if no process sends a message for it.
 #[inline(always)]
 fn quiet_sent(active: &mut Vec<Mark>, sending: &Pairs, counts: &Counts, mark: Mark)
     requires { AreCountedIf counts.now.opened sending.now counts.now.pairs }
@@ -225,7 +227,7 @@ fn quiet_unsent(active: &mut Vec<Mark>, sending: &Pairs, counts: &Counts, mark: 
     }
 }
 
-/// Whether nobody sends what is received under the mark.
+/// Returns `true` only if no process sends a message that is received under the mark.
 #[inline(always)]
 fn is_unsent(sending: &Pairs, counts: &Counts, mark: Mark) -> bool
     requires { AreCountedIf counts.now.opened sending.now counts.now.pairs }
@@ -253,7 +255,7 @@ fn quiet_unreceived(active: &mut Vec<Mark>, receiving: &Pairs, mark: Mark)
     }
 }
 
-/// All but this mark are kept.
+/// Removes one entry of this mark, if there is one. Every other mark stays active.
 #[inline(always)]
 fn drop_mark(active: &mut Vec<Mark>, mark: Mark)
     ensures { (other : TheMark) → is_mark other mark ≡ false
@@ -268,7 +270,7 @@ fn drop_mark(active: &mut Vec<Mark>, mark: Mark)
     }
 }
 
-/// The first process at or behind one that sends what is received under one of the marks.
+/// Returns the first process, from a number on, that sends a message that is received under one of the marks.
 pub(crate) fn next_sender(
     sending: &Pairs,
     counted: &Pairs,

@@ -1,4 +1,4 @@
-//! A set of numbers, kept as bits, in which the next number is found quickly.
+//! A set of numbers, kept as bits, that finds its next number quickly.
 ghost use Rattle.std.specs.Prelude.{◌≡◌, ◌≢◌, ℕ, ◌+◌, ◌*◌, ◌/◌, ◌<◌, ◌≤◌, ◌==◌, Some, None, IfSome, [], max, length, slice_index, OnOk};
 ghost use Rattle.std.specs.Int.{bit_at};
 ghost use Rattle.tb_index.specs.Helpers.Bits.{bit_in, IsNextBit, IsTwoRows, most_words};
@@ -8,7 +8,7 @@ use std::alloc::Global;
 use std::marker::Model;
 use tb_terms::NoMemory;
 
-/// Numbers, of which the next at or behind one is found quickly.
+/// A set of numbers in two rows of words. The upper row has a bit for each word of the lower row that isn't 0.
 #[derive(Drop)]
 pub(crate) struct Bits {
     low: Vec<u64>,
@@ -27,7 +27,7 @@ impl Model for Bits {
     ghost invariant = { λ rows. IsTwoRows rows.low.items rows.high.items };
 }
 
-/// The first bit of a word that isn't 0.
+/// Returns the position of the lowest set bit. The word isn't 0.
 fn first_in_word(word: u64) -> usize
     requires { 0 < word }
     ensures within { result < 64 }
@@ -36,7 +36,7 @@ fn first_in_word(word: u64) -> usize
     word.trailing_zeros() as usize
 }
 
-/// The first bit of a word at or behind one.
+/// Returns the first set bit of a word, from a position on.
 fn next_in_word(word: u64, from: usize) -> Option<usize>
     requires { from < 64 }
     ensures within { IfSome result (λ bit. bit < 64) }
@@ -50,7 +50,7 @@ fn next_in_word(word: u64, from: usize) -> Option<usize>
     }
 }
 
-/// The first bit in a row of words at or behind one.
+/// Returns the first set bit of a row of words, from a position on.
 fn next_in(words: &[u64], from: usize) -> Option<usize>
     requires { length words.now ≤ most_words }
     ensures { IsNextBit (bit_in words.now) from result }
@@ -65,7 +65,7 @@ fn next_in(words: &[u64], from: usize) -> Option<usize>
     }
 }
 
-/// The first bit in the words behind one.
+/// Returns the first set bit in the words after the one at `at`.
 fn next_behind(words: &[u64], at: usize) -> Option<usize>
     requires many { length words.now ≤ most_words }
     requires within { at < length words.now }
@@ -134,7 +134,7 @@ impl Bits {
         }
     }
 
-    /// Memory for a number to be taken in.
+    /// Takes the memory that `insert` requires for a number.
     pub(crate) fn make_room(&mut self, n: usize) -> Result<(), NoMemory>
         requires { n < 4294967296 }
         ensures same { (k : ℕ) → bit_in self.new k ≡ bit_in self.old k }
@@ -145,7 +145,7 @@ impl Bits {
         fill(&mut self.low, n / 64 + 1)
     }
 
-    /// Takes a number in.
+    /// Adds a number to the set.
     pub(crate) fn insert(&mut self, n: usize)
         requires { n / 64 < length self.old }
         ensures here { bit_in self.new n ≡ 1 }
@@ -157,7 +157,7 @@ impl Bits {
         set_bit(&mut self.high, word);
     }
 
-    /// Lets a number go.
+    /// Removes a number from the set, if the set has it.
     pub(crate) fn remove(&mut self, n: usize)
         ensures here { bit_in self.new n ≡ 0 }
         ensures others { (k : ℕ) → k ≢ n → bit_in self.new k ≡ bit_in self.old k }
@@ -181,7 +181,7 @@ impl Bits {
         }
     }
 
-    /// The next number at or behind one.
+    /// Returns the first number of the set, from a number on.
     pub(crate) fn next(&self, from: usize) -> Option<usize>
         ensures next { IsNextBit (bit_in self.now) from result }
         ensures small { IfSome result (λ n. n < 4294967296) }
@@ -189,7 +189,7 @@ impl Bits {
         next_of(self.low.as_slice(), self.high.as_slice(), from)
     }
 
-    /// The next number at or behind one.
+    /// Returns the first number of the set, from a number on, as a `u32`.
     pub(crate) fn next_number(&self, from: u32) -> Option<u32>
         ensures { IsFirst (λ n. bit_in self.now n == 1) from result }
     {
@@ -200,7 +200,7 @@ impl Bits {
     }
 }
 
-/// A row of words that is at least as long, by words that are 0.
+/// Makes the row at least `long` words long: appends words that are 0.
 fn fill(words: &mut Vec<u64>, long: usize) -> Result<(), NoMemory>
     ensures same { (word : ℕ)
         → slice_index words.new.items word ≡ slice_index words.old.items word }

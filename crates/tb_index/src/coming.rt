@@ -1,4 +1,4 @@
-//! The step that gives a process its new marks in addition to its old ones.
+//! The first part of a change of marks: a process gets its new marks in addition to its old ones.
 ghost use Rattle.std.specs.Prelude.{◌≡◌, OnOk, OnErr};
 ghost use Rattle.tb_index.specs.Helpers.Pairs.{AreOf, AreAdded, AreCountedIf, AreOpened, AllOpened, AreHeard, SamePairs};
 
@@ -8,7 +8,8 @@ use crate::mark::{Mark, Marks};
 use crate::pairs::{Pairs, add_both, remove_both};
 use tb_terms::NoMemory;
 
-/// A process has the new marks beside the old ones. After want of memory its marks are as before.
+/// Adds the new marks of a process to its old ones. If out of memory, its marks remain unchanged, but the counts and
+/// the active marks may have grown.
 pub(crate) fn come(
     sending: &mut Pairs,
     receiving: &mut Pairs,

@@ -1,4 +1,4 @@
-//! The counts of an index: which processes send how many terms, whatever the first begins with.
+//! The counts of an index: the processes that send, by their number of terms, whatever the first term is.
 ghost use Rattle.std.specs.Prelude.{◌≡◌, ℕ, true, false, OnOk};
 ghost use Rattle.tb_index.specs.declared.mark.Mark.{Mark as TheMark};
 ghost use Rattle.tb_index.specs.Marks.{has_mark, open_head, wide};
@@ -10,15 +10,18 @@ use crate::slot::{Pair, Slot};
 use std::collections::BTreeSet;
 use tb_terms::NoMemory;
 
-/// Who sends how many terms, whatever the first begins with. Nobody is counted before a process
-/// receives with an open first argument.
+/// The processes that send, by their number of terms, whatever the first term is. The index starts to count when a process is to receive
+/// under an open mark.
 #[derive(Drop)]
 pub(crate) struct Counts {
+    /// Whether the index counts processes.
     pub opened: bool,
+    /// The counted processes, each under the open mark with its number of terms.
     pub pairs: Pairs,
 }
 
-/// Everybody is counted from now on, where one of these marks is open.
+/// Counts all processes that send, if one of these marks is open and the index doesn't count yet.
+/// After an error, `opened` is still false, and some processes may be counted.
 pub(crate) fn open_up(counts: &mut Counts, sending: &Pairs, marks: &[Mark]) -> Result<(), NoMemory>
     requires { AreCountedIf counts.old.opened sending.now counts.old.pairs }
     ensures counted { AreCountedIf counts.new.opened sending.now counts.new.pairs }
@@ -40,7 +43,8 @@ pub(crate) fn open_up(counts: &mut Counts, sending: &Pairs, marks: &[Mark]) -> R
     }
 }
 
-/// A process is counted for what it sends under these marks, but for those where it is already.
+/// If the index counts, counts a process under each of `marks` that isn't among `but`, its old marks. After an error, the process may be
+/// counted under some of `marks`.
 pub(crate) fn count(
     counts: &mut Counts,
     marks: &[Mark],
@@ -63,8 +67,7 @@ pub(crate) fn count(
     }
 }
 
-/// A process is no longer counted for what it sent under these marks, where it doesn't send as many
-/// under the others.
+/// Removes the count of a process for each number of terms that one of `marks` has, and none of `others`.
 pub(crate) fn uncount(counts: &mut Counts, marks: &[Mark], others: &[Mark], proc: u32)
     ensures opened { counts.new.opened ≡ counts.old.opened }
     ensures still { AreCountedStill counts.old.pairs counts.new.pairs others.now proc }
@@ -117,7 +120,7 @@ fn uncount_one(counted: &mut Pairs, mark: Mark, others: &[Mark], proc: u32)
     }
 }
 
-/// Everybody is counted for what is sent.
+/// Counts each process under each mark that it sends.
 #[inline(never)]
 fn count_all(counted: &mut Pairs, sending: &Pairs) -> Result<(), NoMemory>
     ensures { OnOk result (AreCounted sending.now counted.new) }

@@ -1,4 +1,4 @@
-//! The slots of an index, in which the pairs of a mark are found by its hash.
+//! The slots of an index. The hash of a mark determines the slot of its pairs.
 ghost use Rattle.std.specs.Prelude.{◌≡◌, ◌&&◌, ◌||◌, ◌<◌, ◌≤◌, ℕ, not, length, OnOk, OnErr};
 ghost use Rattle.tb_index.specs.declared.mark.Mark.{Mark as TheMark};
 ghost use Rattle.tb_index.specs.Helpers.Pairs.{is_pair, in_few, slot_of, slots, IsFirst};
@@ -7,10 +7,10 @@ use crate::mark::{Mark, mixed};
 use crate::slot::Slot;
 use tb_terms::NoMemory;
 
-/// How many slots there are: they take 24 KB, and 10,000 marks that fall evenly still have room in them.
+/// The number of slots: they take 24 KB. If marks are spread evenly, the slots have capacity for one pair of each of 10,000 marks.
 const SLOTS: usize = 1024;
 
-/// The slot for the pairs of a mark.
+/// Returns the number of the slot for the pairs of a mark.
 pub(crate) fn slot_of(mark: Mark) -> usize
     ensures value { result ≡ slot_of mark }
     ensures within { result < slots }
@@ -18,7 +18,7 @@ pub(crate) fn slot_of(mark: Mark) -> usize
     (mixed(mark.head, mark.count as u64) % SLOTS as u64) as usize
 }
 
-/// All slots, where there are none yet.
+/// Makes all slots, unless they exist.
 pub(crate) fn make_slots(few: &mut Vec<Slot>) -> Result<(), NoMemory>
     ensures same { (mark : TheMark) (proc : ℕ)
         → in_few few.new.items mark proc ≡ in_few few.old.items mark proc }
@@ -52,7 +52,7 @@ pub(crate) fn has_few(few: &[Slot], mark: Mark, proc: u32) -> bool
     few[slot_of(mark)].has(mark, proc)
 }
 
-/// Whether there is no room in the slot of the mark.
+/// Returns whether the slot of the mark has no capacity for another pair.
 pub(crate) fn is_full(few: &[Slot], mark: Mark) -> bool
     requires { slots ≤ length few.now }
 {
@@ -82,7 +82,7 @@ pub(crate) fn remove_few(few: &mut Vec<Slot>, mark: Mark, proc: u32)
     }
 }
 
-/// The first process with the mark at or behind one.
+/// Returns the first process with the mark, from a number on.
 pub(crate) fn next_few(few: &[Slot], mark: Mark, from: u32) -> Option<u32>
     ensures { IsFirst (in_few few.now mark) from result }
 {

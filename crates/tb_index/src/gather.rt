@@ -1,4 +1,4 @@
-//! The processes that may receive a message.
+//! The collection of the processes that have a wanted mark: a mark that meets that of a message, or any mark.
 ghost use Rattle.std.specs.Prelude.{◌≡◌, OnOk};
 ghost use Rattle.tb_index.specs.Helpers.Pairs.{has, in_few, in_many, in_slot, is_pair, is_wanted, AreGathered};
 

@@ -17,7 +17,7 @@ use std::collections::BTreeSet;
 use std::marker::Model;
 use tb_terms::NoMemory;
 
-/// Who sends and who receives under which marks, and who is awake.
+/// An index of processes: the marks under which each process sends and receives, and whether it is awake.
 #[derive(Drop)]
 pub struct Index {
     sending: Pairs,
@@ -44,7 +44,7 @@ impl Model for Index {
 }
 
 impl Index {
-    /// Takes no memory.
+    /// Makes an empty index. The call takes no memory.
     pub fn new(alloc: Global) -> Index
         ensures { IsEmpty result }
     {
@@ -60,7 +60,7 @@ impl Index {
         }
     }
 
-    /// Memory for a process to be awake.
+    /// Takes the memory that `wake` requires for a process.
     pub fn make_room(&mut self, proc: u32) -> Result<(), NoMemory>
         ensures same { SameIndex self.old self.new }
         ensures room { OnOk result (HasRoom self.new proc) }
@@ -68,7 +68,7 @@ impl Index {
         self.awake.make_room(proc as usize)
     }
 
-    /// What a process sends and receives from now on; `old` is what is kept of it.
+    /// Replaces the marks of a process: `old` are the marks that the index has, `new` the marks from now on.
     pub fn set(&mut self, proc: u32, old: &Marks, new: &Marks) -> Result<(), NoMemory>
         requires sends { (mark : TheMark)
             → sends self.old mark proc ≡ has_mark old.now.sends.items mark }
@@ -117,7 +117,7 @@ impl Index {
         Ok(())
     }
 
-    /// A process has left: nothing is kept of it. `old` is what was kept.
+    /// Removes a process that has left. `old` are the marks that the index has of the process.
     pub fn clear(&mut self, proc: u32, old: &Marks)
         requires sends { (mark : TheMark)
             → sends self.old mark proc ≡ has_mark old.now.sends.items mark }
@@ -148,7 +148,7 @@ impl Index {
         self.awake.remove(proc as usize);
     }
 
-    /// The process is asked from now on whether it begins a move.
+    /// Makes a process awake, so that `next_starter` doesn't pass over it.
     pub fn wake(&mut self, proc: u32)
         requires room { HasRoom self.old proc }
         ensures { IsTurned self.old self.new proc true }
@@ -156,14 +156,14 @@ impl Index {
         self.awake.insert(proc as usize);
     }
 
-    /// And no longer, but for what it sends.
+    /// Lets a process sleep. `next_starter` can still name the process as a sender.
     pub fn let_sleep(&mut self, proc: u32)
         ensures { IsTurned self.old self.new proc false }
     {
         self.awake.remove(proc as usize);
     }
 
-    /// The first process at or behind one that receives what is sent under the mark.
+    /// Returns the first process, from a number on, that receives a message with the mark.
     #[inline(always)]
     pub fn next_receiver(&self, mark: Mark, from: u32) -> Option<u32>
         ensures { IsNext (is_receiver self.now mark) from result }
@@ -176,8 +176,8 @@ impl Index {
         earlier(just, wide)
     }
 
-    /// Returns the next process, from a number on, that the search must ask. It may name a process in vain: a sender
-    /// that nobody hears.
+    /// Returns the next process, from a number on, that the search must ask. The call may name a process in vain, such as a sender
+    /// whose messages no process receives.
     pub fn next_starter(&self, from: u32) -> Option<u32>
         ensures { NobodyPassed (MayBegin self.now) from result }
     {

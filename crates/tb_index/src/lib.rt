@@ -1,5 +1,5 @@
-//! An index of the processes by what they send and receive, and of those that are awake: who may
-//! begin a move, and who may be its partner, without asking all.
+//! An index of processes: the messages that each process sends and receives, and whether it is awake. Without a search through
+//! all processes, the index finds the processes that may begin a move, and the processes that may receive a message.
 #![tactic(auto)]
 
 mod active;

@@ -6,25 +6,31 @@ ghost use Rattle.tb_index.specs.Helpers.Pairs.{has_count, has_open};
 
 use tb_terms::{Name, Pattern, Patterns, Term, Terms};
 
-/// The head of a first pattern that is open, and of nothing.
+/// The head of an open first pattern, and of an empty list of terms or patterns.
 pub(crate) const OPEN_HEAD: u64 = 0;
 
+/// The head of a string.
 const TEXT_HEAD: u64 = 1;
 
+/// The head of a list.
 const ROW_HEAD: u64 = 2;
 
-/// What is sent or received, as far as an index knows it: how many terms, and what the first of
-/// them begins with. What matches has marks that meet.
+/// The part of a message or of a receive that an index keeps: the number of terms or patterns, and the head of the first one.
+/// If terms match patterns, their marks meet.
 #[derive(Clone, Copy, Debug, PartialEq, Eq)]
 pub struct Mark {
+    /// The number of terms or patterns.
     pub count: usize,
+    /// The head of the first one. Different first terms can have the same head.
     pub head: u64,
 }
 
-/// Under which marks a process sends and receives.
+/// The marks under which a process sends and receives.
 #[derive(Drop)]
 pub struct Marks {
+    /// The marks of the messages that the process sends.
     pub sends: Vec<Mark>,
+    /// The marks of the patterns under which the process receives.
     pub receives: Vec<Mark>,
 }
 
@@ -90,7 +96,7 @@ fn first_pattern_head(patterns: &[Pattern]) -> u64
     }
 }
 
-/// The mark of terms that are sent.
+/// Returns the mark of the terms of a message.
 #[tactic(auto, unfolding(crate::specs::Marks::sent_mark))]
 pub fn sent_mark(terms: &Terms) -> Mark
     ensures { result ≡ sent_mark terms.now }
@@ -101,7 +107,7 @@ pub fn sent_mark(terms: &Terms) -> Mark
     }
 }
 
-/// The mark of patterns that receive.
+/// Returns the mark of the patterns of a receive.
 #[tactic(auto, unfolding(crate::specs::Marks::received_mark))]
 pub fn received_mark(patterns: &Patterns) -> Mark
     ensures { result ≡ received_mark patterns.now }
@@ -112,7 +118,7 @@ pub fn received_mark(patterns: &Patterns) -> Mark
     }
 }
 
-/// The mark of as many, whatever the first begins with.
+/// Returns the open mark with as many terms.
 pub(crate) fn wide(mark: Mark) -> Mark
     ensures { result ≡ wide mark }
 {
@@ -133,7 +139,7 @@ pub(crate) fn has_mark(marks: &[Mark], mark: Mark) -> bool
     false
 }
 
-/// Whether one of the marks is of as many.
+/// Returns whether one of the marks has this number of terms.
 pub(crate) fn has_count(marks: &[Mark], count: usize) -> bool
     ensures { result ≡ has_count marks.now count }
 {
@@ -145,7 +151,7 @@ pub(crate) fn has_count(marks: &[Mark], count: usize) -> bool
     false
 }
 
-/// Whether one of the marks is open.
+/// Returns whether one of the marks is open.
 pub(crate) fn has_open(marks: &[Mark]) -> bool
     ensures { result ≡ has_open marks.now }
 {
@@ -157,7 +163,7 @@ pub(crate) fn has_open(marks: &[Mark]) -> bool
     false
 }
 
-/// Whether two lists of marks are the same.
+/// Returns `true` only if the two lists of marks are equal.
 pub(crate) fn are_same(one: &[Mark], other: &[Mark]) -> bool
     ensures { result ≡ true → one.now ≡ other.now }
 {

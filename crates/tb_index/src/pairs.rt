@@ -1,4 +1,4 @@
-//! The pairs of a mark and a process, in slots and in order.
+//! Pairs of a mark and a process, in slots and in an ordered set.
 ghost use Rattle.std.specs.Prelude.{◌≡◌, ◌&&◌, ◌||◌, ◌==◌, ℕ, true, false, not, OnOk, OnErr, Option, Some, None};
 ghost use Rattle.tb_index.specs.declared.mark.Mark.{Mark as TheMark};
 ghost use Rattle.tb_index.specs.Marks.{has_mark};
@@ -11,15 +11,17 @@ use std::alloc::Global;
 use std::collections::BTreeSet;
 use tb_terms::NoMemory;
 
-/// Processes with marks: in slots, and those for which a slot had no room in order.
+/// Pairs of a mark and a process: in slots, or in an ordered set if a slot had no capacity.
 #[derive(Drop)]
 pub(crate) struct Pairs {
+    /// The slots; none before the first pair is added.
     pub few: Vec<Slot>,
+    /// The pairs for which a slot had no capacity: number of terms, head, and process.
     pub many: BTreeSet<(usize, u64, u32)>,
 }
 
 impl Pairs {
-    /// Takes no memory.
+    /// Makes an empty set of pairs. The call takes no memory.
     pub(crate) fn new(alloc: Global) -> Pairs
         ensures { (mark : TheMark) (proc : ℕ) → has result mark proc ≡ false }
     {
@@ -64,7 +66,7 @@ impl Pairs {
         }
     }
 
-    /// The first process with the mark at or behind one.
+    /// Returns the first process with the mark, from a number on.
     pub(crate) fn next(&self, mark: Mark, from: u32) -> Option<u32>
         ensures { IsFirst (has self.now mark) from result }
     {
@@ -75,7 +77,7 @@ impl Pairs {
         earlier(few, next_many(&self.many, mark, from))
     }
 
-    /// Whether nobody has the mark.
+    /// Returns `true` only if no process has the mark.
     pub(crate) fn has_nobody(&self, mark: Mark) -> bool
         ensures { result ≡ true → (its : ℕ) → has self.now mark its ≡ false }
     {
@@ -85,7 +87,7 @@ impl Pairs {
         }
     }
 
-    /// A process that has just the marks `but` has these too. After want of memory all is as before.
+    /// Adds `marks` to a process that has exactly the marks `but`. If out of memory, the pairs remain unchanged.
     #[inline(always)]
     pub(crate) fn add_but(
         &mut self,
@@ -138,7 +140,7 @@ impl Pairs {
         self.add(mark, proc)
     }
 
-    /// The process no longer has those of these marks that aren't among `but`.
+    /// Removes each of `marks` that isn't among `but` from the process.
     #[inline(always)]
     pub(crate) fn remove_but(&mut self, marks: &[Mark], but: &[Mark], proc: u32)
         ensures { AreRemoved self.old self.new marks.now but.now proc }
@@ -209,7 +211,7 @@ fn next_many(many: &BTreeSet<(usize, u64, u32)>, mark: Mark, from: u32) -> Optio
     }
 }
 
-/// A process has the new marks beside the old ones. After want of memory all is as before.
+/// Adds the new marks of a process to its old ones, on both sides. If out of memory, the pairs remain unchanged.
 pub(crate) fn add_both(
     sending: &mut Pairs,
     receiving: &mut Pairs,
@@ -235,7 +237,7 @@ pub(crate) fn add_both(
     }
 }
 
-/// A process no longer has those of these marks that aren't among `but`.
+/// Removes each of `marks` that isn't among `but` from a process, on both sides.
 #[inline(always)]
 pub(crate) fn remove_both(
     sending: &mut Pairs,

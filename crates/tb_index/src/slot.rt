@@ -8,7 +8,7 @@ use std::alloc::Global;
 use std::marker::Model;
 use tb_terms::NoMemory;
 
-/// How many pairs stand in a slot at most. Each look-up goes through all of them.
+/// The maximum number of pairs in a slot. Each look-up goes through all of them.
 const MOST_PAIRS: usize = 16;
 
 /// A process with a mark.
@@ -77,7 +77,7 @@ impl Slot {
         remove_pair(&mut self.pairs, mark, proc);
     }
 
-    /// The first process with the mark at or behind one.
+    /// Returns the first process with the mark, from a number on.
     pub(crate) fn next(&self, mark: Mark, from: u32) -> Option<u32>
         ensures { IsFirst (is_in self.now mark) from result }
     {
@@ -102,7 +102,7 @@ fn has_pair(pairs: &[Pair], mark: Mark, proc: u32) -> bool
     false
 }
 
-/// Where the process with the mark stands.
+/// Returns the position of a pair of this mark and this process.
 fn place_of(pairs: &[Pair], mark: Mark, proc: u32) -> Option<usize>
     ensures within { IfSome result (λ place. place < length pairs.now) }
     ensures here { IfSome result (λ place. is_of mark proc
@@ -126,7 +126,7 @@ fn remove_pair(pairs: &mut Vec<Pair>, mark: Mark, proc: u32)
     }
 }
 
-/// The process, where it has the mark and stands at or behind one.
+/// Returns the process of the pair, if the pair has the mark and the number of the process isn't below `from`.
 fn proc_of(pair: Pair, mark: Mark, from: u32) -> Option<u32>
     ensures { IsFirst (λ proc. is_of mark proc pair) from result }
 {
@@ -147,7 +147,7 @@ fn next_in(pairs: &[Pair], mark: Mark, from: u32) -> Option<u32>
     found
 }
 
-/// The smaller of two numbers, where there are any.
+/// Returns the smaller of two numbers, or the only one, or none.
 pub(crate) fn earlier(one: Option<u32>, other: Option<u32>) -> Option<u32>
     ensures { result ≡ earlier one other }
 {

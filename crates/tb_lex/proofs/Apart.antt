@@ -1,4 +1,4 @@
--- Where a token's text is the longest: what follows it doesn't go on with it.
+-- A token's spelling is the longest if the bytes after it can't continue it.
 use Rattle.std.proofs.Common.{◌≡◌, ℕ, ◌+◌, Bool, true, false, cond, eqb, List, [], ◌∷◌, ◌++◌, length, Some, refl, ap, sym, ◌∙◌, subst, inl}
 use Rattle.std.specs.List.{prefix_len}
 use Rattle.tb_terms.specs.Names.{is_digit, is_name, is_ident, is_name_byte}
@@ -18,13 +18,13 @@ use Rattle.tb_lex.proofs.Numbers.{numeral_longest}
 use Rattle.tb_lex.proofs.Quotes.{string_longest}
 use Rattle.tb_lex.proofs.Symbols.{symbol_first, symbol_longest}
 
--- what follows a colon or a `>` isn't the rest of another symbol
+-- the byte after a colon or a `>` isn't the rest of another symbol
 abbrev pub SymbolApart : Symbol → List ℕ → Type 0
 SymbolApart symbol.Colon rest = begins_with 61 rest ≡ false
 SymbolApart symbol.Greater rest = begins_with 62 rest ≡ false
 SymbolApart _ rest = Unit {0}
 
--- what follows a token doesn't go on with it
+-- the bytes after a token can't continue it
 abbrev pub Apart : TokenKind → List ℕ → Type 0
 Apart (kind.Int number) rest = (prefix_len is_digit rest ≡ 0) × (HasPoint rest → ⊥)
 Apart (kind.Str bytes) rest = Unit {0}
@@ -52,7 +52,7 @@ first_apart symbol.Angles rest a = refl
 first_apart symbol.Less rest a = refl
 first_apart symbol.Greater rest a = ap (λ v. Some (cond v symbol.Angles symbol.Greater)) a
 
--- a token whose text is followed so is the longest there
+-- a token whose spelling is followed by such bytes is the longest there
 pub kind_longest : (k : TokenKind) (text rest : List ℕ) → SpellsKind k text → Apart k rest → IsLongest text rest
 kind_longest (kind.Int z) text rest s a = numeral_longest text rest (number_numeral z text s) a.0
 kind_longest (kind.Str bytes) text rest s a = string_longest bytes text rest s
@@ -92,7 +92,7 @@ blank_symbol symbol.Angles rest = tt
 blank_symbol symbol.Less rest = tt
 blank_symbol symbol.Greater rest = refl
 
--- a blank goes on with no token
+-- a space continues no token
 pub blank_apart : (k : TokenKind) (rest : List ℕ) → Apart k (32 ∷ rest)
 blank_apart (kind.Int z) rest = (refl, no_point rest)
 blank_apart (kind.Str bytes) rest = tt
@@ -114,7 +114,7 @@ behind_blank (token ∷ tokens) position bytes s =
     let is = token_apart (position + 1) token text (32 ∷ rest) s.3 (blank_apart token.kind rest) s.4 s.5 in
     (32 ∷ [], text, 32 ∷ rest, ap (λ (l : List ℕ). 32 ∷ l) s.2, blank_gap, is, behind_blank tokens token.to rest s.6)
 
--- the tokens' texts with a blank behind each have these tokens
+-- spellings of tokens, each followed by a space, have these tokens
 pub spaced_lexes : (tokens : List Token) (bytes : List ℕ) → Spaced 0 tokens bytes → Lexes bytes tokens
 spaced_lexes [] bytes s = inl (subst IsGap (sym s) no_gap)
 spaced_lexes (token ∷ tokens) bytes s =

@@ -1,4 +1,4 @@
--- Claims of faults.
+-- Claims about errors.
 use Rattle.tb_lex.specs.declared.fault.LexFault.{LexFault}
 use Rattle.tb_lex.specs.declared.fault.LexFault.TheVariants as fault
 use Rattle.tb_lex.specs.Helpers.Answers.{Faulted}

@@ -1,4 +1,4 @@
--- Blanks and comments are skipped, and what is skipped is blanks and comments.
+-- Exactly the whitespace and comments at the start are skipped.
 use Rattle.std.proofs.Common.{◌≡◌, ℕ, Bool, true, false, not, ◌&&◌, ◌⊎◌, cond, eqb, List, [], ◌∷◌, ◌++◌, Option, Some, None, refl, ap, sym, ◌∙◌, subst, inl, inr, append_assoc, append-nil, arith}
 use Rattle.std.proofs.lemmas.Bool.{false≢true, eqb-true, and_parts}
 use Rattle.std.proofs.lemmas.Bool.Decides.{nat_tests}
@@ -80,7 +80,7 @@ last_skipped bytes (inr p) =
     let c = p.4 in
     ap (skip_gap false) p.2 ∙ parts_skipped p.3.0 p.0 p.1 p.3.1 ∙ ap (skip_gap false) c.1 ∙ line_ended c.0 c.2
 
--- what is skipped
+-- the bytes that are skipped
 
 pub no_gap : IsGap []
 no_gap = ([], refl)
@@ -93,7 +93,7 @@ more_last part bytes p (inl g) = inl (more_gap part bytes p g)
 more_last part bytes p (inr q) =
     inr (part ++ q.0, q.1, ap (λ (l : List ℕ). part ++ l) q.2 ∙ sym (append_assoc part q.0 q.1), more_gap part q.0 p q.3, q.4)
 
--- the text ends in blanks and comments, or something else stands behind them
+-- the source ends in whitespace and comments, or something else follows them
 abbrev Something : List ℕ → Type 0
 Something bytes = (gap : List ℕ) × (byte : ℕ) × (rest : List ℕ) × (bytes ≡ gap ++ (byte ∷ rest)) × IsGap gap × IsBegun (byte ∷ rest) × (skip_gap false bytes ≡ byte ∷ rest)
 
@@ -105,7 +105,7 @@ more_skipped part bytes p (inl s) = inl (more_last part bytes p s.0, part_skippe
 more_skipped part bytes p (inr s) =
     inr (part ++ s.0, s.1, s.2, ap (λ (l : List ℕ). part ++ l) s.3 ∙ sym (append_assoc part s.0 (s.1 ∷ s.2)), more_gap part s.0 p s.4, s.5, part_skipped part bytes p ∙ s.6)
 
--- within a comment: the line goes on to the end of the text, or to a newline behind which more follows
+-- within a comment: the line ends at the end of the source, or at a newline that more bytes follow
 abbrev InLine : List ℕ → Type 0
 InLine bytes = (line : List ℕ) × (list_all is_within_line line ≡ true) × ((bytes ≡ line) ⊎ ((rest : List ℕ) × (bytes ≡ line ++ (10 ∷ rest)) × Skipped rest))
 
@@ -114,7 +114,7 @@ in_line_by b bytes s i true e = ([], refl, inr (bytes, ap (λ n. n ∷ bytes) (e
 in_line_by b bytes s (line, h, inl p) false e = (b ∷ line, rw e h, inl (ap (λ (l : List ℕ). b ∷ l) p))
 in_line_by b bytes s (line, h, inr p) false e = (b ∷ line, rw e h, inr (p.0, ap (λ (l : List ℕ). b ∷ l) p.1, p.2))
 
--- behind the first of two percent signs
+-- after the first of two percent signs
 comment_skipped : (more line : List ℕ) → list_all is_within_line line ≡ true → ((37 ∷ more ≡ line) ⊎ ((rest : List ℕ) × (37 ∷ more ≡ line ++ (10 ∷ rest)) × Skipped rest)) → Skipped (37 ∷ 37 ∷ more)
 comment_skipped more line h (inl p) =
     let c : IsComment (37 ∷ 37 ∷ more) = (more, refl, (and_parts (is_within_line 37) (list_all is_within_line more) (subst (λ (l : List ℕ). list_all is_within_line l ≡ true) (sym p) h)).1) in

@@ -1,4 +1,4 @@
--- What is next, from what stands behind the gap.
+-- The next token or error, from the bytes after the gap.
 use Rattle.std.proofs.Common.{◌≡◌, ℕ, ◌-◌, false, cond, List, [], ◌∷◌, length, Some, Err, ap, sym, ◌∙◌, subst}
 use Rattle.std.proofs.lemmas.Bool.{ne_eqb}
 use Rattle.std.specs.List.{slice_get}

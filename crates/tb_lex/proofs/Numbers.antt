@@ -22,7 +22,7 @@ use Rattle.tb_lex.specs.declared.fault.LexFault.TheVariants as fault
 use Rattle.tb_lex.proofs.Prefixes.{all_behind, none_more, stops_by}
 use Rattle.tb_lex.proofs.Heads.{PieceOf, digit_head, piece_of}
 
--- behind the first byte of a numeral stand digits alone
+-- only digits follow the first byte of a numeral
 digits_tail : (t digits : List ℕ) (b : ℕ) → b ∷ t ≡ digits → is_digits digits ≡ true → list_all is_digit t ≡ true
 digits_tail t [] b e h = absurd (false≢true h)
 digits_tail t (d ∷ digits) b e h =
@@ -77,7 +77,7 @@ numeral_stops text rest n l =
     let longer : IsNumeral (text ++ (x ∷ [])) = (n.0, n.1 ++ (x ∷ []), ap (λ (m : List ℕ). m ++ (x ∷ [])) n.2 ∙ signed_more n.0 n.1 (x ∷ []), more_digits n.1 x n.3 ok) in
     cons_nil x (l (x ∷ []) tail e (inl longer)))
 
--- how bytes are parted that begin with a digit or a sign
+-- how bytes that begin with a digit or a sign are split
 abbrev pub Parted : ℕ → List ℕ → Type 0
 Parted b bytes = (negative : Bool) × (digits : List ℕ) × (rest : List ℕ) × (b ∷ bytes ≡ signed negative digits ++ rest)
     × (list_all is_digit digits ≡ true) × (prefix_len is_digit rest ≡ 0) × (eqb b 45 ≡ negative)
@@ -127,7 +127,7 @@ real_by rest n = by (is_real rest) refl where
   by false e = e
   by true e = absurd (n (point rest e))
 
--- what is made of digits that are followed so
+-- the result for digits with this rest after them
 pub from_whole : (from : ℕ) (negative : Bool) (digits rest : List ℕ) → is_digits digits ≡ true → (HasPoint rest → ⊥) → number_from from negative digits rest ≡ in_range from (number_of negative (digits_value digits)) rest
 from_whole from negative [] rest d n = absurd (false≢true d)
 from_whole from negative (x ∷ digits) rest d n = ap (λ v. cond v (Err (fault.Real from)) (in_range from (number_of negative (digits_value (x ∷ digits))) rest)) (real_by rest n)

@@ -1,4 +1,4 @@
--- What the scan of a text answers is its one outcome, or memory ran out.
+-- The result of a scan is the one outcome of the source, or `NoMemory`.
 use Rattle.std.proofs.Common.{◌≡◌, ℕ, ◌≤◌, ◌⊎◌, List, length, Result, Ok, Err, refl, ap, inl, inr, ⊎_elim}
 use Rattle.std.specs.Prelude.{IfOk, IfErr}
 use Rattle.tb_lex.specs.declared.token.Token.{Token}

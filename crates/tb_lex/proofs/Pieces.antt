@@ -1,4 +1,4 @@
--- The token with which bytes begin, or the fault there: what is found is what the relations say, and the other way round.
+-- The token with which bytes begin, or the error there: the lexer finds exactly what the specification defines.
 use Rattle.std.proofs.Common.{◌≡◌, ℕ, ℤ, suc, ◌-◌, ◌≤◌, Bool, true, false, ◌||◌, cond, eqb, List, [], ◌∷◌, ◌++◌, length, take, drop, Option, Some, None, Ok, Err, refl, ap, sym, ◌∙◌, subst, inl, inr}
 use Rattle.std.proofs.lemmas.Bool.{false≢true, eqb-true, and_parts}
 use Rattle.std.proofs.Math.Seq.{drop-append_seam}
@@ -36,7 +36,7 @@ found x = Ok x
 abbrev pub refused : LexFault → Read
 refused f = Err f
 
--- a token's text that is cut off from bytes
+-- a token's spelling that is split off from bytes
 abbrev pub Cut : List ℕ → Piece → Type 0
 Cut bytes x = (text : List ℕ) × (bytes ≡ text ++ x.1) × SpellsKind x.0 text × IsLongest text x.1 × IsWhole x.0 x.1
 
@@ -46,7 +46,7 @@ ok_same x y e = cc
 err_same : (f g : LexFault) → refused f ≡ refused g → f ≡ g
 err_same f g e = cc
 
--- What is found is the token there.
+-- The token that is found is the token there.
 
 lower_sound : (bytes : List ℕ) (x : Piece) → has_head head.Lower bytes ≡ true → lower_at bytes ≡ Ok x → Cut bytes x
 lower_sound bytes x h e =
@@ -113,7 +113,7 @@ has_its_head b bytes = heads_by b bytes (is_lower b) (is_upper b) (eqb b 34) (is
 
 -- The token there is found.
 
--- bytes and what is found at them
+-- bytes, and the result at their start
 abbrev pub Finds : ℕ → List ℕ → Read → Type 0
 Finds total bytes r = (b : ℕ) × (rest : List ℕ) × (bytes ≡ b ∷ rest) × (piece_at (head_of b) total bytes ≡ r)
 
@@ -159,9 +159,9 @@ piece_complete total (kind.Upper name) text rest s l w =
     subst (λ (t : List ℕ). Finds total (t ++ rest) (Ok (kind.Upper name, rest))) (sym s.1) (upper_finds total name rest s.0 (ident_stops name rest s.0 (subst (λ (t : List ℕ). IsLongest t rest) s.1 l)))
 piece_complete total (kind.Symbol symbol) text rest s l w = symbol_finds total symbol text rest s l
 
--- The fault that is found is the one there.
+-- The error that is found is the error there.
 
--- a fault of one piece
+-- an error of one piece
 abbrev pub OfPiece : LexFault → Type 0
 OfPiece (fault.BadByte at) = Unit {0}
 OfPiece (fault.OpenString at) = Unit {0}
@@ -173,7 +173,7 @@ OfPiece fault.NoMemory = ⊥
 abbrev pub Refusal : ℕ → List ℕ → LexFault → Type 0
 Refusal total bytes f = OfPiece f × IsFault f (total - length bytes) bytes
 
--- where the head tells what a piece there is, and there is none, nothing begins
+-- if no piece of the kind that the head tells is there, no token begins there
 begins_nothing : (b : ℕ) (bytes : List ℕ) → (head_of b ≡ head.Quote → ⊥) → ((t tail : List ℕ) → bytes ≡ t ++ tail → PieceOf (head_of b) (b ∷ t) → ⊥) → BeginsNothing (b ∷ bytes)
 begins_nothing b bytes q never = (b, bytes, refl, λ e. q (ap head_of e), λ text tail e p. none text tail e (piece_begun text p)) where
   none : (text tail : List ℕ) → b ∷ bytes ≡ text ++ tail → Begun text → ⊥
@@ -263,7 +263,7 @@ refused_by head.Other total b bytes f h g w e = symbol_refused_by total b bytes 
 pub piece_refused : (total b : ℕ) (bytes : List ℕ) (f : LexFault) → suc (length bytes) ≤ total → piece_at (head_of b) total (b ∷ bytes) ≡ Err f → Refusal total (b ∷ bytes) f
 piece_refused total b bytes f w e = refused_by (head_of b) total b bytes f refl (has_its_head b bytes) w e
 
--- The fault there is found.
+-- The error there is found.
 
 cut_piece : (bytes : List ℕ) (x : Piece) → Cut bytes x → BeginsNothing bytes → ⊥
 cut_piece bytes x c n = n.4 c.0 x.1 c.1 (inr (x.0, c.2))

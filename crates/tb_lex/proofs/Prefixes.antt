@@ -1,4 +1,4 @@
--- Fronts of bytes that pass a test.
+-- Prefixes of bytes that pass a test.
 use Rattle.std.proofs.Common.{◌≡◌, ℕ, suc, ◌+◌, Bool, true, false, cond, List, [], ◌∷◌, ◌++◌, refl, ap, sym, ◌∙◌, arith}
 use Rattle.std.proofs.Math.Numerals.{one-add}
 use Rattle.std.proofs.lemmas.Bool.{and_parts}
@@ -13,7 +13,7 @@ none_first p x xs e h =
     let one : suc (prefix_len p xs) ≡ 0 = sym (one-add (prefix_len p xs)) ∙ ap (λ v. cond v (1 + prefix_len p xs) 0) (sym h) ∙ e in
     absurd (omega arith)
 
--- where the first byte doesn't pass, nothing in front passes
+-- if the first byte doesn't pass, the prefix is empty
 pub none_more : (p : ℕ → Bool) (more tail : List ℕ) → prefix_len p (more ++ tail) ≡ 0 → list_all p more ≡ true → more ≡ []
 none_more p [] tail e h = refl
 none_more p (x ∷ more) tail e h = absurd (none_first p x (more ++ tail) e (and_parts (p x) (list_all p more) h).0)

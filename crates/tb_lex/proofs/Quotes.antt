@@ -1,4 +1,4 @@
--- The string with which bytes begin, or its fault.
+-- The string with which bytes begin, or its error.
 use Rattle.std.proofs.Common.{◌≡◌, ℕ, suc, ◌+◌, ◌-◌, ◌≤◌, Bool, true, false, ◌⊎◌, cond, eqb, List, [], ◌∷◌, ◌++◌, length, Result, Ok, Err, refl, ap, sym, ◌∙◌, subst, inl, inr, arith, append_assoc, append-nil}
 use Rattle.std.proofs.lemmas.Bool.{false≢true, eqb-true, eqb-false, ne_eqb}
 use Rattle.std.proofs.lemmas.List.{length-append}
@@ -22,7 +22,7 @@ use Rattle.tb_lex.proofs.Heads.{PieceOf, piece_of}
 use Rattle.tb_lex.proofs.Strings.{Pair, turned, read, read_in_term, read_here}
 use Rattle.tb_lex.proofs.Walks.{Step, Walks, one_more, goes_facts, puts_facts, next_facts, NextFacts, walk_steady, ten_bad, rest_read, walk_read, text_read, read_text, walk_in_string, in_string, in_string_begins, uncut, inside_of}
 
--- a string is its longest text
+-- a string's spelling is the longest there
 pub string_longest : (bytes text rest : List ℕ) → SpellsString bytes text → IsLongest text rest
 string_longest bytes text rest s more tail e p =
     let inner = s.inner ++ (34 ∷ []) in
@@ -66,9 +66,9 @@ of_by q total bytes x h (Ok y) er e = found_by q bytes x y h (read_in_term (tota
 pub string_found : (q total : ℕ) (bytes : List ℕ) (x : Piece) → q ≡ 34 → string_at total (q ∷ bytes) ≡ Ok x → StringFound (q ∷ bytes) x
 string_found q total bytes x h e = of_by q total bytes x h (string_rest (total - suc (length bytes)) total Between bytes) refl e
 
--- Where a string that is read has a fault.
+-- The position of a string's error.
 
--- the text ends, or byte 10 stands there
+-- the source ends, or a newline (LF) is there
 abbrev pub IsStop : List ℕ → Type 0
 IsStop stop = (stop ≡ []) ⊎ ((more : List ℕ) × (stop ≡ 10 ∷ more))
 
@@ -84,7 +84,7 @@ EscapeAt t w bytes f = (pre : List ℕ) × (v : Within) × (letter : ℕ) × (re
 abbrev Outcome : ℕ → ℕ → Within → List ℕ → LexFault → Type 0
 Outcome q t w bytes f = OpenAt q w bytes f ⊎ (BadAt t w bytes f ⊎ EscapeAt t w bytes f)
 
--- the letter behind a backslash is at fault
+-- the letter after a backslash is wrong
 abbrev LetterAt : ℕ → Within → List ℕ → LexFault → Type 0
 LetterAt t w bytes f = (letter : ℕ) × (rest : List ℕ) × (bytes ≡ letter ∷ rest) × (w ≡ Escaped) × (letter ≡ 10 → ⊥) × (string_turn Escaped letter ≡ Bad) × (f ≡ fault.BadByte (t - suc (length rest) - 1))
 
@@ -133,7 +133,7 @@ ended : (q t : ℕ) (bytes : List ℕ) (f : LexFault) → Ended q t bytes f
 ended q t [] f w s e = inl (inl ([], w, [], refl, refl, inl refl, sym (err_same {X = Pair} (fault.OpenString q) f e)))
 ended q t (b ∷ bytes) f w s e = turn_by q t b bytes f (ended q t bytes f) w s (string_turn w b) refl e
 
--- no string begins with a walk and a byte that can't go on
+-- no string begins with a walk and a byte that can't continue it
 no_string : (pre : List ℕ) (v : Within) (b : ℕ) (more : List ℕ) → Walks Between pre v → ((tail : List ℕ) (y : Pair) → term_string 0 v (b ∷ (more ++ tail)) ≡ Ok y → ⊥) → BeginsString (34 ∷ pre ++ b ∷ more) → ⊥
 no_string pre v b more p never g =
     let l = (pre ++ (b ∷ more)) ++ g.0 in
@@ -148,7 +148,7 @@ bad_never v b bad tail y e = let no : term_turned 0 Bad tail ≡ Ok y = ap (λ u
 escape_never : (v : Within) (letter : ℕ) → string_turn v 92 ≡ Goes Escaped → string_turn Escaped letter ≡ Bad → (tail : List ℕ) (y : Pair) → term_string 0 v (92 ∷ letter ∷ tail) ≡ Ok y → ⊥
 escape_never v letter goes bad tail y e = bad_never Escaped letter bad tail y (ap (λ u. term_turned 0 u (letter ∷ tail)) (sym goes) ∙ e)
 
--- what is at fault in a string whose quote stands at this position
+-- the error of a string whose quote is at this position
 abbrev pub StringFault : LexFault → ℕ → List ℕ → Type 0
 StringFault f position bytes = ((f ≡ fault.OpenString position) × IsOpenString bytes) ⊎ ((at : ℕ) × (f ≡ fault.BadByte at) × HasBadByte at position bytes)
 
@@ -189,14 +189,14 @@ string_of_err : (r : Result Pair LexFault) (f : LexFault) → string_of r ≡ Er
 string_of_err (Err g) f e = let same : g ≡ f = cc in ap (λ (h : LexFault). Err h) same
 string_of_err (Ok y) f e = cc
 
--- the fault that is found is the string's
+-- the error that is found is the string's error
 pub string_refused : (total q : ℕ) (bytes : List ℕ) (f : LexFault) → q ≡ 34 → suc (length bytes) ≤ total → string_at total (q ∷ bytes) ≡ Err f → StringFault f (total - suc (length bytes)) (q ∷ bytes)
 string_refused total q bytes f h w e = by (ended (total - suc (length bytes)) total bytes f Between tt (string_of_err (string_rest (total - suc (length bytes)) total Between bytes) f e)) where
   by : Outcome (total - suc (length bytes)) total Between bytes f ⊎ LetterAt total Between bytes f → StringFault f (total - suc (length bytes)) (q ∷ bytes)
   by (inl o) = outcome_fault total q bytes f h w o
   by (inr o) = absurd (subst IsInside o.3 tt)
 
--- The string's fault is found.
+-- The string's error is found.
 
 walk_err : (q t : ℕ) (pre stop : List ℕ) (w v : Within) (f : LexFault) → Walks w pre v → string_rest q t v stop ≡ Err f → string_rest q t w (pre ++ stop) ≡ Err f
 walk_err q t [] stop w v f p e = subst (λ u. string_rest q t u stop ≡ Err f) (sym p) e
@@ -233,7 +233,7 @@ open_complete total q bytes o =
 abbrev BadTurn : ℕ → ℕ → Within → ℕ → List ℕ → Type 0
 BadTurn q t v b rest = string_rest q t v (b ∷ rest) ≡ Err (fault.BadByte (t - suc (length rest)))
 
--- a turn that isn't bad goes on to a string
+-- a turn that isn't bad can be continued to a string
 may_continue : (pre : List ℕ) (v : Within) (b : ℕ) → Walks Between pre v → (t : Turn) → string_turn v b ≡ t → ((BeginsString (34 ∷ pre ++ b ∷ [])) → ⊥) → t ≡ Bad
 may_continue pre v b p Bad et n = refl
 may_continue pre v b p Ends et n =

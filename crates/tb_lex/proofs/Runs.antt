@@ -1,4 +1,4 @@
--- What is scanned from the left is what the relations say, and the other way round.
+-- The scan from the left finds exactly the tokens and errors that the specification defines.
 use Rattle.std.proofs.Common.{◌≡◌, ℕ, zero, suc, ◌+◌, ◌-◌, ◌≤◌, ◌<◌, Bool, true, false, not, ◌||◌, ◌⊎◌, cond, eqb, List, [], ◌∷◌, ◌++◌, length, Option, Some, None, Ok, Err, refl, ap, sym, ◌∙◌, subst, inl, inr, arith, append_assoc}
 use Rattle.std.proofs.lemmas.Bool.{false≢true, eqb-true, eqb-false, ne_eqb, eq-eqb}
 use Rattle.std.proofs.lemmas.Bool.Decides.{nat_tests}
@@ -20,7 +20,7 @@ use Rattle.tb_lex.proofs.Heads.{PieceOf, piece_begun}
 use Rattle.tb_lex.proofs.Symbols.{symbol_head}
 use Rattle.tb_lex.proofs.Pieces.{Piece, Cut, OfPiece, piece_sound, has_its_head, piece_complete, piece_refused, refused_complete}
 
--- What stands first in a piece is neither a blank nor a comment.
+-- A piece begins with neither whitespace nor a comment.
 
 abbrev IsClear : ℕ → Type 0
 IsClear b = (is_blank b ≡ false) × (eqb b 37 ≡ false)
@@ -77,7 +77,7 @@ piece_is_begun text rest p =
 abbrev token_at : ℕ → ℕ → Piece → Token
 token_at total from x = record { kind = x.0; from = from; to = total - length x.1 }
 
--- what stands at a position behind the gap, once it is known whether the limit is reached, and what is read
+-- the next token or error at a position after the gap, given whether the limit is reached, and what is read
 abbrev chosen : ℕ → ℕ → Bool → Read → Next
 chosen total from v r = cond v (Ends (Some fault.TooMany)) (made total from r)
 
@@ -134,9 +134,9 @@ last_sound limit count total bytes m = by (skipped bytes) where
 last_complete : (limit count total : ℕ) (bytes : List ℕ) → IsLast bytes → next_of limit count total bytes ≡ Ends None
 last_complete limit count total bytes l = ap (next_at limit count total) (last_skipped bytes l)
 
--- The fault.
+-- The error.
 
--- a fault and how many tokens stand before it
+-- an error, and how many tokens are before it
 abbrev Counts : ℕ → ℕ → LexFault → Type 0
 Counts limit count f = ((f ≡ fault.TooMany) × (count ≡ limit)) ⊎ (OfPiece f × (count ≡ limit → ⊥))
 
@@ -163,7 +163,7 @@ stops_sound limit count total bytes f w m = by (skipped bytes) where
       stops_by limit count total bytes s.0 s.1 s.2 f s.3 s.4 s.5 w (eqb count limit) refl (piece_at (head_of s.1) total (s.1 ∷ s.2)) refl
       (ap (next_at limit count total) (sym s.6) ∙ m)
 
--- the bytes behind the gap
+-- the bytes after the gap
 reached : (limit count total : ℕ) (bytes gap l : List ℕ) → bytes ≡ gap ++ l → IsGap gap → IsBegun l → next_of limit count total bytes ≡ next_at limit count total l
 reached limit count total bytes gap l e g b = ap (next_at limit count total) (ap (skip_gap false) e ∙ gap_skipped gap l g b)
 
@@ -186,7 +186,7 @@ stops_complete limit count total bytes f w s c =
           ap (λ v. chosen total from v (piece_at (head_of b) total (b ∷ rest))) (ne_eqb count limit q.1)
           ∙ ap (made total from) (refused_complete total b rest f fits q.0 is)
 
--- Rows of tokens.
+-- Sequences of tokens.
 
 runs_sound : (limit total : ℕ) (end : Option LexFault) (P : ℕ → List ℕ → Type 0) (tokens : List Token) (count : ℕ) (bytes : List ℕ) → length bytes ≤ total → ((l : List ℕ) → length l ≤ total → next_of limit (count + length tokens) total l ≡ Ends end → P (total - length l) l) → Runs limit count total bytes tokens end → TokensThen P (total - length bytes) bytes tokens
 runs_sound limit total end P [] count bytes w base r =
@@ -276,7 +276,7 @@ runs_same (t ∷ ts) (u ∷ us) limit count total bytes e f p q =
     let rest = runs_same ts us limit (count + 1) total p.0 e f p.2 more in
     (ap (λ (k : Token). k ∷ ts) same.0 ∙ ap (λ (l : List Token). u ∷ l) rest.0, rest.1)
 
--- Of whole texts.
+-- Whole sources.
 
 from_start : (bytes : List ℕ) → length bytes - length bytes ≡ 0
 from_start bytes = omega arith
@@ -306,7 +306,7 @@ runs_counts limit total f (token ∷ tokens) count bytes w r =
     let counted : count + 1 + length tokens ≡ count + length (token ∷ tokens) = omega arith in
     subst (λ n. Counts limit n f) counted (runs_counts limit total f tokens (count + 1) r.0 p.0 r.2)
 
--- a fault of one piece, with fewer tokens before it than the limit; or too many tokens
+-- an error of one piece, with fewer tokens before it than the limit; or too many tokens
 abbrev Cause : List ℕ → LexFault → Type 0
 Cause bytes f = (OfPiece f × StopsAt bytes f) ⊎ ((f ≡ fault.TooMany) × HasFault bytes fault.TooMany)
 
@@ -404,7 +404,7 @@ no_fault bytes tokens f l c h = by (memory_or_not f) where
   by (inl e) = e
   by (inr n) = absurd (lexes_no_stop bytes tokens f l c (fault_scan bytes f h n))
 
--- Each text is scanned to some end.
+-- The scan of each source ends.
 
 abbrev Ran : ℕ → ℕ → ℕ → List ℕ → Type 0
 Ran limit count total bytes = (tokens : List Token) × (end : Option LexFault) × Runs limit count total bytes tokens end

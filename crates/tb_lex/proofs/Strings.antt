@@ -1,4 +1,4 @@
--- A string that is read here is one that is read in a term.
+-- The lexer reads strings as the reader of terms does.
 use Rattle.std.proofs.Common.{◌≡◌, ℕ, suc, ◌-◌, true, List, [], ◌∷◌, ◌++◌, length, Result, Ok, Err, refl, ap, sym, ◌∙◌}
 use Rattle.tb_terms.specs.Names.{is_string}
 use Rattle.tb_read.specs.declared.quoted.Within.{Within}
@@ -15,7 +15,7 @@ use Rattle.tb_lex.specs.Helpers.Scanning.{string_fault, string_rest, with_prefix
 abbrev pub Pair : Type 0
 Pair = List ℕ × List ℕ
 
--- what a string's rest is, once the turn of its first byte is known
+-- the rest of a string, given the turn of its first byte
 abbrev pub turned : ℕ → ℕ → Within → ℕ → Turn → List ℕ → Result Pair LexFault
 turned quote total within byte turn bytes = elim turn [
   | Ends ↦ Ok ([], bytes)

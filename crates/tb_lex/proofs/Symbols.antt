@@ -80,11 +80,11 @@ first_by b bytes s false false false false true w ep eq er et eu ew e = one symb
 first_by b bytes s false false false false false true ep eq er et eu ew e = one symbol.RightBrace 125 b bytes s refl ew e
 first_by b bytes s false false false false false false ep eq er et eu ew e = mid_by b bytes s (eqb b 44) (eqb b 46) (eqb b 58) (eqb b 61) (eqb b 63) (eqb b 43) refl refl refl refl refl refl e
 
--- a symbol that is found stands first
+-- a symbol that is found is at the start
 pub symbol_sound : (b : ℕ) (bytes : List ℕ) (s : Symbol) → symbol_of b bytes ≡ Some s → BeginsSymbol (b ∷ bytes) s
 symbol_sound b bytes s e = first_by b bytes s (eqb b 40) (eqb b 41) (eqb b 91) (eqb b 93) (eqb b 123) (eqb b 125) refl refl refl refl refl refl e
 
--- where a symbol stands first, one is found that is no shorter
+-- if a symbol is at the start, the symbol that is found isn't shorter
 abbrev pub Most : Symbol → List ℕ → Type 0
 Most s tail = (f : Symbol) × (symbol_first (symbol_text s ++ tail) ≡ Some f) × (length (symbol_text s) ≤ length (symbol_text f))
 
@@ -116,7 +116,7 @@ most symbol.Angles tail = (symbol.Angles, refl, lit≤ tt)
 most symbol.Less tail = (symbol.Less, refl, lit≤ tt)
 most symbol.Greater tail = greater_most tail (begins_with 62 tail) refl
 
--- the first byte of a symbol begins no other piece, no blanks and no comment
+-- the first byte of a symbol begins no other piece, no whitespace, and no comment
 abbrev pub SymbolHead : List ℕ → Type 0
 SymbolHead text = (b : ℕ) × (rest : List ℕ) × (text ≡ b ∷ rest) × (head_of b ≡ head.Other) × (is_blank b ≡ false) × (eqb b 37 ≡ false)
 

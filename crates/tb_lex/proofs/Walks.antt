@@ -100,12 +100,12 @@ prefix_by other b inner d tail w ih (Puts c next) et x e n =
     (f.0, (next, inr (c, et), f.1), f.2)
 prefix_by other b inner d tail w ih Bad et x e n = cc
 
--- a front of a string is walked through
+-- a walk goes through each prefix of a string
 prefix : (other : ℕ) (inner : List ℕ) (d : ℕ) (tail : List ℕ) (w : Within) (x : Pair) → term_string other w (inner ++ (d ∷ tail)) ≡ Ok x → x.1 ≡ [] → Prefix other inner (d ∷ tail) w
 prefix other [] d tail w x e n = (w, refl, (x, e))
 prefix other (b ∷ inner) d tail w x e n = prefix_by other b inner d tail w (prefix other inner d tail) (string_turn w b) refl x e n
 
--- behind a walk the rest is read
+-- after a walk, the rest is read
 pub rest_read : (other : ℕ) (pre rest : List ℕ) (w v : Within) (x : Pair) → Walks w pre v → term_string other w (pre ++ rest) ≡ Ok x → (y : Pair) × (term_string other v rest ≡ Ok y)
 rest_read other [] rest w v x p e = (x, subst (λ u. term_string other u rest ≡ Ok x) p e)
 rest_read other (b ∷ pre) rest w v x p e = by p.1 (λ z h. rest_read other pre rest p.0 v z p.2 h) where
@@ -212,7 +212,7 @@ uncut_from : (pre : List ℕ) (w v : Within) → Steady w → Walks w pre v → 
 uncut_from [] w v s p i = from_uncut w [] (subst IsInside (sym p) i) ([], refl)
 uncut_from (b ∷ pre) w v s p i = step_uncut b pre w p.0 s p.1 (uncut_from pre p.0 v (step_steady w b p.0 s p.1) p.2 i)
 
--- behind a walk that doesn't end behind a backslash, no escape is cut off
+-- after a walk that doesn't end after a backslash, no escape is cut off
 pub uncut : (pre : List ℕ) (v : Within) → Walks Between pre v → IsInside v → IsUncut pre
 uncut pre v p i = uncut_from pre Between v tt p i
 
@@ -231,7 +231,7 @@ escaped_step : (b : ℕ) (next : Within) → Step Escaped b next → next ≡ Be
 escaped_step b next (inl e) = absurd (goes_facts Escaped b next tt e).0
 escaped_step b next (inr p) = (escaped_puts b p.0 next p.1).2
 
--- where no escape is cut off, a walk doesn't end behind a backslash
+-- if no escape is cut off, a walk doesn't end after a backslash
 pub inside_of : (put pre : List ℕ) (w v : Within) → IsInside w → Steady w → SpellsBytes put pre → Walks w pre v → IsInside v
 inside_of [] pre w v i s e p = subst IsInside (subst (λ (l : List ℕ). Walks w l v) e p) i
 inside_of (b ∷ put) pre w v i s e p = by e.3 (λ u j t q. inside_of put e.1 u v j t e.4 q) where

@@ -1,3 +1,3 @@
--- Definitions that proofs and private functions need, and that nobody has to believe.
+-- Definitions for proofs and private functions. A reader of the contracts of public calls needn't trust them.
 pub mod Answers
 pub mod Scanning

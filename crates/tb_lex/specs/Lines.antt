@@ -1,4 +1,4 @@
--- The text of the line of a fault of the tokens, at its byte.
+-- The message of each error, with its position in bytes.
 use Rattle.std.specs.Prelude.{ℕ, List, ◌++◌, codes}
 use Rattle.std.specs.Fmt.{decimal}
 use Rattle.tb_lex.specs.declared.fault.LexFault.{LexFault}

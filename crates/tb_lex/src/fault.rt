@@ -1,4 +1,4 @@
-//! Why bytes have no tokens.
+//! The errors of a source that can't be tokenized.
 ghost use Rattle.std.specs.Prelude.{◌≡◌};
 ghost use Rattle.tb_message.specs.Messages.{message_text};
 ghost use Rattle.tb_lex.specs.Lines.{lex_line};
@@ -8,32 +8,32 @@ use tb_message::Message;
 use tb_terms::NoMemory;
 use thiserror::Error;
 
-/// Why bytes have no tokens: the first fault from the left. Positions count the bytes from 0.
+/// The first error, from the left, of a source that can't be tokenized. Positions are bytes counted from 0.
 #[derive(Clone, Copy, Debug, Drop, Error, PartialEq, Eq)]
 pub enum LexFault {
-    /// A byte that begins no token, or that can't go on in a string; of a backslash that begins no
-    /// escape the backslash's position.
+    /// The position of a byte that begins no token, or that can't continue a string. If a backslash in a string begins no escape,
+    /// this is the backslash's position.
     #[error("byte {0}")]
     BadByte(usize),
-    /// The quote of a string that meets the end of its line or of the text.
+    /// The position of the opening quote of a string that isn't closed before the end of its line or of the source.
     #[error("open string {0}")]
     OpenString(usize),
-    /// The first byte of a number that is followed directly by a point and a digit.
+    /// The position of the first byte of a number that a point and a digit follow directly.
     #[error("real {0}")]
     Real(usize),
-    /// The first byte of a number that 64 bits don't hold, and that is no real.
+    /// The position of the first byte of a number that doesn't fit in 64 bits, and that no point and digit follow directly.
     #[error("integer {0}")]
     IntRange(usize),
-    /// Something other than blanks and comments follows 200,000 tokens.
+    /// Something other than whitespace and comments follows 200,000 tokens.
     #[error("too many tokens")]
     TooMany,
-    /// There wasn't memory enough; it says nothing of the bytes.
+    /// The call ran out of memory. This error makes no claim about the source.
     #[error("no memory")]
     NoMemory,
 }
 
 impl LexFault {
-    /// The words of its line.
+    /// Returns the message of the error: one line without its end.
     pub fn message(&self) -> Message<'static>
         ensures { message_text result ≡ lex_line self.now }
     {

@@ -1,11 +1,11 @@
-//! Blanks and comments.
+//! Whitespace and comments.
 ghost use Rattle.std.specs.Prelude.{◌≡◌, ◌≤◌, length, false};
 ghost use Rattle.tb_lex.specs.Helpers.Scanning.{gap_step, skip_gap};
 
 use crate::symbol::begins_with;
 use tb_read::is_blank;
 
-/// What stands behind the blanks and comments in front.
+/// Returns the bytes after the whitespace and the comments with which the bytes begin.
 pub(crate) fn skip_gap(bytes: &[u8]) -> &[u8]
     ensures rest { result.now ≡ skip_gap false bytes.now }
     ensures shorter { length result.now ≤ length bytes.now }
@@ -20,7 +20,8 @@ pub(crate) fn skip_gap(bytes: &[u8]) -> &[u8]
     &bytes[bytes.len()..]
 }
 
-/// Whether a byte belongs to blanks and comments, and if so, whether a comment goes on behind it.
+/// Returns none if the byte belongs neither to whitespace nor to a comment. Otherwise, returns whether a comment continues after
+/// it.
 fn gap_step(in_comment: bool, byte: u8, behind: &[u8]) -> Option<bool>
     ensures { result ≡ gap_step in_comment byte behind.now }
 {

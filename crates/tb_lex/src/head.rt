@@ -1,8 +1,8 @@
-//! What begins with a byte.
+//! The kind of token that a byte can begin.
 ghost use Rattle.std.specs.Prelude.{◌≡◌};
 ghost use Rattle.tb_lex.specs.Helpers.Scanning.{head_of};
 
-/// What begins with a byte.
+/// The kind of token that a byte can begin.
 #[derive(Clone, Copy, PartialEq, Eq)]
 pub(crate) enum Head {
     Lower,
@@ -10,7 +10,7 @@ pub(crate) enum Head {
     Quote,
     /// A digit or a sign.
     Numeral,
-    /// A symbol, or nothing.
+    /// A symbol, or no token.
     Other,
 }
 

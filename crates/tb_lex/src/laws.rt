@@ -1,4 +1,4 @@
-//! What holds of tokens whatever the bytes are. These calls change nothing: their contracts are the laws.
+//! Theorems about tokens. These calls change nothing: their contracts are the theorems.
 
 ghost use Rattle.std.specs.Prelude.{◌≡◌, ◌≢◌, ◌≤◌, ◌⊎◌, ℕ, List, length};
 ghost use Rattle.tb_lex.specs.declared.token.Token.{Token};
@@ -7,12 +7,12 @@ ghost use Rattle.tb_lex.specs.declared.fault.LexFault.TheVariants.{NoMemory};
 ghost use Rattle.tb_lex.specs.Tokens.{Lexes, most_tokens, AreSlices, Spaced};
 ghost use Rattle.tb_lex.specs.Faults.{HasFault};
 
-/// A text has at most one row of tokens.
+/// States that a source has at most one sequence of tokens.
 pub fn lexing_is_unique()
     ensures { (bytes : List ℕ) (ts us : List Token) → Lexes bytes ts → Lexes bytes us → ts ≡ us }
 {}
 
-/// Unless memory runs out, a text has one fault at most, and none where it has tokens within the limit.
+/// States that a source has at most one error other than `NoMemory`, and none if it has tokens within the limit.
 pub fn faults_are_unique()
     ensures one { (bytes : List ℕ) (f g : LexFault) → HasFault bytes f → HasFault bytes g
         → f ≢ NoMemory → g ≢ NoMemory → f ≡ g }
@@ -20,20 +20,20 @@ pub fn faults_are_unique()
         → length tokens ≤ most_tokens → HasFault bytes f → f ≡ NoMemory }
 {}
 
-/// Each text has tokens within the limit, or a fault other than running out of memory.
+/// States that each source has tokens within the limit, or an error other than `NoMemory`.
 pub fn each_text_has_one()
     ensures { (bytes : List ℕ)
         → ((tokens : List Token) × Lexes bytes tokens × (length tokens ≤ most_tokens))
         ⊎ ((f : LexFault) × HasFault bytes f × (f ≢ NoMemory)) }
 {}
 
-/// The tokens of a text stand in it in order, each spelled by its bytes between the token's positions.
+/// States that the tokens of a source are in order, none empty, and that the bytes between a token's positions spell it.
 pub fn tokens_are_slices()
     ensures { (bytes : List ℕ) (tokens : List Token)
         → Lexes bytes tokens → AreSlices bytes 0 tokens }
 {}
 
-/// However tokens are spelled, their texts with a blank behind each have these tokens.
+/// States that spellings of tokens, each followed by a space, form a source that has these tokens.
 pub fn spaced_tokens_lex()
     ensures { (tokens : List Token) (bytes : List ℕ) → Spaced 0 tokens bytes → Lexes bytes tokens }
 {}

@@ -13,19 +13,19 @@ use crate::{LexFault, Token, Tokens};
 use std::alloc::Global;
 use tb_terms::Items;
 
-/// How many tokens a script may have.
+/// The greatest number of tokens of a script.
 const MOST_TOKENS: usize = 200_000;
 
-/// The tokens of a script's text, of which there are at most 200,000.
+/// Returns the tokens of a script's source, at most 200,000, or the first error from the left, or `NoMemory`.
 pub fn lex(alloc: Global, bytes: &[u8]) -> Result<Tokens<'_>, LexFault>
     ensures found { IfOk result (λ tokens. Lexes bytes.now tokens × (length tokens ≤ most_tokens)) }
 
-    // Nothing else keeps a text from being cut into its tokens.
+    // If the source has at most 200,000 tokens, the call fails only if it runs out of memory.
     ensures only { (tokens : List Token) → Lexes bytes.now tokens → length tokens ≤ most_tokens
         → (result ≡ Ok tokens) ⊎ (result ≡ Err LexFault.NoMemory) }
     ensures fault { IfErr result (HasFault bytes.now) }
 
-    // Where the text has a fault, this is what comes.
+    // If the source has an error other than `NoMemory`, the call returns this error or `NoMemory`.
     ensures exact { (f : LexFault) → HasFault bytes.now f → f ≢ LexFault.NoMemory
         → (result ≡ Err f) ⊎ (result ≡ Err LexFault.NoMemory) }
 {
@@ -48,7 +48,7 @@ fn scan(alloc: Global, bytes: &[u8]) -> Result<Tokens<'_>, LexFault>
     }
 }
 
-/// The next token and the bytes behind it, or none at the end.
+/// Returns the next token and the bytes after it, or none at the end. `count` is the number of tokens before it.
 fn next(
     alloc: Global,
     count: usize,

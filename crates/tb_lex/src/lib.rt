@@ -1,4 +1,4 @@
-//! The tokens of a script: a text is cut into them from the left, and each other text has the first fault.
+//! Splits the source of a script into tokens, from the left. A source without tokens has a first error.
 #![tactic(auto)]
 
 mod fault;

@@ -6,7 +6,9 @@ ghost use Rattle.tb_lex.specs.Helpers.Answers.{Gives};
 use crate::{LexFault, TokenKind};
 use tb_read::{digits_len, digits_value, is_negative, is_real, number_of, without_sign};
 
-/// The number with whose sign or first digit the bytes begin, and the bytes behind it.
+/// Reads the number with whose sign or first digit the bytes begin. Returns it with the bytes after it.
+/// A sign without a digit is `BadByte`; a number before a point and a digit is `Real`, whatever its range.
+/// `total` is the length of the source: an error has the position of the number's first byte.
 pub(crate) fn number_at(total: usize, bytes: &[u8]) -> Result<(TokenKind<'_>, &[u8]), LexFault>
     requires { length bytes.now ≤ total }
     ensures number { Gives (λ x. (x.0, x.1.now)) result (number_at total bytes.now) }

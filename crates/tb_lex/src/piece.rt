@@ -1,4 +1,4 @@
-//! The token at the start of a text.
+//! The token at the start of bytes.
 ghost use Rattle.std.specs.Prelude.{◌≡◌, ◌≤◌, ◌<◌, length, drop, IsTrue, IfOk, Ok};
 ghost use Rattle.std.specs.List.{prefix_len};
 ghost use Rattle.tb_terms.specs.Names.{is_name_byte};
@@ -13,7 +13,8 @@ use crate::{LexFault, LowerWord, TokenKind, UpperWord};
 use std::alloc::Global;
 use tb_read::is_name_byte;
 
-/// What the token is with which the bytes begin, and the bytes behind it. The first byte tells the head.
+/// Reads the token with which the bytes begin. Returns its kind with the bytes after it. `head` tells what the first byte begins.
+/// `total` is the length of the source, of which the bytes are the end: an error's position follows from the two lengths.
 pub(crate) fn piece_at(
     alloc: Global,
     head: Head,
@@ -34,7 +35,7 @@ pub(crate) fn piece_at(
     }
 }
 
-/// The lower name with whose first letter the bytes begin, and the bytes behind it.
+/// Returns the name with whose lower-case letter the bytes begin, and the bytes after it.
 fn lower_at(bytes: &[u8]) -> (TokenKind<'_>, &[u8])
     requires { IsTrue (has_head Head.Lower bytes.now) }
     ensures name { lower_at bytes.now ≡ Ok (result.0, result.1.now) }
@@ -44,7 +45,7 @@ fn lower_at(bytes: &[u8]) -> (TokenKind<'_>, &[u8])
     (TokenKind::Lower(LowerWord::new(name)), rest)
 }
 
-/// The upper name with whose first letter the bytes begin, and the bytes behind it.
+/// Returns the name with whose upper-case letter the bytes begin, and the bytes after it.
 fn upper_at(bytes: &[u8]) -> (TokenKind<'_>, &[u8])
     requires { IsTrue (has_head Head.Upper bytes.now) }
     ensures name { upper_at bytes.now ≡ Ok (result.0, result.1.now) }
@@ -54,7 +55,7 @@ fn upper_at(bytes: &[u8]) -> (TokenKind<'_>, &[u8])
     (TokenKind::Upper(UpperWord::new(name)), rest)
 }
 
-/// How many bytes come first that may stand in a name.
+/// Returns how many bytes at the start can occur in a name.
 fn name_len(bytes: &[u8]) -> usize
     ensures value { result ≡ prefix_len is_name_byte bytes.now }
     ensures within { result ≤ length bytes.now }
@@ -67,7 +68,7 @@ fn name_len(bytes: &[u8]) -> usize
     bytes.len()
 }
 
-/// The symbol with which the bytes begin, and the bytes behind it.
+/// Returns the symbol with which the bytes begin, and the bytes after it. If no symbol begins here, the error is `BadByte`.
 fn symbol_at(total: usize, bytes: &[u8]) -> Result<(TokenKind<'_>, &[u8]), LexFault>
     requires { length bytes.now ≤ total }
     ensures symbol { Gives (λ x. (x.0, x.1.now)) result (symbol_at total bytes.now) }

@@ -9,7 +9,7 @@ use std::alloc::Global;
 use tb_read::{Turn, Within, string_turn};
 use tb_terms::Text;
 
-/// The string with whose quote the bytes begin, and the bytes behind it.
+/// Reads the string with whose quote the bytes begin. Returns it with the bytes after its closing quote.
 pub(crate) fn string_at(
     alloc: Global,
     total: usize,
@@ -29,7 +29,8 @@ pub(crate) fn string_at(
     }
 }
 
-/// What the string puts whose quote stands directly before these bytes, and the bytes behind it.
+/// Returns the content of the string whose opening quote is directly before these bytes, and the bytes after its closing quote.
+/// Each escape in the content is replaced by its byte.
 fn string_rest(alloc: Global, total: usize, bytes: &[u8]) -> Result<(Vec<u8>, &[u8]), LexFault>
     requires { length bytes.now < total }
     ensures string { Gives (λ x. (x.0.items, x.1.now)) result
@@ -55,7 +56,8 @@ fn string_rest(alloc: Global, total: usize, bytes: &[u8]) -> Result<(Vec<u8>, &[
     Err(LexFault::OpenString(quote))
 }
 
-/// The fault of a string that can't go on with this byte, which stands at this position.
+/// Returns the error of a string that can't continue with this byte, which is at this position.
+/// For a newline, the error is `OpenString`. After a backslash, `BadByte` has the backslash's position.
 fn string_fault(quote: usize, position: usize, within: Within, byte: u8) -> LexFault
     requires { 0 < position }
     ensures { result ≡ string_fault quote position within byte }

@@ -44,7 +44,7 @@ pub enum Symbol {
     Greater,
 }
 
-/// The longest symbol with which bytes begin, of this first byte and those behind it.
+/// Returns the longest symbol with which the bytes begin: `byte` is the first of them, and `behind` the bytes after it.
 pub(crate) fn symbol_of(byte: u8, behind: &[u8]) -> Option<Symbol>
     ensures { result ≡ symbol_of byte behind.now }
 {
@@ -69,7 +69,7 @@ pub(crate) fn symbol_of(byte: u8, behind: &[u8]) -> Option<Symbol>
     }
 }
 
-/// How many bytes its text has.
+/// Returns how many bytes the symbol has.
 pub(crate) fn symbol_len(symbol: Symbol) -> usize
     ensures { result ≡ length (symbol_text symbol) }
 {

@@ -1,4 +1,4 @@
-//! Names where they stand in a text.
+//! Names that borrow their bytes from the source.
 ghost use Rattle.std.specs.Prelude.{◌≡◌, IsTrue, IfOk};
 ghost use Rattle.tb_terms.specs.Names.{is_name, is_ident};
 
@@ -6,8 +6,7 @@ use std::alloc::Global;
 use std::marker::Model;
 use tb_terms::{Ident, Name, NoMemory};
 
-/// A name that begins with a lower-case letter, where it stands in a text: it takes no memory.
-/// Contracts see it as its bytes.
+/// A name that begins with a lower-case letter. It borrows its bytes from the source. Contracts see it as its bytes.
 #[derive(Drop)]
 pub struct LowerWord<'a> {
     bytes: &'a [u8],
@@ -25,7 +24,7 @@ impl<'a> Model for LowerWord<'a> {
 }
 
 impl<'a> LowerWord<'a> {
-    /// The name that has these bytes.
+    /// Returns the name that has these bytes.
     pub fn new(bytes: &'a [u8]) -> LowerWord<'a>
         requires { IsTrue (is_name bytes.now) }
         ensures { result ≡ bytes.now }
@@ -33,7 +32,7 @@ impl<'a> LowerWord<'a> {
         LowerWord { bytes }
     }
 
-    /// Its bytes.
+    /// Returns the bytes of the name.
     pub fn as_bytes(&self) -> &'a [u8]
         ensures value { result.now ≡ self.now }
         ensures form { IsTrue (is_name self.now) }
@@ -41,7 +40,7 @@ impl<'a> LowerWord<'a> {
         self.bytes
     }
 
-    /// The same name in memory of its own.
+    /// Returns the same name in memory of its own. Fails only if memory runs out.
     pub fn copy(&self, alloc: Global) -> Result<Name, NoMemory>
         ensures { IfOk result (λ name. name ≡ self.now) }
     {
@@ -49,8 +48,7 @@ impl<'a> LowerWord<'a> {
     }
 }
 
-/// A name that begins with an upper-case letter, where it stands in a text: it takes no memory.
-/// Contracts see it as its bytes.
+/// A name that begins with an upper-case letter. It borrows its bytes from the source. Contracts see it as its bytes.
 #[derive(Drop)]
 pub struct UpperWord<'a> {
     bytes: &'a [u8],
@@ -68,7 +66,7 @@ impl<'a> Model for UpperWord<'a> {
 }
 
 impl<'a> UpperWord<'a> {
-    /// The name that has these bytes.
+    /// Returns the name that has these bytes.
     pub fn new(bytes: &'a [u8]) -> UpperWord<'a>
         requires { IsTrue (is_ident bytes.now) }
         ensures { result ≡ bytes.now }
@@ -76,7 +74,7 @@ impl<'a> UpperWord<'a> {
         UpperWord { bytes }
     }
 
-    /// Its bytes.
+    /// Returns the bytes of the name.
     pub fn as_bytes(&self) -> &'a [u8]
         ensures value { result.now ≡ self.now }
         ensures form { IsTrue (is_ident self.now) }
@@ -84,7 +82,7 @@ impl<'a> UpperWord<'a> {
         self.bytes
     }
 
-    /// The same name in memory of its own.
+    /// Returns the same name in memory of its own. Fails only if memory runs out.
     pub fn copy(&self, alloc: Global) -> Result<Ident, NoMemory>
         ensures { IfOk result (λ name. name ≡ self.now) }
     {

@@ -1,4 +1,4 @@
--- How the offers that were seen give what is ready.
+-- How the seen offers determine the ready actions.
 use Rattle.std.proofs.Common.{◌≡◌, ℕ, ◌+◌, ◌<◌, ◌≤◌, List, [], ◌∷◌, ◌++◌, length, take, ap, subst, sym, ◌∙◌, arith, Option, Some, None, slice_get, option_map, option_and_then, append-nil, append_assoc, get_or}
 use Rattle.std.specs.List.{All}
 use Rattle.std.specs.Option.{ForSome}

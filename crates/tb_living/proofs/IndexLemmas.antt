@@ -1,4 +1,4 @@
--- The index holds what it has to, wherever one of the living changes.
+-- The index stays right when one of the running processes changes.
 use Rattle.std.proofs.Common.{◌≡◌, ◌≢◌, ◌<◌, ◌≤◌, ◌+◌, ◌++◌, ◌||◌, ◌==◌, ℕ, zero, suc, List, [], ◌∷◌, length, take, map, append-nil, append_assoc, refl, ap, sym, subst, ◌∙◌, arith, Some, Bool, true, false, get_or, slice_get, slice_set, remove, eq-eqb}
 use Rattle.std.specs.List.{All}
 use Rattle.std.proofs.lemmas.Bool.{and_from, eqb-true, false_from_ne_true, false≢true, or_left, or_right}

@@ -1,4 +1,5 @@
--- Whoever can't speak with a tool still can't where one lane changes, if nothing came that the tool gives, or if another tool stands there.
+-- An action without a possible exchange stays without one after a change of one lane, if nothing came that the lane's tool gives, or if
+-- the action doesn't name the lane's tool.
 use Rattle.std.proofs.Common.{◌≡◌, ◌⊎◌, inl, inr, ℕ, ◌-◌, ◌<◌, nat_lt, ◌&&◌, ◌||◌, List, [], ◌∷◌, ◌++◌, length, refl, ap, sym, subst, ◌∙◌, rules, Option, Some, None, Bool, true, false, not, is_some, is_none, IsTrue, option_map, option_and_then, slice_get, slice_index_or, if◌then◌else◌, codes}
 use Rattle.std.specs.List.{position_from, remove}
 use Rattle.std.proofs.lemmas.Bool.{and_parts, false≢true}
@@ -41,7 +42,7 @@ speaker body kinds bench = record { body = body; kinds = kinds; bench = bench }
 abbrev pub IsApart : Option Tool → ToolAction → Type 0
 IsApart found does = (tool : Tool) → found ≡ Some tool → number_in does ≡ Some tool.number → ⊥
 
--- what is silent before is so afterwards
+-- if no exchange is possible for the action before, none is possible afterwards
 abbrev pub StaysSilent : Option Body → List ToolKind → BenchState → BenchState → ToolAction → Type 0
 StaysSilent body kinds before after does = is_silent (speaker body kinds before) (Some does) ≡ true → is_silent (speaker body kinds after) (Some does) ≡ true
 
@@ -320,7 +321,7 @@ bad-same declared lane bench = by (dropped declared Bad (lane_at lane bench))
     by (Some why) = refl
 
 module _ (body : Option Body) (kinds : List ToolKind) where
-  -- Nobody gains by a value or an event that comes or is taken, but whoever speaks with this tool.
+  -- A value or an event of a tool that comes or is taken makes no exchange possible, except for actions that name this tool.
 
   pub value-apart : (declared : Bool) (value : Term) (lane : ℕ) (bench : BenchState) (does : ToolAction) → IsApart (tool_at lane bench) does → StaysSilent body kinds bench (put_line declared (Value value) lane bench).bench does
   value-apart declared value lane bench does apart = by (dropped declared (Value value) (lane_at lane bench))

@@ -1,4 +1,4 @@
--- A note for each of those that want it: their indices, and what they hold once each was given a copy.
+-- A note for each process that wants it: the indices of these processes, and their inboxes after each received a copy.
 use Rattle.std.proofs.Common.{◌≡◌, ℕ, ◌+◌, ◌<◌, ◌≤◌, ◌⊎◌, zero, suc, List, [], ◌∷◌, ◌++◌, length, take, map, refl, ap, sym, subst, ◌∙◌, arith, Bool, true, false, not, ◌&&◌, ◌||◌, slice_set, get_or, nat_lt, if◌then◌else◌, append_assoc, inl, inr}
 use Rattle.std.specs.List.{All}
 use Rattle.std.proofs.lemmas.Bool.{and_parts, ltb-true, cases_eq, cases_lt}

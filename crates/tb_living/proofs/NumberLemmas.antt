@@ -1,4 +1,4 @@
--- The living stand by their numbers, so the only one with a number stands where those with smaller numbers end.
+-- The running processes are in the order of their numbers. So the only process with a number is at the index where smaller numbers end.
 use Rattle.std.proofs.Common.{◌≡◌, ◌<◌, ◌≤◌, ◌⊎◌, ℕ, zero, suc, List, [], ◌∷◌, length, sym, ap, subst, ◌∙◌, arith, true, nat_lt, get_or, slice_set, Contains, inl, inr}
 use Rattle.std.proofs.lemmas.Bool.{ltb-true, ltb-false, lt-ltb, le-ltb, cases_lt, cases_eq}
 use Rattle.std.proofs.lemmas.Option.{get_or_from_slice_get, slice_get-get_or}
@@ -37,7 +37,7 @@ numbers-between all i j d (inr ne) h le within =
 pub numbers-rise : {W : Type 0} (all : List (Living W)) → ascend 0 (rows_of all) ≡ true → IsNonDecreasingBy (λ (living : Living W). living.number) all
 numbers-rise all h i j d le within = numbers-between all i j d (cases_eq i j) h le within
 
--- the one with the number stands there
+-- if the process at an index has the number, this is the index where smaller numbers end
 pub where-exact : {W : Type 0} (number at : ℕ) (all : List (Living W)) (some : Living W) → ascend 0 (rows_of all) ≡ true → at < length all → (get_or all at some).number ≡ number → IsWhere number all at
 where-exact {W = W} number at all some h within is = (
   λ k d low less.
@@ -94,7 +94,7 @@ fresh-by number others all at one k d (inl e) h where_is looked fresh within =
 fresh-by number others all at one k d (inr ne) h where_is looked fresh within =
     subst (IsFreshOr others) (sym (get_or-set_other all at k one d ne)) (others-fresh number others all at k d h where_is fresh within ne)
 
--- where the one with the number was looked at, it needn't be named
+-- once the process with the number was looked at, all processes are fresh or have one of the other numbers
 pub fresh-set : {W : Type 0} (number : ℕ) (others : List ℕ) (all new : List (Living W)) (at : ℕ) (one : Living W) → new ≡ slice_set all at one → ascend 0 (rows_of all) ≡ true → IsWhere number all at → one.fresh ≡ true → All (IsFreshOr (number ∷ others)) all →
     All (IsFreshOr others) new
 fresh-set number others all new at one e h where_is looked fresh k d within =

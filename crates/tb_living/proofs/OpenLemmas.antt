@@ -1,4 +1,4 @@
--- How a bus opens: the actuals go into the store slot by slot, and the processes of the roots stand in their order.
+-- The initial bus: the arguments go into the store slot by slot, and the processes are in the order of the roots.
 use Rattle.std.proofs.Common.{◌≡◌, ℕ, ◌+◌, ◌-◌, ◌<◌, ◌≤◌, ◌==◌, ◌&&◌, add-zero, zero-add, zero, suc, List, [], ◌∷◌, ◌++◌, length, map, drop, get_or, inr, refl, ap, sym, subst, ◌∙◌, arith, append_assoc, append-nil, Option, Some, None, Bool, true, false, slice_get, nat_le, option_map, IsTrue}
 use Rattle.std.specs.Bool.{⊤}
 use Rattle.std.specs.List.{All, list_all}

@@ -1,4 +1,4 @@
--- What stands at an index of a list, and what is known of one of the living there.
+-- The element at an index of a list, and the facts about the running process at an index.
 use Rattle.std.proofs.Common.{◌≡◌, ℕ, ◌<◌, zero, suc, List, [], ◌∷◌, length, map, refl, ap, sym, subst, ◌∙◌, arith, Option, Some, None, true, slice_get, get_or, option_map, Result, Ok, Err, OnOk, OnErr}
 use Rattle.std.proofs.lemmas.Option.{get_or_from_slice_get, slice_get-get_or, slice_get_within, slice_get-map}
 use Rattle.tb_body.specs.declared.body.Body.{Body}

@@ -1,4 +1,4 @@
--- Whoever sleeps rests, whatever changes: what it is ready for, its queue, the tools, and who else is awake.
+-- Each sleeping process rests after each kind of change: of its ready actions, its queue, the tools, and which others are awake.
 use Rattle.std.proofs.Common.{◌≡◌, ◌≢◌, ◌<◌, ◌≤◌, ◌+◌, ◌⊎◌, inl, inr, ⊎_elim, ℕ, zero, suc, List, [], ◌∷◌, ◌++◌, length, take, map, refl, ap, sym, subst, ◌∙◌, arith, Option, Some, None, Bool, true, false, not, is_some, option_map, ◌&&◌, get_or, slice_get, slice_set, if◌then◌else◌}
 use Rattle.std.specs.Global.{Vec}
 use Rattle.std.specs.List.{All}
@@ -147,7 +147,7 @@ module _ {W : Type 0} (settings : ℕ → Setting) (stirred : Bool) where
         ∙ h.tools calm was.0 (ap (is_awake index) (sym number) ∙ asleep);
   }
 
-  -- it sleeps just where all that it is ready for rests
+  -- a process that sleeps if and only if all its ready actions rest
   pub rested-turned : (old new : IndexState) (living : Living W) (rest : Bool) → IsTurned old new living.number (not rest) → rest ≡ all_rest (settings living.body) living.inbox.held living.ready.items → IsRested settings stirred new living
   rested-turned old new living rest turned is =
       let both = λ (asleep : is_awake new living.number ≡ false).
@@ -175,7 +175,7 @@ module _ {W : Type 0} (settings : ℕ → Setting) (stirred : Bool) where
       sym (get_or-map bare old k d) ∙ ap (λ (xs : List (Living W)). get_or xs k (bare d)) (sym e) ∙ get_or-map bare new k d in
       rested-bare index (get_or old k d) (get_or new k d) same (stays k d less) (h k d less)
 
--- who wakes another lets none fall asleep
+-- if one process wakes, no other falls asleep
 turned-by : (old new : IndexState) (number other : ℕ) → (other ≡ number) ⊎ (other ≡ number → ⊥) → IsTurned old new number true → is_awake old other ≡ true → is_awake new other ≡ true
 turned-by old new number other (inl e) turned awake = ap (is_awake new) e ∙ turned.own_awake
 turned-by old new number other (inr ne) turned awake = turned.other_awake other ne ∙ awake
@@ -183,7 +183,7 @@ turned-by old new number other (inr ne) turned awake = turned.other_awake other 
 pub turned-awake : (old new : IndexState) (number : ℕ) → IsTurned old new number true → AreStillAwake old new
 turned-awake old new number turned other awake = turned-by old new number other (cases_eq other number) turned awake
 
--- once a lane has changed nothing is said of tools
+-- after a change of a lane (`stirred`), nothing is claimed about tools
 pub rested-stirred : {W : Type 0} (settings others : ℕ → Setting) (stirred : Bool) (index : IndexState) (all : List (Living W)) → All (IsRested settings stirred index) all → All (IsRested others true index) all
 rested-stirred settings others stirred index all h =
     All-weaker (IsRested settings stirred index) (IsRested others true index) (λ living it. record { queue = it.queue; tools = λ calm. absurd (false≢true (sym calm)) }) all h
@@ -319,7 +319,7 @@ all-unheard setting index proc (ready ∷ others) deaf h =
     (among-unheard setting index proc ready.action deaf (all-left (λ (mark : Mark). receives index mark proc ≡ true) (found_by ready.action) (found_marks others) h))
     (all-unheard setting index proc others deaf (all-right (λ (mark : Mark). receives index mark proc ≡ true) (found_by ready.action) (found_marks others) h))
 
--- whom the index doesn't name speaks with none, so that nothing of them keeps it awake
+-- a process that the index doesn't list under the mark of tools speaks with none, so it rests by the tools
 pub rested-unheard : {W : Type 0} (settings : ℕ → Setting) (stirred : Bool) (index : IndexState) (living : Living W) → IsRightFor index living → is_receiver index tool_mark living.number ≡ false → IsRested settings stirred index living → IsRested settings false index living
 rested-unheard settings stirred index living right deaf h = record {
   queue = h.queue;
@@ -327,7 +327,7 @@ rested-unheard settings stirred index living right deaf h = record {
       (neither (receives index tool_mark living.number) (receives index (wide tool_mark) living.number) deaf).0 (right.fresh fresh).received;
 }
 
--- those in front of an index rest by the tools too
+-- the processes before an index of the list rest by the tools too
 abbrev pub AreSettledBelow : {W : Type 0} → (ℕ → Setting) → IndexState → ℕ → List (Living W) → Type 0
 AreSettledBelow {W = W} settings index at all = (k : ℕ) (d : Living W) → k < at → k < length all → IsRested settings false index (get_or all k d)
 
@@ -340,7 +340,7 @@ module _ {W : Type 0} (settings : ℕ → Setting) (stirred : Bool) (all : List 
       (ap (λ (r : Row). is_receiver index tool_mark r.number) (sym (row-read all k d within)) ∙ deaf k l less) (rested k d within))
       (cases_lt k at)
 
-  -- the one at a place was settled, to which those between don't speak with tools
+  -- the process at a place was settled, and no process between the index and this place speaks with tools
   pub settled-more : (old new : IndexState) (at place : ℕ) (living : Living W) → ascend 0 (rows_of all) ≡ true → All (IsRightFor old) all → All (IsRested settings stirred old) all → IsNextPlace (is_receiver old tool_mark) (rows_of all) at (Some place) →
       slice_get all place ≡ Some living → IsRested settings false new living → ((other : ℕ) → other ≢ living.number → KeepsOf old new other) → AreSettledBelow settings old at all → AreSettledBelow settings new (place + 1) all
   settled-more old new at place living order right rested next here it kept h k d less within = ⊎_elim
@@ -349,7 +349,7 @@ module _ {W : Type 0} (settings : ℕ → Setting) (stirred : Bool) (all : List 
       (between old at place right rested next.2 h k d (omega arith) within))
       (cases_eq k place)
 
-  -- none behind speaks with tools
+  -- no process from the index on speaks with tools
   pub settled-all : (index : IndexState) (at : ℕ) → All (IsRightFor index) all → All (IsRested settings stirred index) all → IsNextPlace (is_receiver index tool_mark) (rows_of all) at None →
       AreSettledBelow settings index at all → All (IsRested settings false index) all
   settled-all index at right rested next h k d within =
@@ -359,12 +359,12 @@ module _ {W : Type 0} (settings : ℕ → Setting) (stirred : Bool) (all : List 
 pub settled-end : {W : Type 0} (settings : ℕ → Setting) (index : IndexState) (all : List (Living W)) (at : ℕ) → length all ≤ at → AreSettledBelow settings index at all → All (IsRested settings false index) all
 settled-end settings index all at past h k d within = h k d (omega arith) within
 
--- what a search wants of the index
+-- the facts about the index that a search requires
 
 row-asleep : {W : Type 0} (settings : ℕ → Setting) (index : IndexState) (living : Living W) → living.fresh ≡ true → IsRested settings false index living → SleepsAtRest settings index (row_of living)
 row-asleep settings index living fresh h asleep = all-whole (settings living.body) living.inbox.held living.ready.items (h.queue fresh asleep) (h.tools refl fresh asleep)
 
--- who is found under all its marks is so under those of what it receives
+-- if all marks of actions as receivers have a property, so have the marks of their patterns
 
 spoken-one : (P : Mark → Type 0) (does : Option ToolAction) (more less : List Mark) → (All P more → All P less) → All P (tool_marks does ++ more) → All P less
 spoken-one P None more less to h = to h

@@ -1,4 +1,4 @@
--- What the lanes allow of an exchange that was found, and that who speaks changes nothing but what his slots take.
+-- What the lanes allow for a found exchange. The process that speaks matters only for the values that its slots can take.
 use Rattle.std.proofs.Common.{◌≡◌, List, [], ◌∷◌, ◌++◌, length, slice_set, refl, ap, subst}
 use Rattle.tb_body.specs.declared.program.Tool.{Tool as ToolKind}
 use Rattle.tb_log.specs.Shapes.{IsLane}
@@ -20,7 +20,7 @@ module _ (kinds : List ToolKind) (bench : BenchState) (does : ToolAction) (excha
   pub spoken-can : (other : ToolAction) → does ≡ other → CanExchange bench other exchange
   spoken-can other e = subst (λ d. CanExchange bench d exchange) e (can-exchange (record { body = h.body; kinds = kinds; bench = bench }) h.lanes does exchange h.found).1
 
--- the effect is the same, whoever speaks
+-- the effect is the same for each process
 pub speaking-around : (setting : Setting) (does : ToolAction) (exchange : Exchange) → speaking setting does exchange ≡ speaking (around setting.kinds setting.bench) does exchange
 speaking-around setting (Execute tool slot) exchange = refl
 speaking-around setting (Connect tool slot) exchange = refl

@@ -1,4 +1,4 @@
--- A tick for the living, one after another.
+-- A tick for the running processes, one after another.
 use Rattle.std.proofs.Common.{◌≡◌, ◌<◌, ◌+◌, ℕ, zero, suc, List, [], ◌∷◌, ◌++◌, append-nil, length, drop, take, get_or, refl, ap, sym, subst, ◌∙◌, arith, Some, slice_get, slice_set}
 use Rattle.std.specs.Bool.{⊤}
 use Rattle.std.specs.List.{All}

@@ -1,3 +1,3 @@
--- Definitions that proofs and private functions need, and that nobody has to believe.
+-- Definitions for proofs and private functions. A reader of the contracts doesn't need to trust them.
 pub mod Parts
 pub mod Orders

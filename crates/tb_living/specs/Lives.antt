@@ -1,4 +1,4 @@
--- The processes for which the living of the code stand, whatever their walkers are.
+-- The processes of the bus that the running processes represent, for any kind of walkers.
 use Rattle.std.specs.Prelude.{◌≡◌, ◌≤◌, ◌<◌, ◌⊎◌, ℕ, List, [], map, Bool, true, false, Option, Some, None, nat_lt, slice_get, Contains}
 use Rattle.std.specs.List.{All}
 use Rattle.std.specs.List.Sorted.{IsPartitionPoint}
@@ -17,66 +17,67 @@ use Rattle.tb_search.specs.declared.living.Ready.{Ready}
 use Rattle.tb_search.specs.declared.living.Living.{Living}
 use Rattle.tb_living.specs.Indexes.{IsUnmarked}
 
--- its atom has no times
+-- the offered atom has no times
 abbrev pub IsTimeless : List Atom → Offered → Type 0
 IsTimeless atoms offered = times_of atoms offered.atom ≡ []
 
--- What was looked at is what the process is ready to do now, and so it stays over ticks unless it is timed.
+-- The list has the ready actions of the process now. If the process isn't timed, no offered atom has times, so a tick changes none.
 pub record IsFreshFor (body : Body) (now : ℕ) (walking : Walking) (timed : Bool) (all : List Ready) : Type 0 where
   pub ready : all ≡ readies body.atoms now 0 (offers_of walking)
   pub lasting : timed ≡ false → All (IsTimeless body.atoms) (offers_of walking)
 
--- A process on its way through its body, which goes by this plan and hasn't ended. What is ready is right where
--- it is fresh.
+-- A running process that uses this plan and hasn't ended. If it is fresh, its list of ready actions is right.
 pub record IsLiveOn {W P T : Type 0} (view : View P W T) (plan : P) (now : ℕ) (living : Living W) : Type 0 where
   pub is_on : view.is_on plan living.walker
   pub alive : is_end (view.walking plan living.walker).term ≡ false
   pub sorts : sorts_of (view.walking plan living.walker).store ≡ (view.body_of plan).sorts
-  -- it has seen no more ticks than the bus
+  -- the process has seen no more ticks than the bus
   pub ticks : (view.walking plan living.walker).ticks ≤ now
   pub ready : living.fresh ≡ true → IsFreshFor (view.body_of plan) now (view.walking plan living.walker) living.timed living.ready.items
 
--- it goes by the plan of its body
+-- a running process that uses the plan of its body, and hasn't ended
 abbrev pub IsLive : {W P T : Type 0} → View P W T → List P → ℕ → Living W → Type 0
 IsLive {P = P} view plans now living = (plan : P) × (slice_get plans living.body ≡ Some plan) × IsLiveOn view plan now living
 
--- all that is ready is what the processes are ready to do now
+-- each running process is fresh
 abbrev pub AreFresh : {W : Type 0} → List (Living W) → Type 0
 AreFresh all = All (λ living. living.fresh ≡ true) all
 
--- what one is ready to do is fresh, or its number stands among these
+-- the running process is fresh, or its number is in this list
 abbrev pub IsFreshOr : {W : Type 0} → List ℕ → Living W → Type 0
 IsFreshOr stale living = (living.fresh ≡ true) ⊎ Contains stale living.number
 
--- its number is below that of the next
+-- the process has a number below the next number
 abbrev pub IsBelow : {W : Type 0} → ℕ → Living W → Type 0
 IsBelow next living = living.number < next
 
--- the index where those with smaller numbers end
+-- the index at which the processes with smaller numbers end
 abbrev pub IsWhere : {W : Type 0} → ℕ → List (Living W) → ℕ → Type 0
 IsWhere number all at = IsPartitionPoint (λ living. nat_lt living.number number ≡ true) (λ living. nat_lt living.number number ≡ false) all at
 
--- a term that hasn't ended
+-- the process term, with a placeholder if the process has ended
 abbrev pub term_in : Option Process → Process
 term_in None = At 0 0
 term_in (Some term) = term
 
--- the process of a walker that stands for this
+-- the process that a running process represents, if its walker represents this walk
 abbrev pub proc_of : {W : Type 0} → Living W → Walking → Proc
 proc_of living walking = record { number = living.number; body = living.body; term = term_in walking.term; store = walking.store; inbox = living.inbox.held }
 
+-- the process that a running process represents by this plan, with a placeholder if there is no plan
 abbrev pub proc_by : {W P T : Type 0} → View P W T → Option P → Living W → Proc
 proc_by view None living = proc_of living (record { term = None; store = []; ticks = 0 })
 proc_by view (Some plan) living = proc_of living (view.walking plan living.walker)
 
--- the process of one of the living
+-- the process that a running process represents by the plan of its body
 abbrev pub proc_in : {W P T : Type 0} → View P W T → List P → Living W → Proc
 proc_in view plans living = proc_by view (slice_get plans living.body) living
 
+-- the processes that the running processes represent
 abbrev pub procs_of : {W P T : Type 0} → View P W T → List P → List (Living W) → List Proc
 procs_of view plans all = map (proc_in view plans) all
 
--- one of the living as it begins: with this number, of the body at this position, by this plan and with this store
+-- a new running process with this number (`from`), body (`process`), plan, and store
 pub record Begins {W P T : Type 0} (view : View P W T) (plan : P) (from process : ℕ) (store : List Slot) (living : Living W) : Type 0 where
   pub number : living.number ≡ from
   pub body : living.body ≡ process

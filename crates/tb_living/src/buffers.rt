@@ -1,4 +1,4 @@
-//! Lists whose memory serves again for messages.
+//! Lists whose memory is used again for later messages.
 ghost use Rattle.std.specs.Prelude.{◌≡◌, [], IfOk};
 
 use std::alloc::Global;
@@ -7,10 +7,10 @@ use tb_bus::Action;
 use tb_match::Binds;
 use tb_terms::{Items, NoMemory, Pattern, Patterns, Sort, Term, Terms};
 
-/// How many lists of a kind are kept: for as many messages one process seldom waits.
+/// The greatest number of kept lists of each kind. A process is seldom ready for more messages than this.
 const MOST_KEPT: usize = 8;
 
-/// Lists that are done with, whose memory serves again: so a handshake needs none. What they hold says nothing.
+/// Lists that are no longer needed. Later messages use their memory, so a handshake takes no memory. The items have no meaning.
 #[derive(Drop)]
 pub struct Buffers {
     pub(crate) terms: Vec<Terms>,
@@ -19,7 +19,7 @@ pub struct Buffers {
 }
 
 impl Buffers {
-    /// Nothing is kept yet.
+    /// Returns buffers that keep no list yet, with memory for `MOST_KEPT` lists of terms and of patterns.
     pub fn new(alloc: Global) -> Result<Buffers, NoMemory>
         ensures terms { IfOk result (λ buffers. buffers.terms.items ≡ []) }
         ensures patterns { IfOk result (λ buffers. buffers.patterns.items ≡ []) }
@@ -34,7 +34,7 @@ impl Buffers {
         })
     }
 
-    /// Keeps the lists of a message that was handed on: what held its terms, and its binds.
+    /// Keeps the lists of a delivered message: the list of its terms, if there is capacity, and the list of its binds.
     pub fn give_back(&mut self, terms: Terms, binds: Binds)
         ensures { self.new.binds ≡ binds }
     {
@@ -42,7 +42,7 @@ impl Buffers {
         self.binds = binds;
     }
 
-    /// Drops an action, and keeps the list of what it sends or receives.
+    /// Drops an action, and keeps its list of sent terms or of patterns, if there is capacity.
     pub(crate) fn keep(&mut self, action: Action) {
         match action {
             Action::Send(terms) => keep_list(&mut self.terms, terms),
@@ -52,7 +52,7 @@ impl Buffers {
     }
 }
 
-/// Keeps the memory of a list, without its items. An empty one has none that is worth it: its items were taken.
+/// Drops the items of a list, and keeps its memory. An empty list isn't kept: its items were taken, with their memory.
 fn keep_list<T: Drop>(kept: &mut Vec<Items<T>>, mut list: Items<T>) {
     if list.is_empty() {
         return;
@@ -63,7 +63,7 @@ fn keep_list<T: Drop>(kept: &mut Vec<Items<T>>, mut list: Items<T>) {
     keep_memory(kept, list);
 }
 
-/// Likewise a list of patterns, of which most are numbers.
+/// Drops the patterns of a list, and keeps its memory. Most patterns are numbers, so `drop_last` has a short way for them.
 fn keep_patterns(kept: &mut Vec<Patterns>, mut list: Patterns) {
     if list.is_empty() {
         return;
@@ -74,7 +74,7 @@ fn keep_patterns(kept: &mut Vec<Patterns>, mut list: Patterns) {
     keep_memory(kept, list);
 }
 
-/// Drops the last pattern. A number, or a variable for one, owns no memory, so it is only forgotten.
+/// Drops the last pattern. A number, or a result variable of type `int`, owns no memory, so this function only forgets it.
 fn drop_last(list: &mut Patterns) {
     if ends_plain(list.as_slice()) {
         forget(list.pop());
@@ -83,7 +83,7 @@ fn drop_last(list: &mut Patterns) {
     }
 }
 
-/// Returns whether the last pattern is a number, or a variable for one.
+/// Returns whether the last pattern is a number, or a result variable of type `int`.
 fn ends_plain(list: &[Pattern]) -> bool {
     match list.last() {
         Some(Pattern::Fixed(Term::Int(_))) | Some(Pattern::Result(_, Sort::Int)) => true,
@@ -91,7 +91,7 @@ fn ends_plain(list: &[Pattern]) -> bool {
     }
 }
 
-/// Keeps a list where there is room for it.
+/// Keeps a list if there is capacity for it, and drops it if not.
 fn keep_memory<T: Drop>(kept: &mut Vec<Items<T>>, list: Items<T>) {
     if kept.len() < kept.capacity() {
         kept.push_reserved(list);

@@ -11,7 +11,7 @@ use std::alloc::Global;
 use tb_search::{Apart, Living};
 use tb_terms::{NoMemory, Patterns, Terms, copy_terms};
 
-/// From now on the process at an index wants what matches.
+/// Subscribes the process at an index to the notes that match these patterns. If out of memory, no inbox changes.
 pub fn subscribe_at<W>(
     all: &mut Vec<Apart<Living<W>>>,
     at: usize,
@@ -26,7 +26,7 @@ pub fn subscribe_at<W>(
     all[at].get_mut().inbox.subscribe(patterns)
 }
 
-/// The process at an index no longer wants what matches just these.
+/// Removes the subscription of the process at an index to exactly these patterns.
 pub fn unsubscribe_at<W>(all: &mut Vec<Apart<Living<W>>>, at: usize, patterns: &Patterns)
     requires { at < length all.old.items }
     ensures { IsHeldAt all.old.items at
@@ -35,7 +35,7 @@ pub fn unsubscribe_at<W>(all: &mut Vec<Apart<Living<W>>>, at: usize, patterns: &
     all[at].get_mut().inbox.unsubscribe(patterns);
 }
 
-/// A note leaves the queue of the process at an index.
+/// Takes the note at a place (from 0) out of the queue of the process at an index, and returns the note.
 pub fn take_note_at<W>(all: &mut Vec<Apart<Living<W>>>, at: usize, place: usize) -> Terms
     requires within { at < length all.old.items }
     requires place { place < length (held_at all.old.items at).notes }
@@ -46,7 +46,8 @@ pub fn take_note_at<W>(all: &mut Vec<Apart<Living<W>>>, at: usize, place: usize)
     all[at].get_mut().inbox.take(place)
 }
 
-/// Each process that wants a note gets a copy of it; these are the indices of those. Where memory ran out none has.
+/// Gives a copy of a note to each process that wants the note: these are the processes at `indices`. If out of memory, no process
+/// receives a copy.
 pub fn hand_out<W>(
     alloc: Global,
     all: &mut Vec<Apart<Living<W>>>,
@@ -66,7 +67,7 @@ pub fn hand_out<W>(
     Ok(())
 }
 
-/// So many copies of a note.
+/// Returns `many` copies of a note.
 fn copies_of(alloc: Global, note: &Terms, many: usize) -> Result<Vec<Terms>, NoMemory>
     ensures many { IfOk result (λ copies. length copies.items ≡ many) }
     ensures copies { IfOk result (λ copies. All (λ copy. copy ≡ note.now) copies.items) }
@@ -78,7 +79,7 @@ fn copies_of(alloc: Global, note: &Terms, many: usize) -> Result<Vec<Terms>, NoM
     Ok(copies)
 }
 
-/// Takes memory for one more note of each of these processes.
+/// Takes memory for one more note in the inbox of each process at these indices.
 fn reserve_all<W>(all: &mut Vec<Apart<Living<W>>>, indices: &[usize]) -> Result<(), NoMemory>
     requires { All (λ at. at < length all.old.items) indices.now }
     ensures same { HoldTheSame all.old.items all.new.items }
@@ -90,6 +91,7 @@ fn reserve_all<W>(all: &mut Vec<Apart<Living<W>>>, indices: &[usize]) -> Result<
     Ok(())
 }
 
+/// Takes memory for one more note in the inbox of the process at an index.
 fn reserve_at<W>(all: &mut Vec<Apart<Living<W>>>, at: usize) -> Result<(), NoMemory>
     requires { at < length all.old.items }
     ensures same { HoldTheSame all.old.items all.new.items }
@@ -100,7 +102,7 @@ fn reserve_at<W>(all: &mut Vec<Apart<Living<W>>>, at: usize) -> Result<(), NoMem
     all[at].get_mut().inbox.reserve()
 }
 
-/// Each of these processes gets one of the copies of a note. This takes no memory.
+/// Puts one copy of a note into the inbox of each process at these indices. This takes no memory.
 fn put_all<W>(all: &mut Vec<Apart<Living<W>>>, indices: &[usize], mut copies: Vec<Terms>)
     requires many { length copies.items ≡ length indices.now }
     requires apart { (i j : ℕ) → i < j → j < length indices.now
@@ -115,6 +117,7 @@ fn put_all<W>(all: &mut Vec<Apart<Living<W>>>, indices: &[usize], mut copies: Ve
     }
 }
 
+/// Puts a note into the inbox of the process at an index. This takes no memory.
 fn put_at<W>(all: &mut Vec<Apart<Living<W>>>, at: usize, note: Terms)
     requires { CanTake all.old.items at }
     ensures held { IsHeldAt all.old.items at

@@ -1,4 +1,4 @@
-//! The marks of the living processes, and the index that holds them.
+//! The marks of the running processes, and the index with these marks.
 ghost use Rattle.std.specs.Prelude.{◌≡◌, ◌≢◌, ◌<◌, ◌^◌, ◌++◌, ℕ, [], Bool, IfOk, OnOk, Some, not, true, false};
 ghost use Rattle.std.specs.Option.{ForSome};
 ghost use Rattle.tb_terms.specs.declared.term.Term.{out-Term};
@@ -17,19 +17,20 @@ use tb_search::{Living, Ready, all_rest};
 use tb_terms::{NoMemory, Term};
 use tb_tools::Bench;
 
-/// The mark of whoever speaks with tools. No message has as many terms.
+/// The mark of all processes that are ready to speak with tools. No message has so many terms, so no message has this mark.
 pub const TOOL_MARK: Mark = Mark {
     count: usize::MAX,
     head: 1,
 };
 
-/// The mark of whoever speaks with the tool that has this number.
+/// Returns the mark of the processes that are ready to speak with the tool with this number.
 pub fn number_mark(number: u32) -> Mark
     ensures { result ≡ number_mark number }
 {
     mark_of(u64::from(number))
 }
 
+/// Returns the mark of `number_mark` for any number that a term can have.
 fn mark_of(number: u64) -> Mark
     requires { number < 2 ^ 63 }
     ensures { result ≡ number_mark number }
@@ -40,7 +41,7 @@ fn mark_of(number: u64) -> Mark
     }
 }
 
-/// A number that isn't negative.
+/// Returns the number that a term is, or `None` if the term isn't a number, or is negative.
 fn natural(part: &Term) -> Option<u64>
     ensures number { result ≡ natural_in (out-Term part.now) }
     ensures within { ForSome result (λ number. number < 2 ^ 63) }
@@ -54,7 +55,7 @@ fn natural(part: &Term) -> Option<u64>
     }
 }
 
-/// The number of the tool that is the first of these terms.
+/// Returns the number of the tool that the first of these terms names, if it names one: the first argument of a name.
 fn number_among(terms: &[Term]) -> Option<u64>
     ensures number { result ≡ number_among terms.now }
     ensures within { ForSome result (λ number. number < 2 ^ 63) }
@@ -68,7 +69,7 @@ fn number_among(terms: &[Term]) -> Option<u64>
     }
 }
 
-/// The number of the tool with which an action speaks, where it names one.
+/// Returns the number of the tool with which an action speaks, if the action names one.
 fn number_in(does: &ToolAction) -> Option<u64>
     ensures number { result ≡ number_in does.now }
     ensures within { ForSome result (λ number. number < 2 ^ 63) }
@@ -87,7 +88,7 @@ fn number_in(does: &ToolAction) -> Option<u64>
     }
 }
 
-/// No marks.
+/// Returns empty lists of marks.
 pub fn no_marks(alloc: Global) -> Marks
     ensures sends { result.sends.items ≡ [] }
     ensures receives { result.receives.items ≡ [] }
@@ -98,7 +99,7 @@ pub fn no_marks(alloc: Global) -> Marks
     }
 }
 
-/// An index that has nothing of any process, and room for those with these numbers.
+/// Returns an index without any process, with capacity for the processes with these numbers.
 pub fn index_of(alloc: Global, numbers: &[u32]) -> Result<Index, NoMemory>
     ensures nothing { IfOk result (λ index. (number : ℕ) → HasNothing index number) }
     ensures room { IfOk result (λ index. All (HasRoom index) numbers.now) }
@@ -110,7 +111,7 @@ pub fn index_of(alloc: Global, numbers: &[u32]) -> Result<Index, NoMemory>
     Ok(index)
 }
 
-/// Adds the marks of an action that speaks with tools.
+/// Appends the marks of an action that speaks with tools: `TOOL_MARK`, and the mark of the named tool, if one is named.
 fn push_tool_marks(marks: &mut Vec<Mark>, does: &ToolAction) -> Result<(), NoMemory>
     ensures { OnOk result
         (marks.new.items ≡ marks.old.items ++ tool_marks (Some does.now)) }
@@ -122,7 +123,7 @@ fn push_tool_marks(marks: &mut Vec<Mark>, does: &ToolAction) -> Result<(), NoMem
     Ok(())
 }
 
-/// Adds the marks of tools, where a process speaks with one.
+/// Appends the marks of an action that a process does alone. Only an action that speaks with tools has marks.
 fn push_own_marks(marks: &mut Marks, own: &OwnAction) -> Result<(), NoMemory>
     ensures sends { marks.new.sends ≡ marks.old.sends }
     ensures receives { OnOk result
@@ -144,7 +145,7 @@ fn push_own_marks(marks: &mut Marks, own: &OwnAction) -> Result<(), NoMemory>
     Ok(())
 }
 
-/// Adds the mark of what an action sends or receives, or those of tools.
+/// Appends the marks of an action: the mark of its message, or its marks of tools.
 fn push_mark(marks: &mut Marks, action: &Action) -> Result<(), NoMemory>
     ensures sends { OnOk result
         (marks.new.sends.items ≡ marks.old.sends.items ++ sent_by action.now) }
@@ -159,7 +160,7 @@ fn push_mark(marks: &mut Marks, action: &Action) -> Result<(), NoMemory>
     Ok(())
 }
 
-/// Puts together the marks of what these actions send and receive.
+/// Replaces `marks` by the marks of these actions.
 fn fill_marks(marks: &mut Marks, actions: &[Ready]) -> Result<(), NoMemory>
     ensures sends { OnOk result (marks.new.sends.items ≡ sent_marks actions.now) }
     ensures receives { OnOk result (marks.new.receives.items ≡ found_marks actions.now) }
@@ -172,7 +173,7 @@ fn fill_marks(marks: &mut Marks, actions: &[Ready]) -> Result<(), NoMemory>
     Ok(())
 }
 
-/// A process sleeps where all that it is ready for rests, and is awake where not.
+/// Makes the process with a number sleep if all its actions rest, and wakes it up if not.
 pub fn turn(index: &mut Index, number: u32, rest: bool)
     requires { HasRoom index.old number }
     ensures { IsTurned index.old index.new number (not rest) }
@@ -184,7 +185,8 @@ pub fn turn(index: &mut Index, number: u32, rest: bool)
     }
 }
 
-/// The index has from now on what a process that was looked at is ready for. Then the process is fresh.
+/// Enters the ready actions of a process in the index: their marks, and whether all of them rest. Then the process is fresh.
+/// `looked` only lends its memory for the new marks. If out of memory, the process isn't fresh.
 pub fn update<W>(
     alloc: Global,
     program: &Program,

@@ -1,5 +1,5 @@
-//! Processes that are alive, over any walker: how they begin, what they are ready for, what an index has of them, how a tick
-//! passes for them, what their inboxes hold, and how one speaks with a tool.
+//! The running processes of a bus, over any kind of walkers. These functions start processes, compute their ready actions, and enter
+//! their marks in an index. They also give all processes a tick, change inboxes, and exchange items with tools.
 #![tactic(auto)]
 
 mod buffers;

@@ -1,4 +1,4 @@
-//! The actions for which a living process is ready.
+//! The ready actions of a running process, and its advance after one of them.
 ghost use Rattle.std.specs.Prelude.{◌≡◌, ◌<◌, ◌++◌, ◌∷◌, ℕ, List, [], length, slice_get, IfOk, IsTrue, OnOk, OnErr, Some, is_some, option_and_then, option_map, true, false};
 ghost use Rattle.std.specs.List.{All};
 ghost use Rattle.std.specs.Option.{ForSome};
@@ -23,7 +23,7 @@ use tb_process_steps::{Offer, Walker};
 use tb_search::{Apart, Living, Ready, has_slot_sort};
 use tb_terms::{Items, NoMemory, Patterns, Sorts, Terms};
 
-/// The slot takes the value, where there is one that has the slot's sort.
+/// Returns the action that sets a slot. Returns `None` unless there is exactly one value, and it has the slot's type.
 fn set_action(
     alloc: Global,
     sorts: &Sorts,
@@ -49,7 +49,7 @@ fn set_action(
     Ok(Some(Action::Own(OwnAction::Set(values, binds))))
 }
 
-/// The text that the values have by their format is printed, where they have one.
+/// Returns the action that prints the text of a format with its values, or `None` if there is no such text.
 fn print_action(alloc: Global, values: Option<Terms>) -> Result<Option<Action>, NoMemory>
     ensures { IfOk result
         (λ action. action ≡ option_map print_action (option_and_then printf_of values)) }
@@ -63,35 +63,35 @@ fn print_action(alloc: Global, values: Option<Terms>) -> Result<Option<Action>, 
     }
 }
 
-/// A process begins with these values, where they are there, and the slot takes its number.
+/// Returns the action that creates a process with these arguments and binds its number to the slot, or `None` without arguments.
 fn create_action(process: u32, actuals: Option<Terms>, slot: u32) -> Option<Action>
     ensures { result ≡ option_map (create_action process slot) actuals }
 {
     Some(Action::Own(OwnAction::Create(process, actuals?, slot)))
 }
 
-/// The process speaks with a tool.
+/// Returns the action of a process that speaks with a tool.
 fn speak(does: ToolAction) -> Action
     ensures { result ≡ Action.Own (OwnAction.Speak does) }
 {
     Action::Own(OwnAction::Speak(does))
 }
 
-/// The answer of the tool is taken, where the tool and the patterns have values.
+/// Returns the action that takes a tool's value, or `None` if the terms or the patterns are missing.
 fn value_action(terms: Option<Terms>, patterns: Option<Patterns>) -> Option<Action>
     ensures { result ≡ option_and_then (speak_about ToolAction.TakeValue patterns) terms }
 {
     Some(speak(ToolAction::TakeValue(terms?, patterns?)))
 }
 
-/// An event of the tool is received, where the tool and the patterns have values.
+/// Returns the action that takes a tool's event, or `None` if the terms or the patterns are missing.
 fn event_action(terms: Option<Terms>, patterns: Option<Patterns>) -> Option<Action>
     ensures { result ≡ option_and_then (speak_about ToolAction.TakeEvent patterns) terms }
 {
     Some(speak(ToolAction::TakeEvent(terms?, patterns?)))
 }
 
-/// The bus goes down, for the one reason that there is.
+/// Returns the action that shuts down the bus, or `None` unless there is exactly one reason.
 fn shutdown_action(reasons: Option<Terms>) -> Option<Action>
     ensures { result ≡ option_and_then shutdown_action reasons }
 {
@@ -104,7 +104,7 @@ fn shutdown_action(reasons: Option<Terms>) -> Option<Action>
     }
 }
 
-/// Puts an action at the end of what is ready.
+/// Appends an action to the ready actions.
 fn push(offer: usize, atom: u32, action: Action, ready: &mut Vec<Ready>) -> Result<(), NoMemory>
     ensures { OnOk result (ready.new.items
         ≡ ready.old.items ++ record { offer = offer; atom = atom; action = action } ∷ []) }
@@ -117,7 +117,7 @@ fn push(offer: usize, atom: u32, action: Action, ready: &mut Vec<Ready>) -> Resu
     Ok(())
 }
 
-/// The action of an offered atom, where its arguments have values.
+/// Returns the action of offer `k`, whose atom does `act`, or `None` if the atom has no action in the offered store.
 #[inline(never)]
 fn action_in<W: Walker>(
     alloc: Global,
@@ -167,15 +167,15 @@ fn action_in<W: Walker>(
     }
 }
 
-/// How an offered atom takes part in a handshake.
+/// The side of an offered atom in a handshake.
 #[derive(Clone, Copy)]
 enum Part {
     Sends,
     Receives,
 }
 
-/// Appends the message of an offered atom to what is ready, if the values or patterns are there. The message is written
-/// in place, here and below, since each function that passes it on costs as much as finding it.
+/// Appends the message of offer `k` to the ready actions, if its terms or patterns have values. This function and those below write the
+/// message in place. A function that only passes the message on would cost as much as the function that finds it.
 #[inline(always)]
 fn push_message<W: Walker>(
     alloc: Global,
@@ -214,7 +214,7 @@ fn push_message<W: Walker>(
     }
 }
 
-/// Likewise any action.
+/// Appends the action of offer `k` to the ready actions, if the offer has one, whatever its atom is.
 #[inline(never)]
 fn push_any<W: Walker>(
     alloc: Global,
@@ -246,7 +246,7 @@ fn push_any<W: Walker>(
     }
 }
 
-/// Likewise that of an atom whose times hold.
+/// Appends the action of offer `k` to the ready actions, if the offer has one. The times of its atom hold.
 fn push_action<W: Walker>(
     alloc: Global,
     plan: &W::Plan,
@@ -291,7 +291,7 @@ fn push_action<W: Walker>(
     }
 }
 
-/// Whether an atom has times, or one before it has.
+/// Returns whether an atom has times, or `before` is true: an earlier atom has times.
 fn any_times(before: bool, atom: &Atom) -> bool
     ensures { result ≡ false → (before ≡ false) × (atom.now.times ≡ []) }
 {
@@ -301,8 +301,8 @@ fn any_times(before: bool, atom: &Atom) -> bool
     !atom.times.is_empty()
 }
 
-/// Puts an offer at the end of what is ready, where it is ready for an action; whether its atom has times, or one before
-/// it has.
+/// Appends the action of offer `k` to the ready actions, if its times hold and it has one. Returns whether its atom or an earlier
+/// atom (`before`) has times.
 fn push_ready<W: Walker>(
     alloc: Global,
     plan: &W::Plan,
@@ -339,7 +339,7 @@ fn push_ready<W: Walker>(
     Ok(any_times(before, atom))
 }
 
-/// Drops what a process was ready to do, and keeps what memory serves again.
+/// Drops the old ready actions of a process, and keeps their lists for later messages.
 fn retire(ready: &mut Vec<Ready>, buffers: &mut Buffers)
     ensures { ready.new.items ≡ [] }
 {
@@ -348,7 +348,7 @@ fn retire(ready: &mut Vec<Ready>, buffers: &mut Buffers)
     }
 }
 
-/// Fills what the process that was looked at is ready to do; whether an atom with times is among its offers.
+/// Computes the ready actions of a walker that was looked at, in the order of its offers. Returns whether an offered atom has times.
 fn fill<W: Walker>(
     alloc: Global,
     plan: &W::Plan,
@@ -379,8 +379,8 @@ fn fill<W: Walker>(
     Ok(timed)
 }
 
-/// Where those end whose numbers are smaller. Seldom has anybody left who stood between the first and the one with
-/// the number.
+/// Returns the number of processes whose numbers are smaller. First tries the place that is right if no process between the first
+/// process and the searched one has ended. This is the usual case.
 pub fn point_of<W>(all: &[Apart<Living<W>>], number: u32) -> usize
     requires { IsTrue (ascend 0 (rows_of all.now)) }
     ensures { IsWhere number all.now result }
@@ -395,7 +395,8 @@ pub fn point_of<W>(all: &[Apart<Living<W>>], number: u32) -> usize
     all.partition_point(|living| living.get().number < number)
 }
 
-/// Looks anew what a process is ready to do, on a bus that has seen so many ticks. It isn't fresh before the index has that.
+/// Computes the ready actions of a process again, on a bus that has seen `now` ticks. The process isn't fresh until `update` enters
+/// these actions in the index.
 pub fn look<W: Walker>(
     alloc: Global,
     plan: &W::Plan,
@@ -427,7 +428,7 @@ pub fn look<W: Walker>(
     Ok(())
 }
 
-/// A process goes on with what was taken of it; whether it has ended then.
+/// Advances a process after the offer that was taken from its walker, with these binds. Returns whether the process has ended.
 pub fn go_on<W: Walker>(
     plan: &W::Plan,
     living: &mut Living<W>,

@@ -1,4 +1,4 @@
-//! The plans of bodies, and the processes with which a program starts.
+//! The plans of bodies, and the first processes of a program.
 ghost use Rattle.std.specs.Prelude.{◌≡◌, ◌<◌, ◌+◌, ◌∷◌, ℕ, List, [], length, Some, IfOk, IsTrue, map, slice_get, true};
 ghost use Rattle.std.specs.Option.{ForSome};
 ghost use Rattle.std.specs.List.{All};
@@ -17,7 +17,7 @@ use tb_process_steps::Walker;
 use tb_search::{Apart, Living};
 use tb_terms::{Items, NoMemory, Terms, copy_terms};
 
-/// The plans of the bodies, in their order.
+/// Returns the plan of each body, in the order of the bodies.
 pub fn plan_all<W: Walker>(alloc: Global, bodies: &[Body]) -> Result<Items<W::Plan>, NoMemory>
     ensures { IfOk result (λ plans. map W.view.body_of plans ≡ bodies.now) }
 {
@@ -28,7 +28,7 @@ pub fn plan_all<W: Walker>(alloc: Global, bodies: &[Body]) -> Result<Items<W::Pl
     Ok(plans)
 }
 
-/// The store of a process as it begins.
+/// Returns the store of a new process: its parameters have the arguments, and the other slots have the initial values of their types.
 fn begin_store(alloc: Global, body: &Body, mut actuals: Terms) -> Result<Store, NoMemory>
     requires { IsTrue (fits_formals (Some body.now) actuals) }
     ensures { IfOk result (λ store. store ≡ opening_store body.now actuals) }
@@ -42,7 +42,7 @@ fn begin_store(alloc: Global, body: &Body, mut actuals: Terms) -> Result<Store, 
     Ok(store)
 }
 
-/// A process with this number, of the body at this position.
+/// Returns a new process with this number, of the body with the index `process`.
 fn open_one<W: Walker>(
     alloc: Global,
     plan: &W::Plan,
@@ -70,7 +70,7 @@ fn open_one<W: Walker>(
     Ok(Apart::new(alloc, living)?)
 }
 
-/// The same, where the body and its plan are looked up.
+/// Returns a new process with this number, of the body with the index `process`. Looks up this body and its plan in the lists.
 pub fn open_at<W: Walker>(
     alloc: Global,
     bodies: &[Body],
@@ -92,7 +92,7 @@ pub fn open_at<W: Walker>(
     open_one::<W>(alloc, plan, &bodies[place], number, process, actuals)
 }
 
-/// The process of the root at this index.
+/// Returns the process of the root at this index. Its number is `at + 1`.
 fn open_root<W: Walker>(
     alloc: Global,
     program: &Program,
@@ -114,7 +114,7 @@ fn open_root<W: Walker>(
     open_at::<W>(alloc, bodies, plans, at as u32 + 1, root.process, actuals)
 }
 
-/// The processes of the roots, numbered from 1.
+/// Returns the processes of the program's roots, with numbers from 1.
 pub fn open_all<W: Walker>(
     alloc: Global,
     program: &Program,
@@ -135,7 +135,7 @@ pub fn open_all<W: Walker>(
     Ok(all)
 }
 
-/// The numbers of these processes, in their order.
+/// Returns the numbers of these processes, in the order of the processes.
 pub fn numbers_of<W>(alloc: Global, all: &[Apart<Living<W>>]) -> Result<Vec<u32>, NoMemory>
     ensures { IfOk result (λ numbers. numbers.items ≡ map (λ living. living.number) all.now) }
 {

@@ -23,7 +23,7 @@ use tb_match::{Bind, Binds};
 use tb_terms::{Items, Name, NoMemory, Term, Terms, size, total_size};
 use tb_tools::Bench;
 
-/// Speaks with a tool, as was found. Where memory ran out the lanes are as before.
+/// Executes an exchange with a tool that the search found. If out of memory, the lanes remain unchanged.
 pub fn speak(
     alloc: Global,
     kinds: &[Tool],
@@ -77,13 +77,14 @@ pub fn speak(
     }
 }
 
+/// Returns the result of a step with these parts.
 fn seen(kind: LabelKind, shown: Terms, binds: Binds) -> Done
     ensures { result ≡ record { kind = kind; shown = shown; binds = binds } }
 {
     Done { kind, shown, binds }
 }
 
-/// The tool that was bound is seen.
+/// Returns the result of a step whose label shows the bound values: the identifier of the tool.
 fn bound(alloc: Global, kind: LabelKind, binds: Binds) -> Result<Done, NoMemory>
     ensures { IfOk result
         (λ done. done ≡ record { kind = kind; shown = values_in binds; binds = binds }) }
@@ -95,7 +96,7 @@ fn bound(alloc: Global, kind: LabelKind, binds: Binds) -> Result<Done, NoMemory>
     Ok(Done { kind, shown, binds })
 }
 
-/// Starts a lane with the command of a kind, and a new tool of it.
+/// Starts a new tool on a lane, with the command of its declared kind.
 fn execute(kinds: &[Tool], bench: &mut Bench, tool: u32, lane: u8) -> Result<(), NoMemory>
     requires lane { IsLane lane }
     requires can { IsTrue (can_execute lane bench.old) }
@@ -115,7 +116,7 @@ fn execute(kinds: &[Tool], bench: &mut Bench, tool: u32, lane: u8) -> Result<(),
     }
 }
 
-/// An order that a process gives a tool, with a term.
+/// An order to a tool, which carries a term.
 #[derive(Clone, Copy)]
 enum Order {
     Eval,
@@ -123,7 +124,7 @@ enum Order {
     Terminate,
 }
 
-/// Returns the kind of a step with this order.
+/// Returns the label kind of a step with this order.
 fn order_kind(order: Order) -> LabelKind
     ensures { result ≡ order_kind order }
 {
@@ -134,7 +135,7 @@ fn order_kind(order: Order) -> LabelKind
     }
 }
 
-/// Gives the tool of a lane this order, with this term.
+/// Gives an order with a term to the tool of a lane.
 fn give_order(bench: &mut Bench, lane: u8, order: Order, term: Term) -> Result<(), NoMemory>
     requires lane { IsLane lane }
     requires can { IsTrue (may_order order lane bench.old) }
@@ -148,7 +149,8 @@ fn give_order(bench: &mut Bench, lane: u8, order: Order, term: Term) -> Result<(
     }
 }
 
-/// Gives the tool of a lane this order, with the second of these terms. The step shows all of them.
+/// Gives an order with the second of these terms to the tool of a lane. The step's label shows all terms. If there is no second term,
+/// the lanes remain unchanged.
 fn tell(
     alloc: Global,
     bench: &mut Bench,
@@ -170,7 +172,7 @@ fn tell(
     Ok(seen(order_kind(order), terms, binds))
 }
 
-/// The second of these terms.
+/// Returns a copy of the second of these terms, if there is one.
 fn second(alloc: Global, terms: &Terms) -> Result<Option<Term>, NoMemory>
     ensures { IfOk result (λ term. term ≡ slice_get (behind terms.now) 0) }
 {
@@ -180,7 +182,7 @@ fn second(alloc: Global, terms: &Terms) -> Result<Option<Term>, NoMemory>
     }
 }
 
-/// These terms, and behind them the value of the tool of a lane, which is taken.
+/// Takes the value of the tool of a lane, and returns these terms followed by the value. If out of memory, the lane keeps the value.
 fn with_value(mut terms: Terms, bench: &mut Bench, lane: u8) -> Result<Terms, NoMemory>
     requires lane { IsLane lane }
     requires can { IsTrue (can_take_value lane bench.old) }
@@ -189,13 +191,13 @@ fn with_value(mut terms: Terms, bench: &mut Bench, lane: u8) -> Result<Terms, No
     ensures err { OnErr result (bench.new ≡ bench.old) }
 {
     let last = terms.len();
-    // This takes the memory for the value, which is then put in place of the number.
+    // The push of a number takes the memory for the value. Then the value replaces the number.
     terms.push(Term::Int(0))?;
     terms.set(last, bench.value(lane));
     Ok(terms)
 }
 
-/// These terms, and behind them what an event on a lane carries.
+/// Returns these terms followed by copies of the terms of an event on a lane. The event stays on the lane.
 fn with_event(
     alloc: Global,
     mut terms: Terms,
@@ -215,7 +217,7 @@ fn with_event(
     Ok(terms)
 }
 
-/// How large the terms are that are seen of an exchange, or the greatest usize where that is greater.
+/// Returns the total size of the terms in the label of a found exchange, at most `usize::MAX`.
 pub fn seen_size(bench: &Bench, does: &ToolAction, exchange: &Exchange) -> usize
     requires { (kinds : List ToolKind) × CanSpeak kinds bench.now does.now exchange.now }
     ensures { result
@@ -241,7 +243,7 @@ pub fn seen_size(bench: &Bench, does: &ToolAction, exchange: &Exchange) -> usize
     }
 }
 
-/// How large the values of these binds are together.
+/// Returns the total size of the values of these binds, at most `usize::MAX`.
 fn values_size(binds: &[Bind]) -> usize
     ensures { result ≡ min (terms_size (values_in binds.now)) MAX }
 {
@@ -252,7 +254,7 @@ fn values_size(binds: &[Bind]) -> usize
     total
 }
 
-/// How large the value is with which the tool of a lane has answered; 0 where there is none.
+/// Returns the size of the value that the tool of a lane has sent, or 0 if there is none.
 fn answer_size(bench: &Bench, lane: u8) -> usize
     requires { IsLane lane }
     ensures { result ≡ min (terms_size (values_on lane bench.now)) MAX }
@@ -263,7 +265,7 @@ fn answer_size(bench: &Bench, lane: u8) -> usize
     }
 }
 
-/// How large the terms of an event are that waits on a lane.
+/// Returns the total size of the terms of an event that waits on a lane, at most `usize::MAX`.
 fn event_size(bench: &Bench, lane: u8, event: usize) -> usize
     requires lane { IsLane lane }
     requires can { IsTrue (can_take_event event lane bench.now) }
@@ -275,7 +277,7 @@ fn event_size(bench: &Bench, lane: u8, event: usize) -> usize
     }
 }
 
-/// Whether a line by which a tool connects names a kind that is declared.
+/// Returns whether a line is a connect request that names a declared kind of tools.
 pub fn is_declared(kinds: &[Tool], line: &ToolLine) -> bool
     ensures { result ≡ declares kinds.now line.now }
 {
@@ -285,7 +287,7 @@ pub fn is_declared(kinds: &[Tool], line: &ToolLine) -> bool
     }
 }
 
-/// Whether one of the kinds has this name.
+/// Returns whether one of the kinds has this name.
 fn has_kind(kinds: &[Tool], name: &Name) -> bool
     ensures { result ≡ list_any (λ (tool : ToolKind). bytes_eq tool.name name.now) kinds.now }
 {

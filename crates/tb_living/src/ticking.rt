@@ -1,4 +1,4 @@
-//! A tick for all living processes.
+//! A tick for all running processes.
 ghost use Rattle.std.specs.List.{All};
 ghost use Rattle.tb_living.specs.Ticking.{AreTicked, CanTick, HasTicked, IsBefore};
 
@@ -6,7 +6,7 @@ use tb_process_steps::Walker;
 use tb_search::{Apart, Living};
 use tb_terms::Items;
 
-/// A tick passes for a process: it ages. Where it is timed, it has to be looked at anew.
+/// Makes a process one tick older. If the process is timed, it isn't fresh afterwards, so `look` must compute its actions again.
 fn tick_one<W: Walker>(plan: &W::Plan, living: &mut Living<W>)
     requires { IsBefore W.view plan.now living.old }
     ensures { HasTicked W.view plan.now living.old living.new }
@@ -15,7 +15,7 @@ fn tick_one<W: Walker>(plan: &W::Plan, living: &mut Living<W>)
     living.fresh = living.fresh && !living.timed;
 }
 
-/// A tick passes for each of the living, by the plan of its body. This takes no memory.
+/// Makes each process one tick older, by the plan of its body. This takes no memory.
 pub fn tick_all<W: Walker>(plans: &Items<W::Plan>, all: &mut Vec<Apart<Living<W>>>)
     requires { All (CanTick W.view plans.now) all.old.items }
     ensures { AreTicked W.view plans.now all.old.items all.new.items }

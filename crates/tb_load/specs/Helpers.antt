@@ -1,2 +1,2 @@
--- Definitions that proofs and private functions need. Nobody has to trust them.
+-- Definitions that proofs and private functions need. A reader who trusts the public calls needn't trust them.
 pub mod Parts

@@ -8,46 +8,47 @@ use Rattle.tb_script.specs.Findings.{IsFound, NoTokens, NoScript, Improper, Recu
 use Rattle.tb_load.specs.declared.fault.LoadFault.{LoadFault}
 use Rattle.tb_load.specs.declared.fault.LoadFault.TheVariants.{Script, File, NoMemory}
 
--- a file of more bytes is too long
+-- the greatest size of a script's file, in bytes; a larger file is too long
 abbrev pub most_bytes : ℕ
 most_bytes = 1048576
 
--- bytes that may be loaded: the reported content of the file, if the files report it, and not more than so many
+-- these bytes can be the loaded content of a file: at most `most` bytes, and the reported content of the file, if the files report it
 abbrev pub IsLoadedWithin : ℕ → Option (List ℕ) → List ℕ → Type 0
 IsLoadedWithin most told bytes = IfSome told (λ held. bytes ≡ held) × (length bytes ≤ most)
 
--- the file has so many bytes, if the files report its content, and these are too many
+-- `len` is more than `most`, and is the number of bytes of the file, if the files report its content
 abbrev pub IsLongerThan : ℕ → Option (List ℕ) → ℕ → Type 0
 IsLongerThan most told len = (most < len) × IfSome told (λ held. len ≡ length held)
 
--- the same of a script and of a feed
+-- these bytes can be the loaded content of the file of a script or a feed
 abbrev pub IsLoaded : Option (List ℕ) → List ℕ → Type 0
 IsLoaded told bytes = IsLoadedWithin most_bytes told bytes
 
+-- the file of a script or a feed has this number of bytes, which is too large
 abbrev pub IsTooLong : Option (List ℕ) → ℕ → Type 0
 IsTooLong told len = IsLongerThan most_bytes told len
 
--- What an error in a script claims of its bytes: this was found, and nothing else is.
+-- The claims of an error in a script about the script's bytes: they have this error and no other finding.
 abbrev pub IsRefused : List ℕ → ScriptFault → Type 0
--- they can't be tokenized
+-- the bytes can't be tokenized
 IsRefused bytes (script.Lex fault) = IsFound bytes (NoTokens fault)
--- their tokens don't parse as a script within the limits
+-- the tokens don't parse as a script within the limits
 IsRefused bytes (script.Parse fault) = IsFound bytes (NoScript fault)
 -- the script fails a condition
 IsRefused bytes (script.Check fault) = IsFound bytes (Improper fault)
--- its calls form a cycle
+-- the calls of the script form a cycle
 IsRefused bytes (script.Expand (expand.Recursion names)) = IsFound bytes (Recursive names)
 -- a process is too large
 IsRefused bytes (script.Expand (expand.TooLarge name)) = IsFound bytes (Large name)
 -- there are too many roots
 IsRefused bytes (script.Roots count) = IsFound bytes (ManyRoots count)
--- each form is built, out of memory is no error of the script, and its length is a matter of the file
+-- these errors don't come here: each form is built, out of memory is no error of the script, and the length is an error of the file
 IsRefused bytes (script.NotBuilt token) = ⊥
 IsRefused bytes (script.Expand expand.NoMemory) = ⊥
 IsRefused bytes script.NoMemory = ⊥
 IsRefused bytes (script.TooLong len) = ⊥
 
--- The file's bytes are loaded; they have this program, and nothing else is found.
+-- The file's bytes are loaded, and they have this program and no error.
 pub record HasProgram (told : Option (List ℕ)) (program : Program) : Type 0 where
   pub bytes : List ℕ
   pub loaded : IsLoaded told bytes
@@ -59,16 +60,16 @@ IsAccepted told = (program : Program) × HasProgram told program
 
 -- Why the file of a script is rejected.
 abbrev pub IsBadScript : Option (List ℕ) → ScriptFault → Type 0
--- it has so many bytes, too many
+-- the file has this number of bytes, which is too large
 IsBadScript told (script.TooLong len) = IsTooLong told len
--- its bytes are rejected
+-- the file's bytes are rejected
 IsBadScript told fault = (bytes : List ℕ) × IsLoaded told bytes × IsRefused bytes fault
 
--- Why it gives no program.
+-- Why the file of a script gives no program.
 abbrev pub IsUnloaded : Option (List ℕ) → LoadFault → Type 0
--- it is rejected
+-- the script is rejected
 IsUnloaded told (Script fault) = IsBadScript told fault
--- it could not be read
+-- the file could not be read
 IsUnloaded told File = Unit {0}
 -- memory ran out
 IsUnloaded told NoMemory = Unit {0}

@@ -1,4 +1,4 @@
-//! How the file of a script is loaded.
+//! Loads the program of the script in a file.
 #![tactic(auto)]
 
 mod fault;

@@ -1,4 +1,4 @@
-//! The program of the script in a file.
+//! Loads the program of the script in a file.
 ghost use Rattle.std.specs.Prelude.{◌≡◌, ◌≤◌, [], ◌∷◌, IfOk, IfErr, Err};
 ghost use Rattle.tb_edge.specs.Faults.{Rose};
 ghost use Rattle.tb_script.specs.Findings.{IsFound, Program'};
@@ -11,10 +11,10 @@ use tb_body::Program;
 use tb_edge::{Files, FilesFault, Loaded};
 use tb_script::{ScriptFault, load};
 
-/// A longer file is rejected.
+/// The largest size of a script's file, in bytes. A larger file is rejected.
 pub const MOST_BYTES: usize = 1_048_576;
 
-/// The program of the script in the file of this name.
+/// Loads the program of the script in the file of this name.
 pub fn load_script<F: Files>(alloc: Global, name: &str, files: &mut F) -> Result<Program, LoadFault>
     ensures ok { IfOk result (HasProgram (F.held files.old name.now)) }
     ensures err { IfErr result (IsUnloaded (F.held files.old name.now)) }
@@ -31,7 +31,7 @@ pub fn load_script<F: Files>(alloc: Global, name: &str, files: &mut F) -> Result
     }
 }
 
-/// The program of these bytes.
+/// Returns the program of the script with these bytes.
 fn load_bytes(alloc: Global, bytes: &[u8]) -> Result<Program, LoadFault>
     ensures ok { IfOk result (λ program. IsFound bytes.now (Program' program)) }
     ensures err { IfErr result (IsRefusedBy bytes.now) }

@@ -1,4 +1,4 @@
--- What a call on the taken core adds, and the result of the whole call.
+-- The entry that a call on the taken core adds, and the effect of the whole call.
 use Rattle.std.proofs.Common.{◌≡◌, ◌<◌, ◌≤◌, ◌++◌, length, cond, true≢false, ℕ, List, [], ◌∷◌, Bool, true, false, ◌||◌, Option, Some, None, Result, Ok, Err, IfOk, OnErr, option_to_list, refl, sym, ap, ◌∙◌, subst, append-nil, arith}
 use Rattle.std.proofs.lemmas.List.{append_cancel_left}
 use Rattle.atomic_table.specs.Seated.{TableId}
@@ -24,7 +24,7 @@ use Rattle.tb_lock.proofs.RightLemmas.{all_lanes}
 use Rattle.tb_lock.proofs.OwnLemmas.{no_rest}
 use Rattle.tb_lock.proofs.HistoryLemmas.{sparse_same, sparse_more}
 
--- The right that a call needs is one that there is.
+-- The right that a call needs is one of all rights.
 pub all_have : (call : Call) → IsCallInShape call → has all_rights (right_to call) ≡ true
 all_have (HandIn Tick) form = refl
 all_have (HandIn NoTicks) form = refl
@@ -47,7 +47,7 @@ out_right lane (Some out) entry e = let is : Gave lane out ≡ entry = cc in sym
 some_is : {A : Type 0} (one other : A) → Some one ≡ Some other → one ≡ other
 some_is one other e = cc
 
--- What it logs needs just that right.
+-- The entry that a call would log needs the same right as the call.
 pub entry_right : (core : CoreState) (call : Call) (entry : Entry) → would_log core call ≡ Some entry → right_of entry ≡ right_to call
 entry_right core (HandIn input) entry e = sym (ap right_of (some_is (Fed input (fed (bus_now core) input).reply) entry e))
 entry_right core MakeStep entry e = step_right (bus_now core).down (ends_quiet core.log) (steps (bus_now core)) entry e
@@ -63,7 +63,7 @@ out_quiet : (lane : ℕ) (next : Option Out) (entry : Entry) → out_entry lane 
 out_quiet lane None entry e says = absurd (cc)
 out_quiet lane (Some out) entry e says = let is : Gave lane out ≡ entry = cc in true≢false (sym says ∙ ap (λ (x : Entry). says_quiet (Some x)) (sym is))
 
--- It says quiet only where the log doesn't say so last.
+-- A call would log `quiet` only if the last entry isn't `quiet`.
 pub entry_quiet : (core : CoreState) (call : Call) (entry : Entry) → would_log core call ≡ Some entry → says_quiet (Some entry) ≡ true → ends_quiet core.log ≡ false
 entry_quiet core (HandIn input) entry e says =
     let is = some_is (Fed input (fed (bus_now core) input).reply) entry e in
@@ -75,7 +75,7 @@ own_option : (rights : Rights) (logged : Option Entry) → ((entry : Entry) → 
 own_option rights None has_it = refl
 own_option rights (Some entry) has_it = ap (λ (b : Bool). cond b (entry ∷ []) []) (has_it entry refl)
 
--- So all that it logs is of the rights that have it.
+-- If the rights have the right for a call, each entry that the call adds needs one of these rights.
 pub own_entries : (rights : Rights) (core : CoreState) (call : Call) → has rights (right_to call) ≡ true → own rights (entries_of core call) ≡ entries_of core call
 own_entries rights core call right = own_option rights (would_log core call) (λ entry e. ap (has rights) (entry_right core call entry e) ∙ right)
 
@@ -90,7 +90,7 @@ sparse_option log (Some entry) h new = sparse_more log entry h (new entry refl)
 pub sparse_entries : (core : CoreState) (call : Call) → IsSparse core.log → IsSparse (core.log ++ entries_of core call)
 sparse_entries core call h = sparse_option core.log (would_log core call) h (λ entry e. entry_quiet core call entry e)
 
--- What a call has made of a core, whether it was refused or not.
+-- A core before and after a call that has added these entries: none if the call returned an error.
 pub record Follows (core after : CoreState) (entries : List Entry) : Type 0 where
   pub origin : after.origin ≡ core.origin
   pub log : after.log ≡ core.log ++ entries
@@ -113,7 +113,7 @@ unfolding bus_now
 trace_from core origin entries is trace = subst (λ (o : Origin). IsTrace (replay (start o) core.log) entries) is trace
 
 module _ (seat : SeatView) (core : CoreState) (meets : Meets seat core) where
-  -- The core may go back with one entry more, or with none.
+  -- The core may be put back after it has logged this entry, or none.
   goes_back : (me : HolderState) (after : CoreState) (logged : Option Entry) → HasTurn seat core me → Follows core after (option_to_list logged) → IsSparse (core.log ++ option_to_list logged) →
       own seat.rights (option_to_list logged) ≡ option_to_list logged → own all_rights (option_to_list logged) ≡ option_to_list logged → MayRelease me after
   goes_back me after logged turn goes sparse rights owned = subst (λ (m : HolderState). MayRelease m after) (sym turn.1) (record {
@@ -131,14 +131,14 @@ module _ (seat : SeatView) (core : CoreState) (meets : Meets seat core) where
     };
   })
 
-  -- So it may go back with what the call has added.
+  -- So the core may be put back after a call.
   pub may_release : {A : Type 0} (result : Result A CoreFault) (me : HolderState) (after : CoreState) (call : Call) → IsCallInShape call → has seat.rights (right_to call) ≡ true → HasTurn seat core me →
       Follows core after (added result (entries_of core call)) → MayRelease me after
   may_release (Ok answer) me after call form right turn goes =
       goes_back me after (would_log core call) turn goes (sparse_entries core call meets.sparse) (own_entries seat.rights core call right) (own_entries all_rights core call (all_have call form))
   may_release (Err refused) me after call form right turn goes = goes_back me after None turn goes (sparse_same core.log meets.sparse) refl refl
 
-  -- What is then left of the seat.
+  -- The handle after the core is put back and the turn is passed on.
   pub has_released : {A : Type 0} (result : Result A CoreFault) (me left : HolderState) (after : CoreState) (call : Call) → seat.stage ≡ Idle → HasTurn seat core me → Follows core after (added result (entries_of core call)) → Releases me after left →
       left ≡ (noted seat core (added result (entries_of core call)), [])
   has_released result me left after call idle turn goes releases =
@@ -146,7 +146,7 @@ module _ (seat : SeatView) (core : CoreState) (meets : Meets seat core) where
       let es = append_cancel_left core.log (option_to_list t.0) (added result (entries_of core call)) (sym t.1 ∙ goes.log) in
       t.2 ∙ (λ i. (record (noted seat core (es i)) { told = seat.told || goes.stopped i; stage = sym idle i }, []))
 
--- of which bus it is doesn't matter
+-- the claims about the core that a handle finds don't depend on the bus of the handle
 pub meets_on : (bus : TableId) (seat : SeatView) (core : CoreState) → Meets seat core → Meets (record seat { bus = bus }) core
 meets_on bus seat core m = record {
   origin = m.origin;
@@ -159,14 +159,14 @@ meets_on bus seat core m = record {
   alone = m.alone;
 }
 
--- a seat as contracts see it
+-- a handle as contracts see it
 pub seat_is : (bus by : TableId) (views : List SeatView) (seat : SeatView) → by ≡ bus → views ≡ seat ∷ [] → seat_of by views ≡ record seat { bus = bus }
 seat_is bus by views seat same is = λ i. seat_of (same i) (is i)
 
 one_of : (views : List SeatView) (one other : SeatView) → views ≡ one ∷ [] → views ≡ other ∷ [] → one ≡ other
 one_of views one other e f = cc
 
--- a whole call
+-- the effect of a whole call
 pub called : {A : Type 0} (Finds : CoreState → A → Type 0) (call : Call) (result : Result A CoreFault) (bus : TableId) (seat : SeatView) (core after : CoreState) (old new : SeatView) →
     old ≡ record seat { bus = bus } → new ≡ record (noted seat core (added result (entries_of core call))) { bus = bus } → Meets seat core → Answers Finds call core after result → Called Finds call old new result
 called Finds call result bus seat core after old new old_is new_is meets a =
@@ -185,7 +185,7 @@ called Finds call result bus seat core after old new old_is new_is meets a =
     goes : Follows core after (added result (entries_of core call))
     goes = follows Finds call result core after a
 
--- A core that is as it was taken out may go back.
+-- A core that is unchanged since it was taken may be put back.
 pub may_return : (seat : SeatView) (core : CoreState) (me : HolderState) → Meets seat core → HasTurn seat core me → MayReturn me core
 may_return seat core me meets turn = subst (λ (m : HolderState). MayReturn m core) (sym turn.1) (record { ticket = turn.0; stage = refl; slot = refl; origin = meets.origin; log = refl })
 
@@ -203,7 +203,7 @@ observes Finds answer bus seat core old new old_is new_is meets finds =
       finds = finds;
     }))
 
--- A core that was stopped may go back.
+-- A core that was stopped, and is otherwise unchanged, may be put back.
 pub may_stop : (seat : SeatView) (core after : CoreState) (me : HolderState) → Meets seat core → HasTurn seat core me → after ≡ record core { stopped = true } → MayStop me after
 may_stop seat core after me meets turn is = subst (λ (m : HolderState). MayStop m after) (sym turn.1) (subst (MayStop (record seat { seen = core.log; stage = Serving turn.0 core.stopped }, (0, None) ∷ [])) (sym is) (record {
   ticket = turn.0;
@@ -229,7 +229,7 @@ same_both true false one other = sym (one refl)
 same_both false true one other = other refl
 same_both false false one other = refl
 
--- The last seat closes the bus.
+-- The effect of `close` by the only handle.
 pub closes : (seat : SeatView) (core : CoreState) → Meets seat core → seat.rights ≡ all_rights → seat.room ≡ 64 → Closes seat core
 closes seat core m all room = record {
   origin = m.origin;
@@ -244,7 +244,7 @@ closes seat core m all room = record {
 pub closes_on : (bus : TableId) (seat : SeatView) (core : CoreState) (old : SeatView) → old ≡ record seat { bus = bus } → Meets seat core → old.rights ≡ all_rights → old.room ≡ 64 → Closes old core
 closes_on bus seat core old is meets all room = closes old core (subst (λ (o : SeatView). Meets o core) (sym is) (meets_on bus seat core meets)) all room
 
--- Two seats have joined.
+-- The effect of a join doesn't depend on the bus of the handles.
 pub joins_on : (bus : TableId) (seat other both old third new : SeatView) → old ≡ record seat { bus = bus } → third ≡ record other { bus = bus } → new ≡ record both { bus = bus } → Joins seat other both → Joins old third new
 joins_on bus seat other both old third new old_is third_is new_is j =
     subst (λ (o : SeatView). Joins o third new) (sym old_is) (subst (λ (t : SeatView). Joins (record seat { bus = bus }) t new) (sym third_is) (subst (Joins (record seat { bus = bus }) (record other { bus = bus })) (sym new_is) (record {
@@ -253,7 +253,7 @@ joins_on bus seat other both old third new old_is third_is new_is j =
       other_grows = j.other_grows;
     })))
 
--- A seat between two calls, by its view: how contracts see it, and that it may begin a call.
+-- A handle between two calls, by its view: how contracts see it, and that it may begin a call.
 pub record Opened (old : SeatView) (bus : TableId) (seat : SeatView) : Type 0 where
   pub is : old ≡ record seat { bus = bus }
   pub idle : seat.stage ≡ Idle
@@ -268,7 +268,7 @@ opened bus views old seat view it is =
       room = subst (λ (s : SeatView). 0 < s.room) same it.3;
     }
 
--- and after it
+-- a handle after a call is again a handle between two calls
 pub is_seat : (left : HolderState) (kept : SeatView) (views : List SeatView) → left ≡ (kept, []) → views ≡ left.0 ∷ [] → kept.stage ≡ Idle → 0 < kept.room → IsSeat views
 is_seat left kept views is has idle room = (left.0, has, ap (λ (m : HolderState). m.0.stage) is ∙ idle, subst (λ (m : HolderState). 0 < m.0.room) (sym is) room)
 

@@ -1,4 +1,4 @@
--- What stays of a bus at work where one seat makes a step.
+-- The rule for a bus after a step of one handle: what the step must show, and what remains.
 use Rattle.std.proofs.Common.{◌≡◌, ◌≢◌, ◌⊎◌, ◌≤◌, ◌+◌, ◌%◌, ◌^◌, ℕ, zero, suc, List, [], ◌∷◌, set, Bool, true, false, Option, true≢false, refl, sym, ap, ◌∙◌, inl, inr, ⊎_elim, arith}
 use mathlib.Core.Option as opt
 use lib.ListN.{get_elem?}
@@ -13,7 +13,7 @@ use Rattle.tb_lock.specs.Seats.{SeatView, Stage, Opening, Idle, Waiting, Serving
 use Rattle.tb_lock.specs.Helpers.Rule.{BoardState, tickets, has_turn, Fits, Apart, Somewhere, AtHome, Away, Running, IsNew, opening_seat}
 use Rattle.tb_lock.proofs.ListLemmas.{sum_set, sum_le_sum, each_set, pairs_set, any_set}
 
--- a bus at work, of which one seat has changed, and what goes with it
+-- one handle of a bus has changed, and the words, the slot, and the history with it: these claims imply the rule
 pub record Changes (origin : Origin) (board : BoardState) (run : Running origin board) (id : ℕ) (seat after : SeatView) (words : List ℕ) (homes : List (opt.Option (Option CoreState))) (log : List Entry) (stopped : Bool) (served drawn : ℕ) : Type 0 where
   pub at : get_elem? board.views id ≡ opt.some seat
   pub words_are : words ≡ drawn % 2 ^ 64 ∷ served % 2 ^ 64 ∷ []
@@ -63,7 +63,7 @@ changes origin board run id seat after words homes log stopped served drawn c =
       reason = c.reason;
     }
 
--- a seat whose turn is not open is no more the one that has it
+-- the claim about the slot remains if the turn of the changed handle is open neither before nor after the change
 pub slot_kept : (origin : Origin) (board : BoardState) (log : List Entry) (stopped : Bool) (id : ℕ) (seat after : SeatView) (words : List ℕ) → get_elem? board.views id ≡ opt.some seat → has_turn seat.stage ≡ false → has_turn after.stage ≡ false →
     AtHome origin log stopped board ⊎ Away board → (let next : BoardState = record { words = words; homes = board.homes; views = set board.views id after } in AtHome origin log stopped next ⊎ Away next)
 slot_kept origin board log stopped id seat after words at before now slot = ⊎_elim
@@ -79,16 +79,16 @@ slot_kept origin board log stopped id seat after words at before now slot = ⊎_
     }))
     slot
 
--- where its turn is open, the slot is out
+-- if the turn of a handle is open, the slot is taken
 pub slot_out : (origin : Origin) (board : BoardState) (log : List Entry) (stopped : Bool) (id : ℕ) (seat : SeatView) → get_elem? board.views id ≡ opt.some seat → has_turn seat.stage ≡ true →
     AtHome origin log stopped board ⊎ Away board → Away board
 slot_out origin board log stopped id seat at has slot = ⊎_elim (λ (home : AtHome origin log stopped board). absurd (true≢false (sym has ∙ home.nobody_has id seat at))) (λ (away : Away board). away) slot
 
--- and it stays out where the seat keeps its turn
+-- the slot remains taken if the turn of the changed handle is open after the change
 pub stays_out : (board : BoardState) (id : ℕ) (seat after : SeatView) (words : List ℕ) → get_elem? board.views id ≡ opt.some seat → has_turn after.stage ≡ true → Away board → Away (record { words = words; homes = board.homes; views = set board.views id after })
 stays_out board id seat after words at has away = record { out = away.out; somebody_has = any_set (λ s. has_turn s.stage ≡ true) board.views id seat after at (λ _. has) away.somebody_has }
 
--- the one seat of a bus that is being made
+-- the one handle of a bus that is being made
 pub alone_at : {A : Type 0} (x a : A) (i : ℕ) → get_elem? (x ∷ []) i ≡ opt.some a → x ≡ a
 alone_at x a zero e = opt.some-injective x a e
 alone_at x a (suc i) e = absurd (opt.some-ne-none a (sym e))
@@ -103,7 +103,7 @@ at_most_one (Waiting ticket) = omega arith
 at_most_one (Serving ticket mark) = omega arith
 at_most_one (Joined one rights other more) = omega arith
 
--- a seat with a ticket has room
+-- a handle with a ticket has a quota above 0
 pub ticket_room : (origin : Origin) (log : List Entry) (stopped : Bool) (served drawn : ℕ) (seat : SeatView) → Fits origin log stopped served drawn seat → tickets seat.stage ≤ seat.room
 ticket_room origin log stopped served drawn seat f = by seat.room refl
   where
@@ -111,7 +111,7 @@ ticket_room origin log stopped served drawn seat f = by seat.room refl
     by zero e = let is : tickets seat.stage ≡ 0 = ap (λ (s : SeatView). tickets s.stage) (f.gone e) in omega arith
     by (suc room) e = let few = at_most_one seat.stage in omega arith
 
--- so no more than 64 tickets are out
+-- so at most 64 tickets are drawn and not served
 pub few_tickets : (origin : Origin) (board : BoardState) (run : Running origin board) → run.drawn ≤ run.served + 64
 few_tickets origin board run =
     let less = sum_le_sum (λ s. tickets s.stage) (λ s. s.room) board.views (λ i seat at. ticket_room origin run.log run.stopped run.served run.drawn seat (run.fits i seat at)) in

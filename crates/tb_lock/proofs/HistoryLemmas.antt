@@ -1,4 +1,4 @@
--- How the history grows, and the places of the seats' entries in it.
+-- How the history continues, and the indices of the handles' own entries.
 use Rattle.std.proofs.Common.{◌≡◌, ◌⊎◌, ◌≤◌, ◌<◌, ◌+◌, ◌-◌, ◌==◌, ℕ, zero, suc, nat_lt, List, [], ◌∷◌, ◌++◌, length, slice_get, Some, Bool, true, false, ◌||◌, if◌then◌else◌, true≢false, refl, sym, ap, ◌∙◌, subst, inl, inr, ⊎_elim, arith, length-append, append-nil, append_assoc, eqb-true, eq-eqb, ltb-true, ltb-false}
 use Rattle.std.proofs.lemmas.List.Folds.{list_any-append}
 use Rattle.std.proofs.lemmas.Option.{slice_get_within, slice_get_past}
@@ -25,7 +25,7 @@ grows_more rights seen log more g e = record {
 pub grows_fewer : (some rights : Rights) (seen log : List Entry) → AreAmong some rights → Grows rights seen log → Grows some seen log
 grows_fewer some rights seen log among g = record { rest = g.rest; is = g.is; none = own_fewer some rights g.rest among g.none }
 
--- of two prefixes of one log the longer goes on from the shorter
+-- of two prefixes of one log, the shorter is a prefix of the longer
 pub beginnings : {A : Type 0} (one other x y : List A) → one ++ x ≡ other ++ y → length one ≤ length other → (mid : List A) × (other ≡ one ++ mid) × (x ≡ mid ++ y)
 beginnings [] other x y e short = (other, refl, e)
 beginnings (a ∷ one) [] x y e short = absurd (omega arith)
@@ -35,7 +35,7 @@ beginnings {A} (a ∷ one) (b ∷ other) x y e short =
     let t = beginnings one other x y rest (omega arith) in
     (t.0, (λ i. sym head i ∷ t.1 i), t.2)
 
--- so a seat whose entries are in the shorter log has seen them in the longer
+-- so no entry of the longer prefix after the shorter one, and none after the longer one, needs one of the rights
 pub grows_to : (rights : Rights) (one other log rest : List Entry) → Grows rights one log → log ≡ other ++ rest → length one ≤ length other → Grows rights one other × (own rights rest ≡ [])
 grows_to rights one other log rest g e short =
     let t = beginnings one other g.rest rest (sym g.is ∙ e) short in
@@ -52,7 +52,7 @@ longer_by one other false e = let h = ltb-false (length one) (length other) e in
 pub longer_is : (one other : List Entry) → Longer one other (longer one other)
 longer_is one other = longer_by one other (nat_lt (length one) (length other)) refl
 
--- two that have each seen all entries of their rights, as one
+-- if two handles have each seen all entries of their rights, the joined handle has seen all entries of its rights
 pub grows_joined : (rights more : Rights) (one other log : List Entry) → Grows rights one log → Grows more other log → Grows (united rights more) (longer one other) log
 grows_joined rights more one other log g h =
     ⊎_elim
@@ -62,7 +62,7 @@ grows_joined rights more one other log g h =
     (record { rest = g.rest; is = g.is; none = own_both rights more g.rest g.none (grows_to more other one log g.rest h g.is t.1).1 }))
     (longer_is one other)
 
--- each of them has seen all entries of its rights in the longer
+-- each of the two had seen all entries of the longer log that need one of its rights
 pub grows_first : (rights more : Rights) (one other log : List Entry) → Grows rights one log → Grows more other log → Grows rights one (longer one other)
 grows_first rights more one other log g h =
     ⊎_elim
@@ -77,7 +77,7 @@ grows_second rights more one other log g h =
     (λ (t : (longer one other ≡ one) × (length other ≤ length one)). subst (Grows more other) (sym t.0) (grows_to more other one log g.rest h g.is t.1).0)
     (longer_is one other)
 
--- entries at places in a log are at these places after it has grown
+-- an entry keeps its index in a longer log
 get-longer : (log more : List Entry) (k : ℕ) (entry : Entry) → slice_get log k ≡ Some entry → slice_get (log ++ more) k ≡ Some entry
 get-longer [] more k entry e = absurd (cc)
 get-longer (x ∷ log) more zero entry e = e
@@ -106,7 +106,7 @@ or_cases : (a b : Bool) → (a || b) ≡ true → (a ≡ true) ⊎ (b ≡ true)
 or_cases true b e = inl refl
 or_cases false b e = inr e
 
--- an index of theirs is at least the first and within the log
+-- the index of an own entry is at least the lower bound, and within the log
 pub index_from : (log : List Entry) (from : ℕ) (owns : List Own) (index : ℕ) → AreIn log from owns → has_index index owns ≡ true → from ≤ index
 index_from log from [] index h e = absurd (true≢false (sym e))
 index_from log from (own ∷ owns) index h e =

@@ -1,4 +1,4 @@
--- What the history says of a lane, and of time, is said by the entries of the right for it alone.
+-- The lines, the ends, and the sent items of a lane, and the ticks, depend only on the entries of the log that need the right for them.
 use Rattle.std.proofs.Common.{◌≡◌, ◌==◌, ℕ, List, Bool, true, false, true≢false, Some, None, if◌then◌else◌, refl, sym, ap, ◌∙◌, arith}
 use Rattle.std.proofs.lemmas.Bool.Decides.{nat_tests}
 use Rattle.tb_log.specs.declared.entry.Input.{Input}
@@ -36,7 +36,7 @@ module _ (rights : Rights) where
     no_input there (Fed (input.Gone at) reply) none = ap (λ (b : Bool). if b then Some (input.Gone at) else None) (other_in there at none)
     no_input there (Fed (input.Cut at) reply) none = refl
 
-    -- all lines and ends of a lane
+    -- all lines and ends of a lane's tool
     pub inputs_own : has rights (In lane) ≡ true → (log : List Entry) → inputs (own rights log) lane ≡ inputs log lane
     inputs_own there log = inputs_kept (λ entry. has rights (right_of entry)) lane (no_input there) log
 

@@ -1,4 +1,4 @@
--- Lists that are read by number: one element changes, or one comes at the end.
+-- Lists that are read by index, of which one element changes, or to which one is appended.
 use Rattle.std.proofs.Common.{◌≡◌, ◌≢◌, ◌⊎◌, ◌≤◌, ◌<◌, ◌+◌, ℕ, zero, suc, List, [], ◌∷◌, ◌++◌, length, get_or, set, sum_by, refl, sym, ap, ◌∙◌, subst, inl, inr, ⊎_elim, arith}
 use Rattle.std.proofs.lemmas.List.Sums.{sum_by-set, sum_by-cons, get_or-le-sum_by}
 use mathlib.Core.Logic.{dite}
@@ -18,7 +18,7 @@ module _ {A : Type 0} where
   was_read (x ∷ xs) zero a d e = some-injective x a e
   was_read (x ∷ xs) (suc i) a d e = was_read xs i a d e
 
-  -- of one list the same stands at the same index
+  -- a list has one element at an index
   pub same_there : (xs : List A) (i j : ℕ) (a b : A) → i ≡ j → get_elem? xs i ≡ some a → get_elem? xs j ≡ some b → a ≡ b
   same_there xs i j a b is one other = some-injective a b (sym one ∙ ap (get_elem? xs) is ∙ other)
 
@@ -31,7 +31,7 @@ module _ {A : Type 0} where
   pub sum_at : (f : A → ℕ) (xs : List A) (i : ℕ) (a : A) → get_elem? xs i ≡ some a → f a ≤ sum_by f xs
   sum_at f xs i a e = subst (λ (x : A). f x ≤ sum_by f xs) (was_read xs i a a e) (get_or-le-sum_by f xs i a (was_there xs i a e))
 
-  -- two of a list make no more than all
+  -- the values of two elements are together at most the sum of all
   pub sum_two : (f : A → ℕ) (xs : List A) (i j : ℕ) (a b : A) → i ≢ j → get_elem? xs i ≡ some a → get_elem? xs j ≡ some b → f a + f b ≤ sum_by f xs
   sum_two f [] i j a b apart one other = absurd (some-ne-none a (sym one))
   sum_two f (x ∷ xs) zero zero a b apart one other = absurd (apart refl)
@@ -54,7 +54,7 @@ module _ {A : Type 0} where
       let more = sum_le_sum f g xs (λ i a e. each (suc i) a e) in
       omega (arith, sum_by-cons f x xs, sum_by-cons g x xs)
 
-  -- what holds of each
+  -- a predicate of each element
   pub each_set : (Q : A → Type 0) (xs : List A) (i : ℕ) (b : A) → ((j : ℕ) (u : A) → j ≢ i → get_elem? xs j ≡ some u → Q u) → Q b →
       (j : ℕ) (u : A) → get_elem? (set xs i b) j ≡ some u → Q u
   each_set Q xs i b others here j u e =
@@ -71,7 +71,7 @@ module _ {A : Type 0} where
   each_end Q xs b all here j u e =
       ⊎_elim (λ (t : get_elem? xs j ≡ some u). all j u t) (λ (t : (j ≡ length xs) × (b ≡ u)). subst Q t.1 here) (at_end xs b u j e)
 
-  -- what holds of each two
+  -- a relation between each two elements
   abbrev pub EachTwo : (A → A → Type 0) → List A → Type 0
   EachTwo R xs = (i j : ℕ) (u v : A) → i ≢ j → get_elem? xs i ≡ some u → get_elem? xs j ≡ some v → R u v
 
@@ -102,7 +102,7 @@ module _ {A : Type 0} where
         (at_end xs b v k other))
         (at_end xs b u j one)
 
-  -- what holds of some
+  -- a predicate of some element
   abbrev pub SomeOf : (A → Type 0) → List A → Type 0
   SomeOf P xs = (i : ℕ) × (a : A) × (get_elem? xs i ≡ some a) × P a
 
@@ -118,7 +118,7 @@ module _ {A : Type 0} where
   pub any_end : (P : A → Type 0) (xs : List A) (b : A) → SomeOf P xs → SomeOf P (xs ++ b ∷ [])
   any_end P xs b it = (it.0, it.1, at_longer xs (b ∷ []) it.0 it.1 it.2, it.3)
 
-  -- two become one: the second's number is given up
+  -- two elements of the list change: a predicate of some element remains if it carries over from each old element to the new one
   pub any_two : (P : A → Type 0) (xs : List A) (i j : ℕ) (a b c d : A) → j ≢ i → get_elem? xs i ≡ some a → get_elem? xs j ≡ some b → (P a → P c) → (P b → P c) → SomeOf P xs → SomeOf P (set (set xs i c) j d)
   any_two P xs i j a b c d apart one other goes comes it =
       let here : get_elem? (set (set xs i c) j d) i ≡ some c = set_else (set xs i c) j i d (λ e. apart (sym e)) ∙ set_there xs i a c one in

@@ -29,7 +29,7 @@ module _ (origin : Origin) (board : BoardState) (run : Running origin board) (id
   now : (ticket ≡ run.served) × (ticket < run.drawn) × (seat.seen ≡ run.log) × (mark ≡ run.stopped)
   now = subst (FitsStage run.log run.stopped run.served run.drawn seat) open_is fits.stage
 
-  -- no other seat has this ticket
+  -- no other handle has this ticket
   no_other : (by : ℕ) (other : SeatView) → by ≢ id → get_elem? board.views by ≡ opt.some other → ticket_of other.stage ≡ Some run.served → ⊥
   no_other by other differ there theirs = (run.apart by id other seat differ there at).tickets run.served theirs (ap ticket_of open_is ∙ ap Some now.0)
 

@@ -1,4 +1,4 @@
--- Which entries of a log need which rights.
+-- The entries of a log that need some of given rights.
 use Rattle.std.proofs.Common.{◌≡◌, ◌≤◌, ◌+◌, ℕ, List, [], ◌∷◌, ◌++◌, length, Bool, true, false, cond, true≢false, refl, sym, ap, ◌∙◌, subst, ⊎_elim, arith, length-append, append-nil}
 use Rattle.std.proofs.lemmas.List.Elements.{filter-append}
 use Rattle.std.proofs.lemmas.List.Sums.{length-filter, count_by-le-length}
@@ -9,7 +9,7 @@ use Rattle.tb_lock.specs.Rights.{Right, has, right_of, own, AreAmong, united}
 use Rattle.tb_lock.specs.Histories.{Grows}
 use Rattle.tb_lock.proofs.RightLemmas.{of_united}
 
--- each entry needs one of these rights, or none does
+-- each of these entries needs one of the rights, or none of them does
 abbrev pub NeedsOne : Rights → List Entry → Type 0
 NeedsOne rights [] = Unit {0}
 NeedsOne rights (entry ∷ entries) = (has rights (right_of entry) ≡ true) × NeedsOne rights entries
@@ -58,7 +58,7 @@ pub not_false : (b : Bool) → (b ≡ true → ⊥) → b ≡ false
 not_false true never = absurd (never refl)
 not_false false never = refl
 
--- fewer rights are needed by no more entries
+-- if no entry needs one of the rights, no entry needs one of some of these rights
 pub own_fewer : (some rights : Rights) (entries : List Entry) → AreAmong some rights → own rights entries ≡ [] → own some entries ≡ []
 own_fewer some rights entries among e = none_needed some entries (go entries (needs_none rights entries e))
   where
@@ -66,7 +66,7 @@ own_fewer some rights entries among e = none_needed some entries (go entries (ne
     go [] needs = tt
     go (entry ∷ entries) needs = (not_false (has some (right_of entry)) (λ is. true≢false (sym (among (right_of entry) is) ∙ needs.0)), go entries needs.1)
 
--- entries of these rights need none of rights that are apart from them
+-- if all entries need one of the rights, no entry needs one of `other`, which has no right in common with them
 pub own_apart : (rights other : Rights) (entries : List Entry) → ((right : Right) → has rights right ≡ true → has other right ≡ true → ⊥) → own rights entries ≡ entries → own other entries ≡ []
 own_apart rights other entries apart e = none_needed other entries (go entries (needs_one rights entries e))
   where
@@ -74,7 +74,7 @@ own_apart rights other entries apart e = none_needed other entries (go entries (
     go [] needs = tt
     go (entry ∷ entries) needs = (not_false (has other (right_of entry)) (λ is. apart (right_of entry) needs.0 is), go entries needs.1)
 
--- what needs neither these rights nor those needs none of both
+-- if no entry needs one of the rights, and none needs one of the others, no entry needs one of the united rights
 pub own_both : (rights more : Rights) (entries : List Entry) → own rights entries ≡ [] → own more entries ≡ [] → own (united rights more) entries ≡ []
 own_both rights more entries e f = none_needed (united rights more) entries (go entries (needs_none rights entries e) (needs_none more entries f))
   where
@@ -85,7 +85,7 @@ own_both rights more entries e f = none_needed (united rights more) entries (go 
       go entries needs.1 others.1,
     )
 
--- of two parts that need none together, each needs none
+-- if no entry of two parts together needs one of the rights, no entry of each part does; and the converse
 append_nil : {A : Type 0} (xs ys : List A) → xs ++ ys ≡ [] → (xs ≡ []) × (ys ≡ [])
 append_nil [] ys e = (refl, e)
 append_nil (x ∷ xs) ys e = absurd (cc)
@@ -96,11 +96,11 @@ own_parts rights entries more e = append_nil (own rights entries) (own rights mo
 pub own_joined : (rights : Rights) (entries more : List Entry) → own rights entries ≡ [] → own rights more ≡ [] → own rights (entries ++ more) ≡ []
 own_joined rights entries more e f = own-append rights entries more ∙ ap (λ (xs : List Entry). xs ++ own rights more) e ∙ f
 
--- what is all of these rights in two parts is so in each
+-- if all entries of two parts need one of the rights, all entries of both together do
 pub own_all_more : (rights : Rights) (entries more : List Entry) → own rights entries ≡ entries → own rights more ≡ more → own rights (entries ++ more) ≡ entries ++ more
 own_all_more rights entries more e f = own-append rights entries more ∙ ap (λ (xs : List Entry). xs ++ own rights more) e ∙ ap (λ (xs : List Entry). entries ++ xs) f
 
--- where all needs these rights and the rest needs none, there is no rest
+-- if all entries need one of the rights, and no entry of the rest does, the rest is empty
 pub no_rest : (rights : Rights) (seen rest : List Entry) → own rights (seen ++ rest) ≡ seen ++ rest → own rights rest ≡ [] → rest ≡ []
 no_rest rights seen rest all none =
     let is : own rights seen ≡ seen ++ rest = sym (append-nil (own rights seen)) ∙ ap (λ (xs : List Entry). own rights seen ++ xs) (sym none) ∙ sym (own-append rights seen rest) ∙ all in
@@ -108,7 +108,7 @@ no_rest rights seen rest all none =
     let long : length (own rights seen) ≡ length seen + length rest = ap length is ∙ length-append seen rest in
     nil_from_length rest (omega arith)
 
--- a log that has grown has no more entries of these rights, or of some of them
+-- if no later entry needs one of the rights, the longer log has the same entries that need one of some of these rights
 pub own-grows : (some rights : Rights) (seen log : List Entry) → Grows rights seen log → AreAmong some rights → own some log ≡ own some seen
 own-grows some rights seen log g among =
     ap (own some) g.is ∙ own-append some seen g.rest ∙ ap (λ (xs : List Entry). own some seen ++ xs) (own_fewer some rights g.rest among g.none) ∙ append-nil (own some seen)

@@ -22,7 +22,7 @@ module _ (origin : Origin) (board : BoardState) (run : Running origin board) (id
   now : (ticket ≡ run.served) × (ticket < run.drawn) × (seat.seen ≡ run.log) × (core.stopped ≡ run.stopped)
   now = subst (FitsStage run.log run.stopped run.served run.drawn seat) open_is fits.stage
 
-  -- no other seat has this ticket
+  -- no other handle has this ticket
   pub no_other : (by : ℕ) (other : SeatView) → by ≢ id → get_elem? board.views by ≡ opt.some other → ticket_of other.stage ≡ Some run.served → ⊥
   no_other by other differ there theirs = (run.apart by id other seat differ there at).tickets run.served theirs (ap ticket_of open_is ∙ ap Some now.0)
 
@@ -103,7 +103,7 @@ abbrev opened_by : Origin → SeatView
 opened_by origin = record (opening_seat origin) { stage = Serving 0 false }
 
 module _ (origin : Origin) where
-  -- of the one seat
+  -- of the one handle
   only : (P : SeatView → Type 0) → P (opened_by origin) → (id : ℕ) (seat : SeatView) → get_elem? (opened_by origin ∷ []) id ≡ opt.some seat → P seat
   only P holds id seat at = subst P (alone_at (opened_by origin) seat id at) holds
 

@@ -1,4 +1,4 @@
--- Reading whose turn it is keeps the rule, and shows the core that is taken.
+-- The read of the served ticket keeps the rule, and shows the core that the handle finds.
 use Rattle.std.proofs.Common.{◌≡◌, ◌≢◌, ◌≤◌, ◌<◌, ◌%◌, ◌^◌, ℕ, List, [], ◌∷◌, slice_index, slice_set, true, false, Option, Some, true≢false, refl, sym, ap, ◌∙◌, subst, inr, ⊎_elim, arith}
 use Rattle.std.proofs.lemmas.List.{set-get_or}
 use mathlib.Core.Logic.{dite}
@@ -24,13 +24,13 @@ use Rattle.tb_lock.proofs.FrameLemmas.{changes, opens, ticket_room, few_tickets}
 use Rattle.tb_lock.proofs.StageLemmas.{turn_ticket}
 use Rattle.tb_lock.proofs.HistoryLemmas.{grows_refl, in_more}
 
--- where nothing changes
+-- a read that changes nothing keeps the rule
 pub stays : (origin : Origin) (board : BoardState) (word id : ℕ) (seat : SeatView) (carried : List (ℕ × Option CoreState)) → Kept origin board → get_elem? board.views id ≡ opt.some seat → Kept origin (stepped board word (slice_index board.words word) id carried seat keeps)
 stays origin board word id seat carried kept at =
     subst (Kept origin) (λ i. record { words = sym (set-get_or board.words word 0) i; homes = board.homes; views = sym (set_again board.views id seat at) i }) kept
 
 module _ (origin : Origin) (board : BoardState) (run : Running origin board) (id : ℕ) (seat : SeatView) (at : get_elem? board.views id ≡ opt.some seat) where
-  -- with all the room, a seat is the only one that may have stopped the bus
+  -- if a handle has the whole quota and the core is stopped, this handle has called `stop`
   pub lone : seat.room ≡ 64 → run.stopped ≡ true → seat.called ≡ true
   lone all e =
       let it = run.reason e in
@@ -65,7 +65,7 @@ module _ (origin : Origin) (board : BoardState) (run : Running origin board) (id
         let high = range.1 in
         one_turn run.served ticket (2 ^ 64) range.0 (omega arith) (sym found_is ∙ e)
 
-    -- the core is there, since no other seat is served
+    -- the core is in the slot, because no other handle is served
     at_home : run.served ≡ ticket → AtHome origin run.log run.stopped board
     at_home is = ⊎_elim
         (λ (home : AtHome origin run.log run.stopped board). home)
@@ -142,7 +142,7 @@ module _ (origin : Origin) (board : BoardState) (run : Running origin board) (id
 waits_so : (seat : SeatView) (ticket other : ℕ) → seat.stage ≡ Waiting ticket → seat.stage ≡ Waiting other → ticket ≡ other
 waits_so seat ticket other one more = cc
 
--- by its one ticket, because a seat has no other
+-- by its one ticket, because a handle has no other
 told_by : (me after : HolderState) (found ticket : ℕ) → me.0.stage ≡ Waiting ticket → (found ≡ ticket % 2 ^ 64 → TakesSlot ticket me after) → (found ≢ ticket % 2 ^ 64 → after ≡ me) → Reads me found after
 told_by me after found ticket waits hits misses other more =
     subst (λ (n : ℕ). (found ≡ n % 2 ^ 64 → TakesSlot n me after) × (found ≢ n % 2 ^ 64 → after ≡ me)) (waits_so me.0 ticket other waits more) (hits, misses)

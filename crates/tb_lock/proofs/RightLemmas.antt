@@ -1,4 +1,4 @@
--- Rights that were passed on, and rights that came together.
+-- Rights that are split and united, and tests for rights.
 use Rattle.std.proofs.Common.{◌≡◌, ◌⊎◌, ◌<◌, ◌+◌, ◌%◌, ◌^◌, ◌==◌, ℕ, zero, suc, min, max, Bool, true, false, not, ◌&&◌, ◌||◌, true≢false, refl, sym, ap, ◌∙◌, subst, inl, inr, arith, eqb-true, eq-eqb}
 use Rattle.std.proofs.lemmas.Bool.{eqb-false}
 use Rattle.std.specs.Int.{bit_at}
@@ -60,14 +60,14 @@ pub or_true : (a b : Bool) → (a || b) ≡ true → (a ≡ true) ⊎ (b ≡ tru
 or_true true b e = inl refl
 or_true false b e = inr e
 
--- each lane has its bit among all
+-- all rights have the bit of each lane
 pub all_lanes : (lane : ℕ) → IsLane lane → has_lane 65535 lane ≡ true
 all_lanes lane is =
     let low = is.0 in
     let high = is.1 in
     ap (λ (n : ℕ). n == 1) (bit_at_ones 16 (lane - 1) (omega arith))
 
--- what is left is among the rights, and none of it was passed on
+-- the rights that are left after a split are among the old ones, and none of them was given away
 pub left_among : (rights gone : Rights) → AreAmong (without rights gone) rights
 left_among rights gone right e = (and_true (has rights right) (has gone right) (sym (has-without rights gone right) ∙ e)).0
 
@@ -77,7 +77,7 @@ left_apart rights gone right e gone_is = true≢false (sym gone_is ∙ (and_true
 pub of_united : (rights more : Rights) (right : Right) → has (united rights more) right ≡ true → (has rights right ≡ true) ⊎ (has more right ≡ true)
 of_united rights more right e = or_true (has rights right) (has more right) (sym (has-united rights more right) ∙ e)
 
--- Whether lanes are among others is seen by their bits.
+-- Lanes are among others if and only if their bits are.
 
 abbrev pub AreLanesAmong : ℕ → ℕ → Type 0
 AreLanesAmong some lanes = (lane : ℕ) → has_lane some lane ≡ true → has_lane lanes lane ≡ true
@@ -107,14 +107,14 @@ lanes_by some lanes h = same_from_bits (bit_and some lanes) some (λ i. bit_at_a
     at : (i : ℕ) → (bit_at some i == 1) ≡ true → (bit_at lanes i == 1) ≡ true
     at i = subst (λ (k : ℕ). (bit_at some k == 1) ≡ true → (bit_at lanes k == 1) ≡ true) (omega arith) (h (suc i))
 
--- Rights are among others by each of their four parts.
+-- Rights are among others if this holds for each of the four parts.
 pub among_by : (some rights : Rights) → (some.steps ≡ true → rights.steps ≡ true) → (some.ticks ≡ true → rights.ticks ≡ true) → AreLanesAmong some.ins rights.ins → AreLanesAmong some.outs rights.outs → AreAmong some rights
 among_by some rights steps ticks ins outs Steps e = steps e
 among_by some rights steps ticks ins outs Ticks e = ticks e
 among_by some rights steps ticks ins outs (In lane) e = ins lane e
 among_by some rights steps ticks ins outs (Out lane) e = outs lane e
 
--- a test that says just whether something holds, in two directions
+-- the test is true if and only if the claim holds
 abbrev Says : Bool → Type 0 → Type 0
 Says test P = (test ≡ true → P) × (P → test ≡ true)
 
@@ -130,7 +130,7 @@ says_kept false false = (λ e wanted. absurd (true≢false (sym wanted)), λ h. 
 says_lanes : (some lanes : ℕ) → Says (nat_eq (bit_and some lanes) some) (AreLanesAmong some lanes)
 says_lanes some lanes = (λ e. lanes_among some lanes (eqb-true (bit_and some lanes) some e), λ h. eq-eqb (bit_and some lanes) some (lanes_by some lanes h))
 
--- Four tests say whether rights are among others.
+-- The four tests of `cover` are all true if and only if the rights are among the others.
 pub covers : (some rights : Rights) → (((rights.steps || not some.steps) && (rights.ticks || not some.ticks) && nat_eq (bit_and some.ins rights.ins) some.ins && nat_eq (bit_and some.outs rights.outs) some.outs) ≡ true) ↔ AreAmong some rights
 covers some rights =
     let first = says_both (rights.steps || not some.steps) (rights.ticks || not some.ticks) (some.steps ≡ true → rights.steps ≡ true) (some.ticks ≡ true → rights.ticks ≡ true) (says_kept rights.steps some.steps) (says_kept rights.ticks some.ticks) in
@@ -140,7 +140,7 @@ covers some rights =
       λ h. all.1 (((h Steps, h Ticks), λ lane. h (In lane)), λ lane. h (Out lane)),
     )
 
--- No rights are among any, and any are among all.
+-- The empty rights are among any rights, and any rights are among all rights.
 
 no_lane : (lane : ℕ) → has_lane 0 lane ≡ false
 no_lane lane = ap (λ (n : ℕ). n == 1) (bit_at-zero (lane - 1))

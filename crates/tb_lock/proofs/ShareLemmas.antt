@@ -1,4 +1,5 @@
--- Splitting a seat and joining two keep the rule. So does the look after a join, which shows what each had seen.
+-- The split of a handle, the join of two handles, and the look after a join keep the rule. The look shows that each had seen all entries of
+-- its rights.
 use Rattle.std.proofs.Common.{◌≡◌, ◌≢◌, ◌⊎◌, ◌≤◌, ◌<◌, ◌+◌, ◌-◌, ℕ, List, [], ◌∷◌, ◌++◌, set, slice_index, slice_set, Bool, true, false, ◌||◌, Some, None, true≢false, refl, sym, ap, ◌∙◌, subst, inl, inr, ⊎_elim, arith, length, length-append, append-nil, ◌==◌}
 use Rattle.std.proofs.lemmas.List.{set_comm, nil_from_length}
 use Rattle.std.proofs.lemmas.List.Sums.{sum_by_push}
@@ -27,7 +28,7 @@ use Rattle.tb_lock.proofs.HistoryLemmas.{grows_fewer, grows_joined, grows_first,
 idle_fits : (log : List Entry) (stopped : Bool) (served drawn : ℕ) (seat : SeatView) (stage : Stage) → stage ≡ Idle → FitsStage log stopped served drawn seat stage
 idle_fits log stopped served drawn seat stage idle = subst (FitsStage log stopped served drawn seat) (sym idle) tt
 
--- an idle seat has no ticket
+-- an idle handle has no ticket
 no_ticket : (stage : Stage) (ticket : ℕ) → stage ≡ Idle → ticket_of stage ≡ Some ticket → ⊥
 no_ticket stage ticket idle e = let none : ticket_of stage ≡ None = ap ticket_of idle in cc
 
@@ -176,7 +177,7 @@ or_right : (a b : Bool) → b ≡ true → (a || b) ≡ true
 or_right true b e = refl
 or_right false b e = e
 
--- what is the whole history is the longer
+-- of two prefixes, one of which is the whole history, the longer is the whole history
 whole : (rights more : Rights) (one other log : List Entry) → one ≡ log → Grows more other log → longer one other ≡ log
 whole rights more one other log e g = ⊎_elim
     (λ (t : (longer one other ≡ other) × (length one ≤ length other)).
@@ -211,7 +212,7 @@ module _ (origin : Origin) (board : BoardState) (run : Running origin board) (id
   abbrev both : SeatView
   both = joining seat other
 
-  -- the longer goes on from both, and is a prefix of the history
+  -- own entries keep their indices in the longer of the two logs
   in_longer : (owns : List Own) → AreIn seat.seen 0 owns → AreIn (longer seat.seen other.seen) 0 owns
   in_longer owns h =
       let g = grows_first seat.rights other.rights seat.seen other.seen run.log mine_fits.grows their_fits.grows in
@@ -286,7 +287,7 @@ module _ (origin : Origin) (board : BoardState) (run : Running origin board) (id
       }))
       run.slot
 
-  -- the seat that has seen it all is one of the two, or another
+  -- after the join, some handle has seen the whole history
   join_seen : Somewhere (λ s. s.seen ≡ run.log) views
   join_seen = subst (λ (vs : List SeatView). Somewhere (λ s. s.seen ≡ run.log) vs) (set_comm board.views id by both nobody (λ e. differ (sym e)))
       (any_two (λ s. s.seen ≡ run.log) board.views id by seat other both nobody differ at there

@@ -1,4 +1,4 @@
--- What the stage of a seat says of the tickets, and what stays of it where another seat makes a step.
+-- The tickets of a handle by its stage, and the rule for a handle after a step of another handle.
 use Rattle.std.proofs.Common.{◌≡◌, ◌≤◌, ◌<◌, ◌+◌, ℕ, List, [], ◌++◌, Bool, true, Some, true≢false, refl, sym, ap, arith}
 use Rattle.tb_log.specs.declared.entry.Entry.{Entry}
 use Rattle.tb_bus.specs.declared.origin.Origin.{Origin}
@@ -8,7 +8,7 @@ use Rattle.tb_lock.specs.Helpers.Rule.{ticket_of, has_turn, FitsStage, Fits}
 use Rattle.tb_lock.proofs.OwnLemmas.{own_fewer}
 use Rattle.tb_lock.proofs.HistoryLemmas.{grows_more}
 
--- a ticket that is out was drawn, and its turn hasn't passed
+-- the ticket of a handle was drawn, and its turn hasn't passed
 pub ticket_range : (log : List Entry) (stopped : Bool) (served drawn : ℕ) (seat : SeatView) (stage : Stage) (ticket : ℕ) → FitsStage log stopped served drawn seat stage → ticket_of stage ≡ Some ticket → (served ≤ ticket) × (ticket < drawn)
 ticket_range log stopped served drawn seat Opening ticket f e = absurd f
 ticket_range log stopped served drawn seat Idle ticket f e = absurd (cc)
@@ -16,7 +16,7 @@ ticket_range log stopped served drawn seat (Waiting other) ticket f e = let is :
 ticket_range log stopped served drawn seat (Serving other mark) ticket f e = let is : other ≡ ticket = cc in let low = f.0 in let high = f.1 in (omega arith, omega arith)
 ticket_range log stopped served drawn seat (Joined one rights other more) ticket f e = absurd (cc)
 
--- a seat whose turn is open is served
+-- if the turn of a handle is open, the handle has the served ticket
 pub turn_ticket : (log : List Entry) (stopped : Bool) (served drawn : ℕ) (seat : SeatView) (stage : Stage) → FitsStage log stopped served drawn seat stage → has_turn stage ≡ true → ticket_of stage ≡ Some served
 turn_ticket log stopped served drawn seat Opening f e = absurd f
 turn_ticket log stopped served drawn seat Idle f e = absurd (true≢false (sym e))
@@ -31,7 +31,7 @@ stage_drawn log stopped served drawn seat (Waiting ticket) f = let high = f.1 in
 stage_drawn log stopped served drawn seat (Serving ticket mark) f = let high = f.1 in (f.0, omega arith, f.2, f.3)
 stage_drawn log stopped served drawn seat (Joined one rights other more) f = f
 
--- where another draws a ticket
+-- the rule for this handle holds after another handle draws a ticket
 pub fits_drawn : (origin : Origin) (log : List Entry) (stopped : Bool) (served drawn : ℕ) (seat : SeatView) → Fits origin log stopped served drawn seat → Fits origin log stopped served (drawn + 1) seat
 fits_drawn origin log stopped served drawn seat f = record {
   gone = f.gone;
@@ -50,7 +50,7 @@ stage_passed log stopped served drawn seat (Waiting ticket) f apart = let low = 
 stage_passed log stopped served drawn seat (Serving ticket mark) f apart = absurd (apart (ap Some f.0))
 stage_passed log stopped served drawn seat (Joined one rights other more) f apart = f
 
--- where another passes its turn on
+-- the rule for this handle holds after another handle passes its turn on
 pub fits_passed : (origin : Origin) (log : List Entry) (stopped : Bool) (served drawn : ℕ) (seat : SeatView) → Fits origin log stopped served drawn seat → (ticket_of seat.stage ≡ Some served → ⊥) → Fits origin log stopped (served + 1) drawn seat
 fits_passed origin log stopped served drawn seat f apart = record {
   gone = f.gone;
@@ -75,7 +75,7 @@ stage_noted log entries stopped served drawn seat (Joined one rights other more)
   f.4,
 )
 
--- where another notes entries that need none of its rights
+-- the rule for this handle holds after another handle notes entries that need none of this handle's rights
 pub fits_noted : (origin : Origin) (log entries : List Entry) (stopped : Bool) (served drawn : ℕ) (seat : SeatView) → Fits origin log stopped served drawn seat → own seat.rights entries ≡ [] → (ticket_of seat.stage ≡ Some served → ⊥) → Fits origin (log ++ entries) stopped served drawn seat
 fits_noted origin log entries stopped served drawn seat f none apart = record {
   gone = f.gone;
@@ -94,7 +94,7 @@ stage_stopped log stopped served drawn seat (Waiting ticket) f apart = f
 stage_stopped log stopped served drawn seat (Serving ticket mark) f apart = absurd (apart (ap Some f.0))
 stage_stopped log stopped served drawn seat (Joined one rights other more) f apart = f
 
--- where another stops the bus
+-- the rule for this handle holds after another handle notes that the core was stopped
 pub fits_stopped : (origin : Origin) (log : List Entry) (stopped : Bool) (served drawn : ℕ) (seat : SeatView) → Fits origin log stopped served drawn seat → (ticket_of seat.stage ≡ Some served → ⊥) → Fits origin log true served drawn seat
 fits_stopped origin log stopped served drawn seat f apart = record {
   gone = f.gone;

@@ -1,4 +1,4 @@
--- What the parts of a turn leave of a seat, one after another.
+-- The state of a handle after each part of a turn.
 use Rattle.std.proofs.Common.{◌≡◌, ◌≢◌, ◌%◌, ◌^◌, ℕ, List, [], ◌∷◌, ◌++◌, Bool, true, false, Option, Some, None, option_to_list, refl, sym, ap, ◌∙◌, subst}
 use Rattle.atomic_table.specs.Table.{rest}
 use Rattle.tb_log.specs.declared.entry.Entry.{Entry}
@@ -7,7 +7,7 @@ use Rattle.tb_lock.specs.Seats.{SeatView, Stage, Idle, Waiting, Serving, joined}
 use Rattle.tb_lock.specs.Calls.{Meets, Joins}
 use Rattle.tb_lock.specs.Helpers.Plays.{HolderState, Draws, Reads, Notes, Stops, in_hand, noting, stopping, MayPass, HasTurn, joining, Looks}
 
--- what a seat meets doesn't depend on how far it has come
+-- the claims about the core that a handle finds don't depend on the handle's stage
 meets_at : (seat : SeatView) (stage : Stage) (core : CoreState) → Meets (record seat { stage = stage }) core → Meets seat core
 meets_at seat stage core m = record {
   origin = m.origin;
@@ -25,7 +25,7 @@ meets_at seat stage core m = record {
 pub drawn : (me after : HolderState) (found : ℕ) → me.1 ≡ [] → Draws me found after → (ticket : ℕ) × (found ≡ ticket % 2 ^ 64) × (after ≡ (record me.0 { stage = Waiting ticket }, []))
 drawn me after found empty d = (d.0, d.1, d.2 ∙ ap (λ (slots : List (ℕ × Option CoreState)). (record me.0 { stage = Waiting d.0 }, slots)) empty)
 
--- Where it is the seat's turn, it has the core.
+-- If it is the handle's turn, the handle takes the slot with the core.
 abbrev pub Took : SeatView → ℕ → HolderState → Type 0
 Took seat ticket after = (core : CoreState) × (after ≡ (record seat { seen = core.log; stage = Serving ticket core.stopped }, (0, Some core) ∷ [])) × Meets seat core
 
@@ -35,13 +35,13 @@ took me after found ticket seat is is_it reads =
     let own = t.0 is_it in
     (own.0, own.1, meets_at seat (Waiting ticket) own.0 own.2)
 
--- Where it isn't, nothing has changed.
+-- If it isn't, nothing has changed.
 pub missed : (me after : HolderState) (found ticket : ℕ) (seat : SeatView) → me ≡ (record seat { stage = Waiting ticket }, []) → found ≢ ticket % 2 ^ 64 → Reads me found after → after ≡ (record seat { stage = Waiting ticket }, [])
 missed me after found ticket seat is miss reads =
     let t = (subst (λ (m : HolderState). Reads m found after) is reads) ticket refl in
     t.1 miss
 
--- The core is taken out of the slot that is held.
+-- The core is taken out of the slot that the handle holds.
 pub taken_out : (seat : SeatView) (me after : HolderState) (ticket : ℕ) (core : CoreState) (found : Option CoreState) → me ≡ (record seat { seen = core.log; stage = Serving ticket core.stopped }, (0, Some core) ∷ []) →
     me.1 ≡ (0, found) ∷ rest me.1 → after ≡ (me.0, (0, None) ∷ rest me.1) → (found ≡ Some core) × (after ≡ (record seat { seen = core.log; stage = Serving ticket core.stopped }, (0, None) ∷ []))
 taken_out seat me after ticket core found is holds then_is = (
@@ -49,7 +49,7 @@ taken_out seat me after ticket core found is holds then_is = (
   then_is ∙ ap (λ (m : HolderState). (m.0, (0, None) ∷ rest m.1)) is,
 )
 
--- It is put back there.
+-- The core is put back into the slot.
 pub put_back : (me after : HolderState) (core : CoreState) → me.1 ≡ (0, None) ∷ [] → after ≡ (me.0, (0, Some core) ∷ rest me.1) → after ≡ (me.0, (0, Some core) ∷ [])
 put_back me after core empty then_is = then_is ∙ ap (λ (slots : List (ℕ × Option CoreState)). (me.0, (0, Some core) ∷ rest slots)) empty
 
@@ -87,13 +87,13 @@ pub may_pass_first : (after : HolderState) (seat : SeatView) (core : CoreState) 
 may_pass_first after seat core origin_is log_is stopped_is is =
     subst MayPass (sym is) (record { ticket = 0; core = core; stage = ap (Serving 0) (sym stopped_is); slot = refl; origin = origin_is; log = log_is })
 
--- What was found in the slot is the core that the seat has met.
+-- What was found in the slot is the core that the handle has met.
 pub acquired : (seat : SeatView) (after : HolderState) (found : Option CoreState) (core result : CoreState) (ticket : ℕ) → found ≡ Some core → found ≡ Some result →
     after ≡ (record seat { seen = core.log; stage = Serving ticket core.stopped }, (0, None) ∷ []) → Meets seat core → HasTurn seat result after × Meets seat result
 acquired seat after found core result ticket one more is meets =
     subst (λ (k : CoreState). HasTurn seat k after × Meets seat k) (same_core found core result one more) ((ticket, is), meets)
 
--- Two seats were joined, and the look has shown what each had seen.
+-- Two handles were joined, and the look has shown what each had seen.
 pub united_by : (me after : HolderState) (found : ℕ) (seat other : SeatView) → me ≡ (joining seat other, []) → seat.stage ≡ Idle → Looks me found after → (after ≡ (joined seat other, [])) × Joins seat other after.0
 united_by me after found seat other is idle looks =
     let t = (subst (λ (m : HolderState). Looks m found after) is looks) seat.seen seat.rights other.seen other.rights refl in

@@ -1,4 +1,4 @@
--- What contracts see of a seat, and the results of opening, splitting, and joining seats.
+-- What contracts see of a handle, and the results of opening, splitting, and joining handles.
 use Rattle.std.specs.Prelude.{◌≡◌, ℕ, ◌+◌, ◌-◌, List, [], Bool, true, false, ◌||◌, ◌⊎◌, refl}
 use Rattle.std.specs.Coded.{Coded, code_by, coded×, coded⊎, coded_ℕ, coded_bool, coded_list}
 use mathlib.Core.Logic.{inl, inr}
@@ -14,32 +14,33 @@ use Rattle.tb_lock.specs.contracts.rights.Rights as rights
 use Rattle.tb_lock.specs.Rights.{all_rights, no_rights, without, united}
 use Rattle.tb_lock.specs.Histories.{Own, longer, merged}
 
--- How far a seat has come. Between two calls it is idle.
+-- The stage of a handle within its call. Between two calls, a handle is idle.
 pub data Stage : Type 0 where
-  -- the one seat of a bus that is being made: its turn is the first, and no core is there yet
+  -- the one handle of a bus that is being made: its turn is the first, and no core is there yet
   Opening : Stage
   Idle : Stage
   -- it has drawn this ticket
   Waiting : ℕ → Stage
   -- its turn is open: its ticket, and whether the taken core is stopped
   Serving : ℕ → Bool → Stage
-  -- it was joined by another just now: what each had seen, with its rights
+  -- it was just joined with another: the entries that each had seen, with its rights
   Joined : List Entry → Rights → List Entry → Rights → Stage
 
+-- what contracts see of a handle
 pub record SeatView : Type 0 where
-  -- the bus of the seat, and where that bus was started
+  -- the bus of the handle, and the origin of this bus
   pub bus : TableId
   pub origin : Origin
-  -- the history, as far as the seat has seen it
+  -- the history, as far as the handle has seen it
   pub seen : List Entry
-  -- the entries that its calls have made
+  -- the entries that the handle's own calls have made, with their indices in the history
   pub mine : List Own
   pub rights : Rights
-  -- the number of seats that it may become, itself included
+  -- its quota: the number of handles that it can become, itself included
   pub room : ℕ
-  -- this seat, or one that joined it, has called `stop`
+  -- this handle, or one that joined it, has called `stop`
   pub called : Bool
-  -- the same, or a call was answered `Stopped`
+  -- this handle, or one that joined it, has called `stop` or received `Stopped`
   pub told : Bool
   pub stage : Stage
 
@@ -98,27 +99,27 @@ no_program = refl
 abbrev pub no_origin : Origin
 no_origin = record { program = record { bodies = []; roots = []; tools = []; in_range = no_program }; connects = []; limit = 0 }
 
--- what is left of a seat that has joined another
+-- the view that is left of a handle after it was joined to another
 abbrev pub nobody : SeatView
 nobody = record { bus = no_bus; origin = no_origin; seen = []; mine = []; rights = no_rights; room = 0; called = false; told = false; stage = Idle }
 
--- the greatest number of seats
+-- the greatest number of handles of a bus, which is the first handle's quota
 abbrev pub most_seats : ℕ
 most_seats = 64
 
--- the first seat of a bus, which has all rights
+-- the first handle of a bus, which has all rights
 abbrev pub first_seat : TableId → Origin → SeatView
 first_seat bus origin = record { bus = bus; origin = origin; seen = []; mine = []; rights = all_rights; room = most_seats; called = false; told = false; stage = Idle }
 
--- the rest of a seat after it has passed these rights on
+-- a handle after a split that gives these rights to a new handle
 abbrev pub kept_of : Rights → SeatView → SeatView
 kept_of gone seat = record seat { rights = without seat.rights gone; room = seat.room - 1 }
 
--- the new seat with these rights: it has seen as much, and has added nothing
+-- the new handle of this split: it has these rights, has seen as much as the old one, and has no own entries
 abbrev pub handed_on : Rights → SeatView → SeatView
 handed_on gone seat = record seat { mine = []; rights = gone; room = 1; called = false; told = false }
 
--- two seats as one
+-- the join of two handles
 abbrev pub joined : SeatView → SeatView → SeatView
 joined seat other = record seat {
   seen = longer seat.seen other.seen;

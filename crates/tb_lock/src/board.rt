@@ -1,12 +1,12 @@
-//! The words and the slot of a bus, and its seats as they take part.
+//! The words and the slot of a bus, and its handles while a call runs.
 use crate::plays::BusRule;
 use crate::seat::View;
 use tb_core::Core;
 
-/// The words and the slot of a bus.
+/// The shared table of a bus: two words, and one slot for the core.
 pub(crate) type Board<W> = atomic_table::Shared<Option<Core<W>>, View, Core<W>, BusRule>;
 
-/// A seat, with the slot where its turn is open.
+/// A handle while a call runs. If its turn is open, it holds the slot.
 pub(crate) type Holder<W> = atomic_table::Seat<Option<Core<W>>, View>;
 
 /// The word from which tickets are drawn.

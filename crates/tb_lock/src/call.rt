@@ -1,4 +1,4 @@
-//! The calls of a core that may log an entry, all of one form.
+//! The calls of a core that may log an entry, behind one trait.
 ghost use Rattle.tb_lock.specs.Calls.{IsCallInShape};
 ghost use Rattle.tb_lock.specs.Helpers.Plays.{Answers};
 
@@ -6,26 +6,26 @@ use tb_core::{Core, CoreFault, Stepped, TakeOut};
 use tb_log::{Input, Reply};
 use tb_process_steps::Walker;
 
-/// A call that a seat makes in its turn.
+/// A call that a handle makes in its turn.
 pub(crate) trait CoreCall<W: Walker> {
     ghost use Rattle.tb_core.specs.Cores.{Call, CoreState};
 
     /// The answer of the call.
     type Answer;
 
-    /// The kind of the call.
+    /// The call, as specifications name it.
     ghost call: { Self → Call };
 
-    /// The correct answers.
+    /// The correct answers on a core in a given state.
     ghost finds: { Self → CoreState → Self.Answer → Type 0 };
 
-    /// Makes the call.
+    /// Makes the call on a core.
     fn make(self, core: &mut Core<W>) -> Result<Self::Answer, CoreFault>
         requires { IsCallInShape (call self) }
         ensures { Answers (finds self) (call self) core.old core.new result };
 }
 
-/// Delivers an input.
+/// The call that delivers an input.
 #[derive(Drop)]
 pub(crate) struct HandingIn {
     pub(crate) input: Input,
@@ -46,7 +46,7 @@ impl<W: Walker> CoreCall<W> for HandingIn {
     }
 }
 
-/// Makes a step.
+/// The call that takes a step.
 #[derive(Drop)]
 pub(crate) struct Stepping;
 
@@ -64,7 +64,7 @@ impl<W: Walker> CoreCall<W> for Stepping {
     }
 }
 
-/// Takes the next item that is queued on a lane.
+/// The call that takes the next item queued on a lane.
 #[derive(Drop)]
 pub(crate) struct TakingOut {
     pub(crate) lane: u8,

@@ -1,4 +1,4 @@
-//! The shared bus: threads take turns at one core. Each thread has its own seat, and there is one history.
+//! The shared bus: threads take turns at one core. Each thread has its own handle (`Seat`), and there is one history.
 #![tactic(auto)]
 
 mod board;

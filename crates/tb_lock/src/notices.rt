@@ -1,28 +1,30 @@
-//! The lanes that have something for their writers, as the last turn left the core. This is a hint, and no clause speaks of it.
+//! The lanes that have work for their writers, as the last turn left the core. This is a hint: no clause of a public call mentions it.
 ghost use Rattle.tb_lock.specs.Calls.{AreOuts};
 
 use std::sync::atomic::{AtomicU32, Ordering};
 use tb_core::Core;
 use tb_process_steps::Walker;
 
-/// A bit for each lane, from 1 to 16.
+/// A bit for each lane from 1 to 16: whether the lane's writer has work.
 #[derive(Drop)]
 pub(crate) struct Notices {
     lanes: AtomicU32,
 }
 
 impl Notices {
+    /// Returns the notices for a core in its present state.
     pub(crate) fn of<W: Walker>(core: &Core<W>) -> Notices {
         Notices {
             lanes: AtomicU32::new(lanes_of(core)),
         }
     }
 
-    /// Notes what a turn leaves, before the turn is passed on.
+    /// Notes the lanes of the core after a turn's call, before the turn is passed on.
     pub(crate) fn put<W: Walker>(&self, core: &Core<W>) {
         self.lanes.store(lanes_of(core), Ordering::SeqCst);
     }
 
+    /// Returns whether the writer of a lane has work.
     pub(crate) fn has(&self, lane: u8) -> bool {
         self.lanes.load(Ordering::SeqCst) & bit_of(lane) != 0
     }

@@ -1,4 +1,4 @@
-//! The rule of a bus, and the kinds of atomic step.
+//! The rule of a bus, and the kinds of atomic step that keep it.
 use crate::rights::Rights;
 use crate::seat::View;
 use atomic_table::{Join, Play, Split, TableRule};
@@ -6,7 +6,7 @@ use std::marker::{Brand, PhantomData};
 use tb_core::Core;
 use tb_process_steps::Walker;
 
-/// The rule that every step keeps. Its key is the core of the bus.
+/// The rule that every atomic step keeps. Its key is the core with which the bus starts.
 pub struct BusRule;
 
 impl<W: Walker> TableRule<Option<Core<W>>, View, Core<W>> for BusRule {
@@ -17,7 +17,7 @@ impl<W: Walker> TableRule<Option<Core<W>>, View, Core<W>> for BusRule {
     ghost first = { λ core. opening_seat core.origin };
 }
 
-/// The first seat takes the empty slot.
+/// The step of a new bus's first handle that takes the empty slot.
 pub(crate) struct Open;
 
 impl<W: Walker> Play<Option<Core<W>>, View> for Open {
@@ -26,7 +26,7 @@ impl<W: Walker> Play<Option<Core<W>>, View> for Open {
     ghost then = { λ _ me found after. Opens me found after };
 }
 
-/// Draw a turn.
+/// The step that draws a ticket for a turn.
 pub(crate) struct Draw;
 
 impl<W: Walker> Play<Option<Core<W>>, View> for Draw {
@@ -35,7 +35,8 @@ impl<W: Walker> Play<Option<Core<W>>, View> for Draw {
     ghost then = { λ _ me found after. Draws me found after };
 }
 
-/// Read the ticket whose turn it is. If it is the seat's own, take the slot. An exchange then takes the core out of the slot.
+/// The step that reads the served ticket. If this is the handle's own ticket, the handle takes the slot, and then an exchange takes
+/// the core out of the slot.
 pub(crate) struct Read;
 
 impl<W: Walker> Play<Option<Core<W>>, View> for Read {
@@ -44,7 +45,7 @@ impl<W: Walker> Play<Option<Core<W>>, View> for Read {
     ghost then = { λ _ me found after. Reads me found after };
 }
 
-/// Note a call on the core that was taken. The call has logged one entry at most.
+/// The step that notes a call on the taken core. The call has logged at most one entry.
 pub(crate) struct Note;
 
 impl<W: Walker> Play<Option<Core<W>>, View> for Note {
@@ -53,7 +54,7 @@ impl<W: Walker> Play<Option<Core<W>>, View> for Note {
     ghost then = { λ _ me found after. Notes me found after };
 }
 
-/// Note that the core that was taken was stopped.
+/// The step that notes that the taken core was stopped.
 pub(crate) struct Stop;
 
 impl<W: Walker> Play<Option<Core<W>>, View> for Stop {
@@ -62,7 +63,7 @@ impl<W: Walker> Play<Option<Core<W>>, View> for Stop {
     ghost then = { λ _ me found after. Stops me found after };
 }
 
-/// Pass the turn on.
+/// The step that passes the turn on.
 pub(crate) struct Pass;
 
 impl<W: Walker> Play<Option<Core<W>>, View> for Pass {
@@ -71,7 +72,7 @@ impl<W: Walker> Play<Option<Core<W>>, View> for Pass {
     ghost then = { λ _ me found after. Passes me found after };
 }
 
-/// Look, after a join.
+/// The step after a join that states what each of the two handles had seen.
 pub(crate) struct Look;
 
 impl<W: Walker> Play<Option<Core<W>>, View> for Look {
@@ -80,7 +81,7 @@ impl<W: Walker> Play<Option<Core<W>>, View> for Look {
     ghost then = { λ _ me found after. Looks me found after };
 }
 
-/// The rights that a seat passes on. Each split picks its own.
+/// The rights that a handle gives to a new one. Each split picks these rights.
 pub(crate) trait HandsOn {
     ghost use Rattle.tb_lock.specs.declared.rights.Rights.{Rights};
 
@@ -93,7 +94,7 @@ impl HandsOn for Brand {
     ghost rights = { no_rights };
 }
 
-/// A seat passes rights on to a new one.
+/// The split in which a handle gives rights to a new one.
 pub(crate) struct Part<H> {
     of: PhantomData<H>,
 }
@@ -106,7 +107,7 @@ impl<H: HandsOn> Split<View> for Part<H> {
     ghost right = { handed_on H.rights };
 }
 
-/// Two seats become one.
+/// The join of two handles.
 pub(crate) struct Unite;
 
 impl Join<View> for Unite {

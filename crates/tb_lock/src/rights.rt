@@ -1,23 +1,23 @@
-//! The rights of a seat, which permit its calls.
+//! The rights of a handle, which permit its calls.
 ghost use Rattle.std.specs.Prelude.{◌≡◌, ◌↔◌, IsTrue};
 ghost use Rattle.tb_log.specs.Shapes.{IsLane};
 ghost use Rattle.tb_lock.specs.Rights.{AreAmong, all_rights, no_rights, lane_alone, reader_rights, writer_rights, stepper_rights, ticker_rights};
 
-/// The permitted calls of a seat. The bit of a lane, from 1 to 16, is its number minus one.
+/// The rights of a handle. In `ins` and `outs`, lane n (from 1 to 16) has bit n - 1.
 #[derive(Clone, Copy, Debug, PartialEq, Eq)]
 pub struct Rights {
-    /// To make steps.
+    /// The right to take steps.
     pub steps: bool,
-    /// To deliver ticks, and to report that no more of them come.
+    /// The right to deliver ticks, and to deliver the end of ticks.
     pub ticks: bool,
-    /// To deliver the output of the tools of these lanes, and its end.
+    /// The lanes of which the handle may deliver the output of the tool, and the end of this output.
     pub ins: u16,
-    /// To take the items that are queued for the tools of these lanes, and to report that one couldn't be written.
+    /// The lanes of which the handle may take the queued items, and deliver the input that an item couldn't be written (`cut`).
     pub outs: u16,
 }
 
 impl Rights {
-    /// All rights that there are.
+    /// Returns all rights.
     pub fn all() -> Rights
         ensures { result ≡ all_rights }
     {
@@ -29,7 +29,7 @@ impl Rights {
         }
     }
 
-    /// No rights.
+    /// Returns no rights.
     pub fn none() -> Rights
         ensures { result ≡ no_rights }
     {
@@ -41,7 +41,7 @@ impl Rights {
         }
     }
 
-    /// To deliver the output of the tool of a lane from 1 to 16, and its end. No other right.
+    /// Returns only the right to deliver the output of the tool of a lane from 1 to 16, and the end of this output.
     pub fn reader(lane: u8) -> Rights
         requires { IsLane lane }
         ensures { result ≡ reader_rights lane }
@@ -54,8 +54,8 @@ impl Rights {
         }
     }
 
-    /// To take the items that are queued for the tool of a lane from 1 to 16, and to report that one couldn't be written. No other
-    /// right.
+    /// Returns only the right to take the items queued on a lane from 1 to 16, and to deliver the input that an item couldn't be
+    /// written (`cut`).
     pub fn writer(lane: u8) -> Rights
         requires { IsLane lane }
         ensures { result ≡ writer_rights lane }
@@ -68,7 +68,7 @@ impl Rights {
         }
     }
 
-    /// To make steps. No other right.
+    /// Returns only the right to take steps.
     pub fn stepper() -> Rights
         ensures { result ≡ stepper_rights }
     {
@@ -80,7 +80,7 @@ impl Rights {
         }
     }
 
-    /// To deliver ticks, and to report that no more of them come. No other right.
+    /// Returns only the right to deliver ticks, and to deliver the end of ticks.
     pub fn ticker() -> Rights
         ensures { result ≡ ticker_rights }
     {
@@ -104,7 +104,7 @@ impl Rights {
     }
 }
 
-/// The bit of a lane.
+/// Returns the number whose only bit is that of a lane.
 #[tactic(auto, using(std::proofs::lemmas::Grind::one_shifted))]
 fn alone(lane: u8) -> u16
     requires { IsLane lane }

@@ -1,8 +1,8 @@
-//! A seat: the right to take part in a shared bus, and what its holder knows of the bus.
+//! A bus handle: it lets a thread call a shared bus, and contracts see what the handle knows of the bus.
 use atomic_table::Badge;
 use std::marker::Model;
 
-/// A seat's knowledge, as the rule of the bus sees it. No value of this type is made.
+/// The type whose model is a handle's view. The code makes no value of this type.
 pub struct View {}
 
 impl Model for View {
@@ -15,9 +15,9 @@ impl Model for View {
     ghost view = { λ _. nobody };
 }
 
-/// The right to take part in a bus. It has no bytes at run time, and another thread may receive it. Contracts see the seat's
-/// knowledge and rights: the history as far as the seat has seen it, its own entries there, its rights, and the number of seats
-/// that it may become. A dropped seat takes its rights and its room with it.
+/// A bus handle. It has no bytes at run time, and can go to another thread. Contracts see it as a `SeatView`: the history as far as
+/// the handle has seen it, its own entries, its rights, and its quota (how many handles it can become). If a handle is dropped, its
+/// rights and its quota are lost.
 #[derive(Drop)]
 pub struct Seat {
     pub(crate) badge: Badge<View>,

@@ -1,4 +1,4 @@
-//! Splitting a seat in two, and joining two seats.
+//! How a handle is split in two, and how two handles are joined.
 ghost use Rattle.std.specs.Prelude.{◌≡◌, ◌<◌, []};
 ghost use Rattle.tb_lock.specs.Rights.{AreAmong};
 ghost use Rattle.tb_lock.specs.Seats.{Idle, kept_of, handed_on};
@@ -10,7 +10,7 @@ use crate::plays::{HandsOn, Look, Part, Unite};
 use crate::rights::Rights;
 use tb_process_steps::Walker;
 
-/// Splits a seat in two.
+/// Splits a handle in two. Returns the new handle, which has the given rights.
 pub(crate) fn part<W: Walker, H: HandsOn>(
     board: &Board<W>,
     holder: &mut Holder<W>,
@@ -30,7 +30,7 @@ pub(crate) fn part<W: Walker, H: HandsOn>(
     board.split_seat::<Part<H>>(holder)
 }
 
-/// Joins two seats, and then looks at the entries that each had seen.
+/// Joins two handles. A second atomic step then states, for the proof, that each had seen all entries of its rights.
 pub(crate) fn unite<W: Walker>(board: &Board<W>, holder: &mut Holder<W>, other: Holder<W>)
     requires board { IsBoard board.now.table_id }
     requires holders { (holder.old.table_id ≡ board.now.table_id)

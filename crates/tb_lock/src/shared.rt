@@ -26,8 +26,8 @@ use tb_process_steps::Walker;
 use tb_terms::NoMemory;
 use tb_tools::LaneState;
 
-/// A bus that threads share. Each thread takes part by its own seat, and the calls of all seats take turns. So there is one log, and
-/// each seat has seen a prefix of it. Contracts see only the name of the bus, and a seat has the name of its bus.
+/// A bus that threads share. Each thread calls it with its own handle, and the calls of all handles take turns. So there is one log,
+/// and each handle has seen a prefix of it. Contracts see only the name of the bus, and a handle has the name of its bus.
 #[derive(Drop)]
 pub struct Shared<W: Walker> {
     table: Table<Option<Core<W>>, View, Core<W>, BusRule, Global>,
@@ -49,15 +49,15 @@ impl<W: Walker> Model for Shared<W> {
     ghost invariant = { λ bus. IsBoard bus.table.shared.table_id };
 }
 
-/// There is no memory for a bus. The core comes back.
+/// The error of `make` if out of memory: it returns the core.
 #[derive(Drop)]
 pub struct NoRoom<W: Walker> {
-    /// The core, as it was.
+    /// The unchanged core.
     pub core: Core<W>,
 }
 
 impl<W: Walker> Shared<W> {
-    /// Shares a core that has logged nothing and isn't stopped. The returned seat has all rights, and room for 64 seats.
+    /// Shares a core that has logged nothing and isn't stopped. The returned handle has all rights, and the quota 64.
     pub fn make(alloc: Global, core: Core<W>) -> Result<(Shared<W>, Seat), NoRoom<W>>
         requires log { core.log ≡ [] }
         requires running { core.stopped ≡ false }
@@ -81,7 +81,7 @@ impl<W: Walker> Shared<W> {
         Ok((shared, seat))
     }
 
-    /// Moves some of the seat's rights to a new seat, with room for the new seat.
+    /// Moves some of the handle's rights, and 1 of its quota, to a new handle.
     pub fn split(&self, seat: &mut Seat, rights: Rights) -> Seat
         requires own { seat.old.bus ≡ self.now }
         requires rights { AreAmong rights seat.old.rights }
@@ -97,7 +97,7 @@ impl<W: Walker> Shared<W> {
         }
     }
 
-    /// Joins another seat to this one, with its rights, its room, and its entries.
+    /// Joins another handle to this one, which takes its rights, its quota, and its own entries.
     pub fn join(&self, seat: &mut Seat, other: Seat)
         requires own { seat.old.bus ≡ self.now }
         requires other { other.bus ≡ self.now }
@@ -109,7 +109,7 @@ impl<W: Walker> Shared<W> {
         seat.badge = holder.into_badge();
     }
 
-    /// Delivers an input in the seat's turn.
+    /// Delivers an input in the handle's turn.
     pub fn hand_in<R: Wait>(
         &self,
         rt: &R,
@@ -124,7 +124,7 @@ impl<W: Walker> Shared<W> {
         self.call(rt, seat, HandingIn { input })
     }
 
-    /// Makes the first possible step in the seat's turn, or reports that none is possible, as a core does.
+    /// Takes the first possible step in the handle's turn, or reports that no step is possible, as `step` of a core does.
     pub fn step<R: Wait>(&self, rt: &R, seat: &mut Seat) -> Result<Stepped, CoreFault>
         requires own { seat.old.bus ≡ self.now }
         requires right { has seat.old.rights (right_to MakeStep) ≡ true }
@@ -143,7 +143,7 @@ impl<W: Walker> Shared<W> {
         }
     }
 
-    /// Takes the next item that is queued on a lane, in the seat's turn.
+    /// Takes the next item that is queued on a lane, in the handle's turn.
     pub fn take_out<R: Wait>(&self, rt: &R, seat: &mut Seat, lane: u8) -> Result<TakeOut, CoreFault>
         requires own { seat.old.bus ≡ self.now }
         requires lane { IsLane lane }
@@ -153,7 +153,7 @@ impl<W: Walker> Shared<W> {
         self.call(rt, seat, TakingOut { lane })
     }
 
-    /// Returns the state of a lane, in the seat's turn.
+    /// Returns the state of a lane, in the handle's turn.
     pub fn lane_state<R: Wait>(&self, rt: &R, seat: &mut Seat, lane: u8) -> LaneState
         requires own { seat.old.bus ≡ self.now }
         requires lane { IsLane lane }
@@ -169,8 +169,8 @@ impl<W: Walker> Shared<W> {
         state
     }
 
-    /// Copies entries of the history in the seat's turn. From the entries after the first `from`, it copies the first `most`, or all if
-    /// there are fewer. A seat needs no right for this call. Also if out of memory, the seat has then seen the history.
+    /// Copies entries of the history in the handle's turn: the first `most` entries after the first `from`, or all of these if there are
+    /// fewer. A handle needs no right for this call. Even if out of memory, the handle has then seen the whole log of the core.
     pub fn read_log<R: Wait>(
         &self,
         rt: &R,
@@ -192,13 +192,13 @@ impl<W: Walker> Shared<W> {
         found
     }
 
-    /// Returns whether there is something for the writer of this lane, as the last turn left the core: an item is queued on the lane, or
-    /// the bus has shut down or was stopped. The call takes no turn, and its answer is a hint.
+    /// Returns whether the writer of this lane has work, as the last turn left the core: an item is queued on the lane, or the bus has
+    /// shut down, or the bus was stopped. The call takes no turn, and its answer is a hint.
     pub fn calls_for(&self, lane: u8) -> bool {
         self.notices.has(lane)
     }
 
-    /// Makes a call of the core, in the seat's turn.
+    /// Makes a call of the core in one turn of the handle, inside the gate.
     fn call<R: Wait, C: CoreCall<W>>(
         &self,
         rt: &R,
@@ -216,7 +216,7 @@ impl<W: Walker> Shared<W> {
         answer
     }
 
-    /// Makes a call of the core, in one turn of the seat. The thread is inside the gate.
+    /// Makes a call of the core in one turn of the handle. The thread must already be inside the gate.
     pub(crate) fn turn<R: Wait, C: CoreCall<W>>(
         &self,
         rt: &R,
@@ -237,7 +237,7 @@ impl<W: Walker> Shared<W> {
         answer
     }
 
-    /// Stops the bus in the seat's turn. From then on, each call of any seat that may log an entry answers `Stopped`.
+    /// Stops the bus in the handle's turn. From then on, `hand_in`, `step`, and `take_out` of all handles return `Stopped`.
     pub fn stop<R: Wait>(&self, rt: &R, seat: &mut Seat)
         requires own { seat.old.bus ≡ self.now }
         ensures { StopsBus seat.old seat.new }
@@ -252,7 +252,7 @@ impl<W: Walker> Shared<W> {
         seat.badge = holder.into_badge();
     }
 
-    /// Returns the core. The seat must be the only one left: it has all rights and all room.
+    /// Returns the core. The handle must be the only one left: it has all rights and the quota 64.
     pub fn close<R: Wait>(self, rt: &R, seat: Seat) -> Core<W>
         requires own { seat.bus ≡ self }
         requires rights { seat.rights ≡ all_rights }

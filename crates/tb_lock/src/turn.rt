@@ -1,4 +1,4 @@
-//! A seat's turn: it waits for it, takes the core out, puts it back and passes the turn on.
+//! A handle's turn: the handle waits for the turn, takes the core out, puts it back, and passes the turn on.
 ghost use Rattle.std.specs.Prelude.{◌≡◌, ◌<◌, [], false};
 ghost use Rattle.tb_lock.specs.Calls.{Meets};
 ghost use Rattle.tb_lock.specs.Seats.{Idle};
@@ -12,7 +12,7 @@ use std::thread::yield_now;
 use tb_core::Core;
 use tb_process_steps::Walker;
 
-/// Opens the first turn of a new bus: puts the core into its slot.
+/// Makes the first turn of a new bus: puts the core into the slot, and passes the turn on.
 pub(crate) fn open<W: Walker>(board: &Board<W>, holder: &mut Holder<W>, core: Core<W>)
     requires board { IsBoard board.now.table_id }
     requires holder { holder.old.table_id ≡ board.now.table_id }
@@ -26,7 +26,7 @@ pub(crate) fn open<W: Walker>(board: &Board<W>, holder: &mut Holder<W>, core: Co
     pass(board, holder);
 }
 
-/// Waits for the seat's turn, and takes the core out of its slot. A thread inside the gate of the bus doesn't wait: its ticket is
+/// Waits for the handle's turn, and takes the core out of its slot. A thread inside the gate of the bus doesn't wait: its ticket is
 /// served as soon as it is drawn.
 pub(crate) fn acquire<W: Walker, R: Wait>(
     rt: &R,
@@ -65,7 +65,7 @@ pub(crate) fn release<W: Walker>(board: &Board<W>, holder: &mut Holder<W>, core:
     pass(board, holder);
 }
 
-/// Puts back an unchanged core, and passes the turn on. There is nothing to note.
+/// Puts back an unchanged core, and passes the turn on without a note.
 pub(crate) fn release_unchanged<W: Walker>(board: &Board<W>, holder: &mut Holder<W>, core: Core<W>)
     requires board { IsBoard board.now.table_id }
     requires holder { holder.old.table_id ≡ board.now.table_id }

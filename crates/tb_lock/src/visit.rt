@@ -32,7 +32,7 @@ impl<'a, W: Walker> Model for Visit<'a, W> {
 }
 
 impl<'a, W: Walker> Visit<'a, W> {
-    /// Makes the first possible step in one turn of the seat, as `step` of `Shared` does.
+    /// Takes the first possible step in one turn of the handle, as `step` of `Shared` does.
     pub fn step<R: Wait>(&self, rt: &R, seat: &mut Seat) -> Result<Stepped, CoreFault>
         requires own { seat.old.bus ≡ self.now }
         requires right { has seat.old.rights (right_to MakeStep) ≡ true }

@@ -1,4 +1,4 @@
--- How many entries of its own a seat has after a call.
+-- The number of a seat's own entries after a call.
 use Rattle.std.proofs.Common.{◌≡◌, ◌+◌, ℕ, suc, List, [], ◌∷◌, map, length, Bool, true, false, if◌then◌else◌, Result, Ok, option_to_list, refl, sym, ap, ◌∙◌, length-append}
 use Rattle.tb_log.specs.declared.entry.Entry.{Entry}
 use Rattle.tb_log.specs.declared.entry.Input.{Input}
@@ -13,12 +13,12 @@ use Rattle.tb_lock.specs.Histories.{indexed}
 use Rattle.tb_lock.specs.Seats.{SeatView}
 use Rattle.tb_lock.specs.Calls.{added, Called, IsReply}
 
--- a bus that is down has no step
+-- a bus that has shut down has no step
 down_stuck : (bus : Bus) → bus.down ≡ true → steps bus ≡ []
 unfolding steps moves
 down_stuck bus down = ap (λ (b : Bool). map (step_of bus) (if b then [] else moves_while_up bus bus.procs)) down
 
--- a step that was made is one entry
+-- a step with the answer `Did` adds exactly one entry
 pub one_step : (core : CoreState) → IsStep core Did → length (entries_of core MakeStep) ≡ 1
 one_step core finds = by (bus_now core).down refl
   where
@@ -30,7 +30,7 @@ length-indexed : (index : ℕ) (entries : List Entry) → length (indexed index 
 length-indexed index [] = refl
 length-indexed index (entry ∷ entries) = ap (λ (n : ℕ). suc n) (length-indexed (index + 1) entries)
 
--- what a call adds is the seat's own
+-- a call makes the number of a seat's own entries grow by the number of entries that it adds
 pub mine_grows : {A : Type 0} (Finds : CoreState → A → Type 0) (call : Call) (old new : SeatView) (result : Result A CoreFault) (called : Called Finds call old new result) → length new.mine ≡ length old.mine + length (added result (entries_of called.core call))
 mine_grows Finds call old new result called =
     let entries = added result (entries_of called.core call) in
@@ -38,14 +38,14 @@ mine_grows Finds call old new result called =
     ∙ length-append old.mine (indexed (length called.core.log) entries)
     ∙ ap (λ (n : ℕ). length old.mine + n) (length-indexed (length called.core.log) entries)
 
--- one entry more, where a step was made
+-- after a step with the answer `Did`, the seat has one more entry of its own
 pub step_grows : (old new : SeatView) → Called IsStep MakeStep old new (Ok Did) → length new.mine ≡ length old.mine + 1
 step_grows old new called = mine_grows IsStep MakeStep old new (Ok Did) called ∙ ap (λ (n : ℕ). length old.mine + n) (one_step called.core called.finds)
 
--- and where an input was handed in
+-- after an input was delivered, the seat has one more entry of its own
 pub hand_grows : (input : Input) (old new : SeatView) (reply : Reply) → Called (IsReply input) (HandIn input) old new (Ok reply) → length new.mine ≡ length old.mine + 1
 hand_grows input old new reply called = mine_grows (IsReply input) (HandIn input) old new (Ok reply) called
 
--- of which bus a seat is, its rights and its room stay
+-- a call keeps the seat's bus, rights, and quota
 pub called_keeps : {A : Type 0} (Finds : CoreState → A → Type 0) (call : Call) (old new : SeatView) (result : Result A CoreFault) → Called Finds call old new result → (new.bus ≡ old.bus) × (new.rights ≡ old.rights) × (new.room ≡ old.room)
 called_keeps Finds call old new result called = (ap (λ (s : SeatView). s.bus) called.seat, ap (λ (s : SeatView). s.rights) called.seat, ap (λ (s : SeatView). s.room) called.seat)

@@ -4,7 +4,7 @@ use std::sync::atomic::{AtomicU64, Ordering};
 use std::thread::{join, yield_now};
 use tb_bells::{Bell, Bells, Gate, Sleeper, Yields};
 
-/// How often two threads ring for each other.
+/// The number of rounds of each thread.
 const ROUNDS: u64 = 1_000;
 
 #[test]
@@ -19,7 +19,7 @@ fn a_ring_before_the_wait_is_not_lost(rt: HostRuntime) {
     assert_eq!(rt; (first, last), (1, 3));
 }
 
-/// Sleepers, and how often each was rung for.
+/// Sleepers, each with its number of rings.
 static RUNG: [(Sleeper, u64); 6] = [
     (Sleeper::Stepper, 2),
     (Sleeper::Writer(1), 1),
@@ -42,7 +42,7 @@ fn a_ring_counts_for_one_sleeper(rt: HostRuntime) {
     }
 }
 
-/// Adds one to a count inside the gate, round after round, and lets others run between its look and its word.
+/// In each round, enters the gate and adds one to a count. Between reading and writing the count, the thread yields to other threads.
 fn count_inside<R: Wait>(rt: &R, gate: &Gate, count: &AtomicU64) {
     for _ in 0..ROUNDS {
         let guard = gate.enter(rt);
@@ -87,7 +87,7 @@ fn looks_in_vain_are_made_once_in_a_while(rt: HostRuntime) {
     assert_eq!(rt; (at_first, looks, rings, at_last), (true, 1, 1, true));
 }
 
-/// Rings for the other and waits for its ring, round after round. Gives the last count that was heard.
+/// In each round, rings the other bell and waits for a ring of its own bell. Returns the last count of rings that it has seen.
 fn answer<R: Wait>(rt: &R, own: &Bell, other: &Bell) -> u64 {
     let mut heard = 0;
     for round in 0..ROUNDS {

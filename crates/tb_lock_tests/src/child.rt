@@ -1,4 +1,4 @@
-//! Runs with a real child: a tool that answers, and a command that names no program.
+//! Tests of runs with real child programs: a tool that answers, and a command that names no program.
 use crate::live::{LANES, core_of, first_missing, run_core};
 use std::test::Fail;
 use tb_child::{ChildPair, child_pair};
@@ -6,14 +6,15 @@ use tb_edge::{LanePair, MemSink, RealClock};
 use tb_run::RunWhy;
 use tb_terms::Items;
 
-/// How many ticks of 100 ms there are at most, in which a child starts and answers.
+/// The highest number of ticks, each of 100 ms, in which a child starts and answers.
 const TICKS: u64 = 300;
 
-/// How many bytes of the log are kept.
+/// The capacity of the log, in bytes.
 const ROOM: usize = 65_536;
 
-/// Scripts; lines that the log has in this order, whichever thread is next; and how some line of the log ends. If a command names
-/// no program, `cut` comes before or after the end of its lane. A dropped `cut` has the reason before it.
+/// Each row has a script, lines of the log in their order, and the ending of some line of the log. They are the same in each order of the
+/// threads. If a command names no program, `cut` comes before or after the end of its lane. The line of a dropped `cut` has the reason
+/// before `cut`.
 static RUNS: [(&str, &str, &str); 2] = [
     (
         "tool t is { command = \"sed -u -n s/rec-eval(q)/snd-value(ok)/p\" } process P is let T : t, V : term in execute(t, T?) . snd-eval(T, q) . rec-value(T, V?) . snd-terminate(T, 0) endlet toolbus(P)",
@@ -27,7 +28,7 @@ static RUNS: [(&str, &str, &str); 2] = [
     ),
 ];
 
-/// Returns whether some line ends so.
+/// Returns whether some line of a log has this ending.
 fn some_line_ends(log: &str, ending: &str) -> bool {
     for line in log.lines() {
         if line.ends_with(ending) {

@@ -1,4 +1,4 @@
-//! A core that is used after it has refused calls.
+//! A test of a core that is used after it has rejected calls.
 ghost use Rattle.std.specs.Prelude.{◌≡◌, length, IfOk};
 
 use std::alloc::Global;
@@ -10,10 +10,10 @@ use tb_terms::{Items, Text, Texts};
 use tb_tools::LaneState;
 use tb_walk::Walk;
 
-/// Steps without end.
+/// A script that makes steps without end.
 const TAUS: &str = "process P is tau * delta toolbus(P)";
 
-/// The command of the first lane.
+/// Returns the commands of the lanes: one command, for lane 1.
 pub(crate) fn ui(alloc: Global) -> Result<Texts, Fail>
     ensures { IfOk result (λ commands. length commands ≡ 1) }
 {
@@ -22,7 +22,7 @@ pub(crate) fn ui(alloc: Global) -> Result<Texts, Fail>
     Ok(commands)
 }
 
-/// A core over that script, whose log may have two entries.
+/// Returns a core that runs `TAUS`. Its log has a capacity of two entries.
 fn core_of_two(alloc: Global) -> Result<Core<Walk>, Fail> {
     let commands = ui(alloc)?;
     Ok(Core::start(alloc, load(alloc, TAUS.as_bytes())?, &commands, 2)?)
@@ -53,7 +53,8 @@ fn take_word(answer: Result<TakeOut, CoreFault>) -> &'static str {
     }
 }
 
-/// Whether each call answers as the rules say. The log has room for two entries, which the first calls make.
+/// Returns whether each call answers as the rules say. The log has a capacity of two entries, which the first step and the first `take_out`
+/// add.
 fn answer_in_turn(core: &mut Core<Walk>) -> [bool; 22] {
     [
         core.reserve(9) == Ok(()),
@@ -66,7 +67,7 @@ fn answer_in_turn(core: &mut Core<Walk>) -> [bool; 22] {
         core.hand_in(Input::Tick) == Err(CoreFault::Full),
         core.step() == Err(CoreFault::Full),
         follow_word(core.follow(&Entry::Fed(Input::Tick, Reply::Took))) == "full",
-        // These need no room in the log.
+        // The next calls need no capacity in the log.
         follow_word(core.follow(&Entry::Quiet)) == "no",
         take_word(core.take_out(1)) == "nothing",
         core.has_step() == Ok(true),
@@ -82,7 +83,7 @@ fn answer_in_turn(core: &mut Core<Walk>) -> [bool; 22] {
     ]
 }
 
-/// Stops a core. Whether it is stopped then.
+/// Stops a core. Returns whether it is then stopped.
 fn stopped(core: &mut Core<Walk>) -> bool {
     core.stop();
     core.is_stopped()

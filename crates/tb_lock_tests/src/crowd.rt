@@ -1,4 +1,4 @@
-//! Many threads that use the seats of one bus, of which some stop it.
+//! Many threads that use the seats of one bus. Some of the threads stop the bus.
 ghost use Rattle.std.specs.Prelude.{◌≡◌, ◌+◌, ◌<◌, All, IfOk, vec_len};
 ghost use Rattle.std.specs.Thread.{IsSync};
 ghost use Rattle.tb_lock.specs.Rights.{all_rights, no_rights};
@@ -11,7 +11,7 @@ use std::thread::{Threads, join};
 use tb_lock::{Rights, Seat};
 use tb_log::Input;
 
-/// So many new seats, which have no rights.
+/// Splits off `count` new seats without rights.
 pub(crate) fn split_off(
     alloc: Global,
     bus: &Bus,
@@ -33,7 +33,7 @@ pub(crate) fn split_off(
     Ok(seats)
 }
 
-/// All are one again.
+/// Joins all seats into one.
 pub(crate) fn join_all(bus: &Bus, mut seat: Seat, mut others: Vec<Seat>) -> Seat
     requires own { seat.bus ≡ bus.now }
     requires whole { seat.rights ≡ all_rights }
@@ -48,7 +48,7 @@ pub(crate) fn join_all(bus: &Bus, mut seat: Seat, mut others: Vec<Seat>) -> Seat
     seat
 }
 
-/// Makes steps and hands in ticks by turns, until a call is refused. Says how often none was.
+/// Makes steps and delivers ticks in turn, until a call is rejected, for at most 1,000,000 rounds. Returns the number of successful calls.
 fn work<R: Wait>(rt: &R, bus: &Bus, mut seat: Seat) -> (Seat, u64)
     requires own { seat.bus ≡ bus.now }
     requires whole { seat.rights ≡ all_rights }
@@ -69,7 +69,7 @@ fn work<R: Wait>(rt: &R, bus: &Bus, mut seat: Seat) -> (Seat, u64)
     (seat, made)
 }
 
-/// Each of these seats is used in a thread of its own: every fourth stops the bus, and the others look at a lane.
+/// Uses each seat in its own thread. Every fourth thread stops the bus, and the others read the state of lane 1.
 fn attend_all<R: Threads + Wait + Sync>(rt: &R, bus: &Bus, mut seats: Vec<Seat>) -> Vec<Seat>
     requires { All
         (λ seat. (seat.bus ≡ bus.now) × (seat.rights ≡ no_rights) × (seat.room ≡ 1)) seats.items }
@@ -97,7 +97,7 @@ fn attend_all<R: Threads + Wait + Sync>(rt: &R, bus: &Bus, mut seats: Vec<Seat>)
     seats
 }
 
-/// One seat works while the others are used.
+/// Works with one seat while other threads use the other seats.
 pub(crate) fn work_beside<R: Threads + Wait + Sync>(
     rt: &R,
     bus: &Bus,

@@ -1,4 +1,5 @@
-//! Files, sinks and clocks that never fail, the real files and sinks, and clocks that may go to another thread.
+//! Tests of files, sinks, and clocks that never fail, of real files and sinks, and of a clock with a failing call. The clocks can go to
+//! another thread.
 
 use sqlite_items::Items;
 use std::alloc::Global;
@@ -9,7 +10,7 @@ use tb_edge::{
 };
 use tb_terms::Text;
 
-/// Whether a file with these bytes was loaded.
+/// Returns whether a file with exactly these bytes was loaded.
 fn has_loaded(answer: Result<Loaded, FilesFault>, wanted: &str) -> bool {
     match answer {
         Ok(Loaded::Bytes(bytes)) => bytes.as_slice() == wanted.as_bytes(),
@@ -17,14 +18,15 @@ fn has_loaded(answer: Result<Loaded, FilesFault>, wanted: &str) -> bool {
     }
 }
 
-/// The file `one.tb`, in which `one` stands.
+/// Returns the file `one.tb`, whose content is `one`.
 fn one_file(alloc: Global) -> Result<HeldFiles, Fail> {
     let name = Text::from_str(alloc, "one.tb")?.ok_or("no text")?;
     let bytes = Bytes::from_slice(alloc, b"one")?;
     Ok(Items::from_vec(vec![in alloc; HeldFile { name, bytes }]?))
 }
 
-/// Whether a file that is held and one that isn't are loaded, and a piece is taken.
+/// Checks, in order: a held file is loaded; another file is loaded as an empty one; a sink takes a piece; and both counts of failed calls
+/// are equal.
 fn never_fail(alloc: Global, files: &mut SureFiles, sink: &mut SureSink) -> [bool; 4] {
     [
         has_loaded(files.load(alloc, "one.tb", 3), "one"),
@@ -42,7 +44,8 @@ fn sure_ones(rt: HostRuntime) -> Result<(), Fail> {
     Ok(())
 }
 
-/// Whether a file that isn't there fails, one without bytes is loaded, and a writer gets both pieces.
+/// Checks, in order: loading a missing file fails, and counts as failed; a file without bytes is loaded; the sink takes two pieces without
+/// a failed call; and the writer has received both.
 fn are_real(rt: HostRuntime) -> [bool; 5] {
     let mut files = RealFiles::new(rt);
     let missing = files.load(rt.alloc(), "/no/such/file.tb", 9);
@@ -61,6 +64,7 @@ fn real_ones(rt: HostRuntime) {
     assert_eq!(rt; are_real(rt), [true; 5]);
 }
 
+/// Returns whether the clock gives these beats in order.
 fn gives<C: Clock + Send>(clock: &mut C, beats: &[Beat]) -> bool {
     for beat in beats {
         if clock.wait() != *beat {

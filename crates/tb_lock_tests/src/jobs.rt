@@ -1,18 +1,18 @@
-//! All jobs of a run are done beside each other: each waits until all have begun.
+//! A test that all jobs of a run are done concurrently: each job waits until all have begun.
 use std::sync::Wait;
 use std::sync::atomic::{AtomicU32, Ordering};
 use std::test::Fail;
 use std::thread;
 use tb_edge::{Crew, Job, ThreadCrew};
 
-/// How many jobs a run has beside the one that writes the log: one a reader and one a writer of sixteen lanes, and those of who
-/// makes steps and of who hands in ticks.
+/// The number of jobs of a run in addition to the job that writes the log: a reader and a writer for each of sixteen lanes, the stepper,
+/// and the ticker.
 const JOBS: u32 = 34;
 
-/// How often a job looks whether all have begun before it gives up.
+/// The number of looks after which a job gives up.
 const LOOKS: u32 = 20_000_000;
 
-/// A job that waits until all have begun.
+/// A job that waits until all jobs have begun.
 #[derive(Drop)]
 struct Waiting<'a> {
     begun: &'a AtomicU32,

@@ -1,6 +1,6 @@
-//! Tests where no data file says a row: of the shared bus, of bells, of a crew and of a run, whose threads run beside each other,
-//! of a run with a child, and of pairs; of a core that follows a log or has refused calls; of files, sinks and clocks; and of calls
-//! that neither the program nor a row makes.
+//! Tests that no line of a data file can express. They test the shared bus, bells, a thread group, and a run, whose threads run
+//! concurrently; a run with a child program, and pairs; a core that follows a log or has rejected calls; files, sinks, and clocks; and
+//! calls that neither the program nor a line of a data file makes.
 #![tactic(auto)]
 
 #[cfg(test)]

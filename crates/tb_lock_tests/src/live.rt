@@ -1,4 +1,4 @@
-//! A run whose log has to be put while it runs: its one tool ends only once the log says that it was started.
+//! A test that the log of a run is written while the bus runs: the one tool ends only after the sink has taken the line of its start.
 ghost use Rattle.std.specs.Prelude.{◌≡◌, [], false, IfOk, vec_len};
 
 use std::alloc::Global;
@@ -14,31 +14,31 @@ use tb_script::load;
 use tb_terms::{Items, NoMemory};
 use tb_walk::Walk;
 
-/// A tool is started, and then its end is waited for.
+/// A script that starts a tool, and then waits for its end.
 const STARTS: &str =
     "tool t is { command = \"t\" } process P is let T : t in execute(t, T?) . rec-disconnect(T?) endlet toolbus(P)";
 
 /// The first line of the log.
 const FIRST: &[u8] = b"1 execute 1.1 t(1)\n";
 
-/// What the log says, in this order.
+/// Lines that the log has in this order.
 const WANTED: &str = "execute 1.1 t(1)\ngone 1\nrec-disconnect 1.2 t(1)\nfinish";
 
-/// How many lanes there are.
+/// The number of lanes.
 pub(crate) const LANES: usize = 16;
 
-/// How often one looks for a sign before one gives up.
+/// The number of looks for a sign after which a call gives up.
 const LOOKS: u64 = 20_000_000;
 
-/// How many bytes of the log are kept.
+/// The initial capacity of the log's text, in bytes.
 const ROOM: usize = 4_096;
 
-/// What all ends know of each other.
+/// The state that the lane ends, the clock, and the sink share.
 #[derive(Drop)]
 struct Signs {
-    /// The first line of the log was put.
+    /// Whether the first line of the log was taken.
     is_put: AtomicBool,
-    /// Which outlets are closed, by their places.
+    /// Whether the outlet at each position, from 0, is closed.
     closed: Vec<AtomicBool>,
 }
 
@@ -75,8 +75,8 @@ impl Signs {
     }
 }
 
-/// An inlet that gives an end once the first line of the log was put, where it owes one, and is over once its outlet is
-/// closed, or once it has looked for that too often.
+/// An inlet that is over after its own outlet is closed, or after `LOOKS` looks. Before that, if it owes an end, it gives this end after
+/// the sink has taken the first line of the log.
 #[derive(Drop)]
 struct WatchingInlet {
     signs: Arc<Signs>,
@@ -107,7 +107,7 @@ impl Inlet for WatchingInlet {
     }
 }
 
-/// An outlet that takes all, and shows when it is closed.
+/// An outlet that takes everything, and shows when it is closed.
 #[derive(Drop)]
 struct ClosingOutlet {
     signs: Arc<Signs>,
@@ -138,7 +138,7 @@ impl Outlet for ClosingOutlet {
     }
 }
 
-/// A clock that gives no tick, and ends once all outlets are closed, or once it has looked for that too often.
+/// A clock without ticks. It ends after all outlets are closed, or after `LOOKS` looks.
 #[derive(Drop)]
 struct TicklessClock {
     signs: Arc<Signs>,
@@ -162,7 +162,7 @@ impl Clock for TicklessClock {
     }
 }
 
-/// A sink that keeps what it takes, and shows when it has taken the first line of the log.
+/// A sink that keeps the pieces that it takes, and shows when it has taken the first line of the log.
 #[derive(Drop)]
 struct ShowingSink {
     signs: Arc<Signs>,
@@ -177,7 +177,7 @@ impl Sink for ShowingSink {
     ghost taken = { λ _. None };
 
     fn put(&mut self, piece: &[u8]) -> Result<(), Failed> {
-        // What there is no memory for is missed in the text.
+        // If memory runs out, the text lacks this piece.
         let _ = self.text.extend_from_slice(piece);
         if self.text.starts_with(FIRST) {
             self.signs.is_put.store(true, Ordering::SeqCst);
@@ -186,7 +186,7 @@ impl Sink for ShowingSink {
     }
 }
 
-/// The core of a program.
+/// Returns a core that runs a script. Its log has a capacity of 1,000 entries.
 pub(crate) fn core_of(alloc: Global, script: &str) -> Result<Core<Walk>, Fail>
     ensures { IfOk result (λ core. (core.log ≡ []) × (core.stopped ≡ false)) }
 {
@@ -194,7 +194,7 @@ pub(crate) fn core_of(alloc: Global, script: &str) -> Result<Core<Walk>, Fail>
     Ok(Core::start(alloc, program, &Items::new(alloc), 1_000)?)
 }
 
-/// Runs a core over these ends for so many ticks at most, and says why the run ended.
+/// Runs a core over these lanes, with this clock, for at most `ticks` ticks. Returns why the run ended.
 pub(crate) fn run_core<R: Threads + Wait + Sync, C: Clock + Send, S: Sink>(
     rt: &R,
     alloc: Global,
@@ -213,7 +213,7 @@ pub(crate) fn run_core<R: Threads + Wait + Sync, C: Clock + Send, S: Sink>(
     why
 }
 
-/// The first of the lines that doesn't stand in the log behind those before it.
+/// Returns the first of the lines that isn't in the log after the lines before it. Lines of the log are compared without their numbers.
 pub(crate) fn first_missing<'a>(log: &str, lines: &'a str) -> Option<&'a str> {
     let mut lines = lines.lines();
     let mut wanted = lines.next();

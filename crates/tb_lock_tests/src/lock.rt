@@ -16,10 +16,10 @@ use tb_script::load;
 use tb_tools::LaneState;
 use tb_walk::Walk;
 
-/// Steps without end.
+/// A script that makes steps without end.
 const TAUS: &str = "process P is tau * delta toolbus(P)";
 
-/// A bus of that program, for at most so many entries, whose first lane is started with a command.
+/// Returns a bus that runs `TAUS`, and its first seat. The log has a capacity of `limit` entries, and lane 1 has a command to start.
 fn shared<W: Walker>(alloc: Global, limit: u32) -> Result<(Shared<W>, Seat), Fail>
     requires { limit ≤ most_entries }
     ensures { IfOk result (λ made. made.1 ≡ first_seat made.0 made.1.origin) }
@@ -32,12 +32,12 @@ fn shared<W: Walker>(alloc: Global, limit: u32) -> Result<(Shared<W>, Seat), Fai
     }
 }
 
-/// Whether a core is stopped, how many entries its log has, and how many of them say that a step was made.
+/// Returns whether a core is stopped, the number of entries in its log, and the number of steps among these entries.
 fn counted<W: Walker>(core: Core<W>) -> (bool, usize, usize) {
     (core.is_stopped(), core.log().len(), steps_in(core.log()))
 }
 
-/// How many entries of a log say that a step was made.
+/// Returns the number of entries of a log that record a step.
 fn steps_in(log: &Log) -> usize {
     let mut count = 0_usize;
     for at in 0..log.len() {
@@ -90,7 +90,7 @@ fn a_full_and_a_stopped_bus_refuse(rt: HostRuntime) -> Result<(), Fail> {
     Ok(())
 }
 
-/// Whether what was taken is a command.
+/// Returns whether the item that was taken is a command.
 fn is_command(taken: Result<TakeOut, CoreFault>) -> bool {
     matches!(&taken, Ok(TakeOut::Out(Out::Start(_))))
 }

@@ -1,5 +1,5 @@
-//! Pairs of scripts, a row each: over lanes in memory, with real children on all lanes, with many terms, and with a second bus that ends
-//! early.
+//! Tests of pairs of scripts, one row for each pair: over lanes in memory, with real children on lanes 2 to 16 of both buses, with many
+//! terms, with a second bus that ends early, and with errors.
 
 use crate::live::{LANES, first_missing};
 use std::alloc::Global;
@@ -14,85 +14,86 @@ use tb_fake::{FakePair, FakePairs, fakes};
 use tb_pair_top::pair;
 use tb_terms::{Items, Text};
 
-/// How many bytes of the output are taken, where a row says nothing else.
+/// The default capacity of the output, in bytes.
 const ROOM: usize = 67_108_864;
 
-/// How many bytes of the error line are kept.
+/// The capacity of the error output, in bytes.
 const LINE: usize = 4_096;
 
-/// A status that no pair has: there weren't sixteen lanes.
+/// A status that no pair has: one of the buses didn't have sixteen lanes.
 const NO_LANES: u8 = 255;
 
-/// Which lanes a row has, and which clock.
+/// The lanes and the clock of a row.
 #[derive(Clone, Copy)]
 enum On {
-    /// Lanes in memory. The clock ends once all outlets of the first bus are closed.
+    /// Lanes in memory. The clock ends after all outlets of the first bus are closed.
     FirstClock,
-    /// Lanes in memory. The clock ends once all outlets of the second bus are closed.
+    /// Lanes in memory. The clock ends after all outlets of the second bus are closed.
     SecondClock,
-    /// The same without threads.
+    /// Lanes and clock as for `SecondClock`, but no threads.
     NoThreads,
     /// Lanes for child programs, and the clock of the machine.
     Real,
 }
 
-/// What a pair is given, and what it comes to.
+/// The input of a pair, and the expected result.
 #[derive(Clone, Copy)]
 struct Row {
     words: &'static [&'static str],
-    /// What the file `a.tb` has.
+    /// The content of the file `a.tb`.
     first: &'static str,
-    /// What the file `b.tb` has. None: there is no such file.
+    /// The content of the file `b.tb`, or `None` if there is no such file.
     second: Option<&'static str>,
     on: On,
-    /// How many bytes of the output are taken.
+    /// The capacity of the output, in bytes.
     room: usize,
     status: u8,
     err: &'static str,
-    /// Lines of the first log, in this order, and of the second. None: nothing is put.
+    /// Lines that the first and the second log have in this order, or `None` if no output is expected.
     logs: Option<(&'static str, &'static str)>,
 }
 
-/// Tells its tool two terms, and waits.
+/// A script that sends two terms to its tool, and never ends.
 const TELLS: &str =
     "tool pipe is { } process A is let T : pipe in rec-connect(T?) . snd-do(T, one) . snd-do(T, two) . delta endlet toolbus(A)";
 
-/// Tells its tool two terms, and ends.
+/// A script that sends two terms to its tool, and ends.
 const TELLS_AND_ENDS: &str =
     "tool pipe is { } process A is let T : pipe in rec-connect(T?) . snd-do(T, one) . snd-do(T, two) endlet toolbus(A)";
 
-/// Prints two terms.
+/// A script that receives two terms from its tool, and prints them.
 const PRINTS: &str =
     "tool pipe is { } process B is let T : pipe, X : term in rec-connect(T?) . rec-event(T, X?) . printf(\"%t\", X) . rec-event(T, X?) . printf(\"%t\", X) endlet toolbus(B)";
 
-/// Ends at once.
+/// A script that ends immediately.
 const ENDS: &str = "tool pipe is { } toolbus()";
 
-/// Has a real number.
+/// A script with a real number. It is rejected.
 const REAL: &str = "process P is snd-msg(3.14) toolbus(P)";
 
-/// Tells its tool the numbers from 1 to 100,000, many more than the pipe has room for.
+/// A script that sends the numbers from 1 to 100,000 to its tool, many more than the pipe has capacity for.
 const COUNTS: &str =
     "tool pipe is { } process A is let T : pipe, N : int in rec-connect(T?) . ((if less(N, 100000) then N := add(N, 1) . snd-do(T, N) fi) * (if equal(N, 100000) then tau fi)) endlet toolbus(A)";
 
-/// Takes as many, and goes on only where each is the next number.
+/// A script that receives as many numbers, and continues only if each is the next number.
 const TAKES: &str =
     "tool pipe is { } process B is let T : pipe, N : int, X : int in rec-connect(T?) . ((if less(N, 100000) then rec-event(T, X?) . (if equal(X, add(N, 1)) then N := X fi) fi) * (if equal(N, 100000) then tau fi)) endlet toolbus(B)";
 
-/// Takes three numbers.
+/// A script that receives three numbers, and ends.
 const TAKES_THREE: &str =
     "tool pipe is { } process B is let T : pipe, X : int in rec-connect(T?) . rec-event(T, X?) . rec-event(T, X?) . rec-event(T, X?) endlet toolbus(B)";
 
-/// One process tells the pipe a term, and each of fifteen has a child. The bus finishes only if all have answered, and half a second
-/// after the term is told.
+/// A script in which one process sends a term to the pipe, and each of fifteen processes has a child. The bus finishes only after all
+/// children have answered, and half a second after the term is sent.
 const ASKS_AND_TELLS: &str =
     "tool pipe is { } tool t is { command = \"sed -u -n s/rec-eval(q)/snd-value(ok)/p\" } process A is let T : pipe in rec-connect(T?) . snd-do(T, one) . tau delay(5) endlet process C is let T : t, V : term in execute(t, T?) . snd-eval(T, q) . rec-value(T, V?) . snd-terminate(T, 0) endlet toolbus(A, C, C, C, C, C, C, C, C, C, C, C, C, C, C, C)";
 
-/// The same, but one process takes a term.
+/// A script in which one process receives a term from the pipe, and each of fifteen processes has a child. The bus finishes only after the
+/// term has come and all children have answered.
 const ASKS_AND_TAKES: &str =
     "tool pipe is { } tool t is { command = \"sed -u -n s/rec-eval(q)/snd-value(ok)/p\" } process B is let T : pipe, X : term in rec-connect(T?) . rec-event(T, X?) endlet process C is let T : t, V : term in execute(t, T?) . snd-eval(T, q) . rec-value(T, V?) . snd-terminate(T, 0) endlet toolbus(B, C, C, C, C, C, C, C, C, C, C, C, C, C, C, C)";
 
-/// A pair that ends well.
+/// A pair that ends without an error.
 const WELL: Row = Row {
     words: &["a.tb", "b.tb"],
     first: TELLS,
@@ -107,7 +108,7 @@ const WELL: Row = Row {
     )),
 };
 
-/// A pair that puts nothing.
+/// A pair without any output.
 const NOTHING: Row = Row { logs: None, ..WELL };
 
 static ROWS: [Row; 12] = [
@@ -193,7 +194,7 @@ static ROWS: [Row; 12] = [
     },
 ];
 
-/// What a call put to its sinks, and its exit status.
+/// The outputs and the exit status of a call.
 #[derive(Drop)]
 struct Played {
     status: u8,
@@ -201,7 +202,7 @@ struct Played {
     err: MemSink,
 }
 
-/// Runs the pair of a row. It uses the lanes and the clock of the machine only if the row has them.
+/// Runs the pair of a row. It uses the given lanes and the given clock only if the row is `Real`.
 fn play<R: Threads + Wait + Sync, C: Clock + Send>(
     rt: &R,
     alloc: Global,
@@ -256,7 +257,7 @@ fn play_fakes<R: Threads + Wait + Sync, P: Crew>(
     play_over(rt, alloc, row, &mut first, &mut second, clock, crew)
 }
 
-/// Runs the pair of a row with these lanes, this clock, and this crew.
+/// Runs the pair of a row with these lanes, this clock, and this thread group.
 fn play_over<R: Threads + Wait + Sync, C: Clock + Send, P: Crew>(
     rt: &R,
     alloc: Global,
@@ -283,7 +284,7 @@ fn play_over<R: Threads + Wait + Sync, C: Clock + Send, P: Crew>(
     Ok(Played { status, out, err })
 }
 
-/// The files `a.tb` and, where there is a second script, `b.tb`.
+/// Returns the files `a.tb` and, if there is a second script, `b.tb`.
 fn files_of(alloc: Global, row: &Row) -> Result<MemFiles, Fail> {
     let mut held = Items::new(alloc);
     held.push(held_file(alloc, "a.tb", row.first)?)?;
@@ -293,13 +294,14 @@ fn files_of(alloc: Global, row: &Row) -> Result<MemFiles, Fail> {
     Ok(MemFiles::new(alloc, held, Items::new(alloc)))
 }
 
+/// Returns a file with this name, whose content is the script.
 fn held_file(alloc: Global, name: &str, script: &str) -> Result<HeldFile, Fail> {
     let name = Text::from_str(alloc, name)?.ok_or("no text")?;
     let bytes = Bytes::from_slice(alloc, script.as_bytes())?;
     Ok(HeldFile { name, bytes })
 }
 
-/// The first line that a row wants of the two logs and that isn't there, or what it wants else.
+/// Returns the first expected line that isn't in its log in order. If a row expects no output but there is some, returns `no log`.
 fn missing(row: &Row, out: &str) -> Option<&'static str> {
     let Some((first, second)) = row.logs else {
         return if out.is_empty() { None } else { Some("no log") };
@@ -311,7 +313,7 @@ fn missing(row: &Row, out: &str) -> Option<&'static str> {
     }
 }
 
-/// Whether a pair ended as its row says, and what is missing in its logs.
+/// Returns the status, whether the error output is the expected one, and the result of `missing`.
 fn found(row: &Row, played: &Played) -> (u8, bool, Option<&'static str>) {
     let out = str::from_utf8(played.out.as_slice()).unwrap_or("(no text)");
     let is_said = played.err.as_slice() == row.err.as_bytes();

@@ -1,4 +1,4 @@
-//! The log of a shared bus as a seat reads it, rows of steps, and walks that threads hand over.
+//! Tests of reading the log of a shared bus, of several steps in one visit, and of a walk that goes from thread to thread.
 ghost use Rattle.std.specs.Prelude.{◌≡◌, ◌≤◌, IfOk};
 ghost use Rattle.tb_core.specs.Cores.{most_entries};
 ghost use Rattle.tb_lock.specs.Rights.{all_rights};
@@ -16,26 +16,26 @@ use tb_script::load;
 use tb_terms::{Items, NoMemory, Term};
 use tb_walk::Walk;
 
-/// A tool is asked once.
+/// A script that asks its tool once.
 const ASKS: &str = "tool calc is { command = \"calc\" } \
     process P is let C : calc, V : int in execute(calc, C?) . snd-eval(C, 7) . rec-value(C, V?) endlet \
     toolbus(P)";
 
-/// What is logged until it was asked.
+/// The log of the script until no step is possible before the tool answers.
 const ASKED: &str = "1 execute 1.1 calc(1)\n2 snd-eval 1.2 calc(1),7\n3 quiet\n";
 
-/// What is logged of all.
+/// The complete log, with the tool's answer.
 const ANSWERED: &str =
     "1 execute 1.1 calc(1)\n2 snd-eval 1.2 calc(1),7\n3 quiet\n4 out 1 start \"calc\"\n\
     5 out 1 rec-eval(7)\n6 tick\n7 line 1 snd-value(49)\n8 rec-value 1.3 calc(1),49\n";
 
-/// What is logged of six steps that count.
+/// The log of the first six steps of `COUNTS`.
 const SIX: &str = "1 set 1.1 1\n2 set 1.1 2\n3 set 1.1 3\n4 set 1.1 4\n5 set 1.1 5\n6 set 1.1 6\n";
 
-/// A number is counted up without end.
+/// A script that counts a number up without end.
 const COUNTS: &str = "process P is let N : int in N := add(N, 1) * delta endlet toolbus(P)";
 
-/// A bus of a program, for at most so many entries.
+/// Returns a bus that runs a script, and its first seat. The log has a capacity of `limit` entries.
 fn bus_of<W: Walker>(alloc: Global, script: &str, limit: u32) -> Result<(Shared<W>, Seat), Fail>
     requires { limit ≤ most_entries }
     ensures { IfOk result (λ made. made.1 ≡ first_seat made.0 made.1.origin) }
@@ -48,7 +48,7 @@ fn bus_of<W: Walker>(alloc: Global, script: &str, limit: u32) -> Result<(Shared<
     }
 }
 
-/// Adds the lines of entries, which are numbered on from those before.
+/// Appends the lines of entries to a text. The first line has the number `before` plus 1.
 fn put_lines(text: &mut Vec<u8>, before: u64, entries: &[Entry]) -> Result<(), NoMemory> {
     let mut number = before;
     for entry in entries {
@@ -58,7 +58,7 @@ fn put_lines(text: &mut Vec<u8>, before: u64, entries: &[Entry]) -> Result<(), N
     Ok(())
 }
 
-/// The text of a log.
+/// Returns the text of a log.
 fn log_text(alloc: Global, log: &Log) -> Result<Vec<u8>, NoMemory> {
     let mut text = Vec::new(alloc);
     for at in 0..log.len() {
@@ -67,13 +67,13 @@ fn log_text(alloc: Global, log: &Log) -> Result<Vec<u8>, NoMemory> {
     Ok(text)
 }
 
-/// Whether the log of a core has this text.
+/// Returns whether the log of a core has exactly this text.
 fn has_logged<W: Walker>(alloc: Global, core: Core<W>, wanted: &str) -> Result<bool, NoMemory> {
     let text = log_text(alloc, core.log())?;
     Ok(text.as_slice() == wanted.as_bytes())
 }
 
-/// Lets the tool be asked, and answer.
+/// Makes three steps, takes the two items that are queued on lane 1, delivers a tick and the tool's answer, and makes one more step.
 fn ask<W: Walker, R: Wait>(rt: &R, bus: &Shared<W>, seat: &mut Seat) -> Result<(), CoreFault>
     requires own { seat.old.bus ≡ bus.now }
     requires whole { seat.old.rights ≡ all_rights }
@@ -91,7 +91,7 @@ fn ask<W: Walker, R: Wait>(rt: &R, bus: &Shared<W>, seat: &mut Seat) -> Result<(
     Ok(())
 }
 
-/// Reads a piece of the log, adds its lines, and gives how many entries it has.
+/// Reads at most `most` entries of the log after its first `from` entries, appends their lines, and returns their number.
 fn put_piece<W: Walker, R: Wait>(
     rt: &R,
     alloc: Global,
@@ -110,7 +110,7 @@ fn put_piece<W: Walker, R: Wait>(
     Ok(piece.len())
 }
 
-/// Reads a log of eight entries in pieces, and behind its last.
+/// Reads a log of eight entries in three pieces, and once more after its last entry. Returns the number of entries of each piece.
 fn put_pieces<W: Walker, R: Wait>(
     rt: &R,
     alloc: Global,
@@ -148,7 +148,8 @@ fn a_seat_without_rights_reads_the_log_in_pieces(rt: HostRuntime) -> Result<(), 
     Ok(())
 }
 
-/// Makes at most `most` steps, until an answer isn't `Did`. The thread enters the gate once, and each step has its own turn.
+/// Makes steps until an answer isn't `Did`, at least one and at most `most`. The thread enters the gate once, and each step has its own
+/// turn.
 fn row<W: Walker, R: Wait>(
     rt: &R,
     bus: &Shared<W>,
@@ -205,7 +206,7 @@ fn a_row_of_steps_has_its_length_and_ends_where_one_is_refused(
     Ok(())
 }
 
-/// Whether the steps of a log set the number of the only process to 1, 2 and so on; and how many they are.
+/// Returns whether the steps of a log set the variable of the only process to 1, 2, and so on. Also returns the number of steps.
 fn count_up(alloc: Global, log: &Log) -> Result<(bool, u64), NoMemory> {
     let mut count = 0_u64;
     let mut text = Vec::new(alloc);
@@ -222,7 +223,7 @@ fn count_up(alloc: Global, log: &Log) -> Result<(bool, u64), NoMemory> {
     Ok((text.as_slice() == wanted.as_slice(), count))
 }
 
-/// The same of a core.
+/// Checks the log of a core with `count_up`.
 fn counted<W: Walker>(alloc: Global, core: Core<W>) -> Result<(bool, u64), NoMemory> {
     count_up(alloc, core.log())
 }

@@ -1,4 +1,4 @@
-//! Calls that neither the program nor a row of `scenarios` or `calls` makes.
+//! Tests of calls that neither the program nor a line of the data files of `scenarios` or `calls` makes.
 
 use crate::cores::ui;
 use std::test::Fail;
@@ -32,7 +32,7 @@ fn entries_are_in_shape_or_not(rt: HostRuntime) {
     assert_eq!(rt; found, [true, true, false]);
 }
 
-/// Whether a command is handed out first on lane 1.
+/// Takes the first item that is queued on lane 1. Returns whether it is a command.
 fn gives_command(bench: &mut Bench) -> bool {
     if bench.next_out(1).is_none() {
         return false;

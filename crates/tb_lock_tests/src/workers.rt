@@ -8,13 +8,13 @@ use tb_lock::{Seat, Shared};
 use tb_log::Input;
 use tb_process_steps::{Rewriter, Walker};
 
-/// A bus over rewriters.
+/// A bus whose walkers are rewriters.
 pub(crate) type Bus = Shared<Rewriter>;
 
-/// How many entries each of two threads makes.
+/// The number of entries that each of two threads adds.
 pub(crate) const ROUNDS: u64 = 100;
 
-/// Makes so many steps, unless one isn't made. Says whether all were.
+/// Makes `ROUNDS` steps, or fewer if one isn't made. Returns whether all were made.
 fn make_steps<W: Walker, R: Wait>(rt: &R, bus: &Shared<W>, mut seat: Seat) -> (Seat, bool)
     requires own { seat.bus ≡ bus.now }
     requires right { seat.rights.steps ≡ true }
@@ -31,7 +31,7 @@ fn make_steps<W: Walker, R: Wait>(rt: &R, bus: &Shared<W>, mut seat: Seat) -> (S
     (seat, true)
 }
 
-/// Hands in so many ticks, unless one is refused. Says whether none was.
+/// Delivers `ROUNDS` ticks, or fewer if one is rejected. Returns whether none was rejected.
 fn hand_in_ticks<W: Walker, R: Wait>(rt: &R, bus: &Shared<W>, mut seat: Seat) -> (Seat, bool)
     requires own { seat.bus ≡ bus.now }
     requires right { seat.rights.ticks ≡ true }
@@ -48,8 +48,8 @@ fn hand_in_ticks<W: Walker, R: Wait>(rt: &R, bus: &Shared<W>, mut seat: Seat) ->
     (seat, true)
 }
 
-/// Two threads use two new seats, of any walkers that may go to another thread. Says of each whether it made all its
-/// entries, which are then its own.
+/// Uses two new seats in two threads: one makes steps, and the other delivers ticks. The walkers can go to another thread. Returns for each
+/// seat whether its thread has added all its entries, which are then the seat's own.
 pub(crate) fn side_by_side<W: Walker + Send, R: Threads + Wait + Sync>(
     rt: &R,
     bus: &Shared<W>,

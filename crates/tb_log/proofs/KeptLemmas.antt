@@ -1,4 +1,4 @@
--- What a log keeps stands for the same entries as it grows, and for one more.
+-- The lists of a log represent the same entries when the lists grow, and one more entry when one is added.
 use Rattle.std.proofs.Common.{◌≡◌, ◌≤◌, ◌<◌, ℕ, zero, suc, ◌+◌, ◌-◌, List, [], ◌∷◌, ◌++◌, length, map, min, take, drop, get_or, slice_get, Some, true, option_map, refl, ap, sym, subst, ◌∙◌, arith, length-append}
 use Rattle.std.specs.List.{All}
 use Rattle.std.proofs.lemmas.List.{append-nil, length-map, length-drop, map_push, take-append-le, drop-append-le, drop_at, take_all, length_push}
@@ -20,7 +20,7 @@ use Rattle.tb_log.proofs.SizeLemmas.{log_sized, measured, room_parts, terms_size
 pub entries_long : (terms numbers : List Term) (others : List Other) (entries : List Kept) → length (entries_kept terms numbers others entries) ≡ length entries
 entries_long terms numbers others entries = length-map entries (entry_kept terms numbers others)
 
--- A list that has got more behind it.
+-- A list that grew at its end.
 
 abbrev pub Grows : {X : Type 0} → List X → List X → Type 0
 Grows {X} old new = (more : List X) × (new ≡ old ++ more)
@@ -44,7 +44,7 @@ there_more [] more at within = absurd (omega (arith, within))
 there_more (x ∷ old) more zero within = refl
 there_more (x ∷ old) more (suc at) within = there_more old more at (omega (arith, within))
 
--- What a log keeps stands for the same entries where its lists grow.
+-- The lists represent the same entries after they grew.
 
 kept_grown : (terms numbers : List Term) (others : List Other) (terms' numbers' : List Term) (others' : List Other) → Grows terms terms' → Grows numbers numbers' → Grows others others'
     → (it : Kept) → NamesWithin (length terms) (length numbers) (length others) it → entry_kept terms' numbers' others' it ≡ entry_kept terms numbers others it
@@ -67,7 +67,7 @@ still_named terms numbers others terms' numbers' others' t n o (kept.Numbers ste
 still_named terms numbers others terms' numbers' others' t n o kept.Quiet within = tt
 still_named terms numbers others terms' numbers' others' t n o (kept.Other at) within = omega (arith, o, within)
 
--- What holds of a log without entries.
+-- The invariant of a log without entries.
 
 pub stands_empty : (limit : ℕ) → limit ≤ 4294967295 → StandsFor limit 0 [] [] [] []
 stands_empty limit limited = record {
@@ -81,7 +81,7 @@ stands_empty limit limited = record {
   few_others = omega arith;
 }
 
--- One entry more.
+-- One more entry.
 
 pub kept_pushed : (terms numbers : List Term) (others : List Other) (terms' numbers' : List Term) (others' : List Other) → Grows terms terms' → Grows numbers numbers' → Grows others others'
     → (entries : List Kept) (it : Kept) (entry : Entry) → All (NamesWithin (length terms) (length numbers) (length others)) entries → entry_kept terms' numbers' others' it ≡ entry
@@ -120,13 +120,13 @@ stands_with limit size more terms numbers others terms' numbers' others' t n o e
       few_others = omega (arith, few_others, longer, stands.few_others);
     }
 
--- A step more, whose terms stand at the end of their list.
+-- One more step, whose terms are at the end of their list.
 
--- a step with the share of so many terms from this one on
+-- a step with `count` terms from index `first` on
 abbrev pub step_at : ℕ → ℕ → Label → KeptStep
 step_at first count label = record { kind = label.kind; from = label.from; to = label.to; first = first; count = count }
 
--- its share are its terms
+-- the terms that the step takes from the list are its terms
 pub label_last : (terms : List Term) (label : Label) (first count : ℕ) → first ≡ length terms → count ≡ length label.terms → label_kept (terms ++ label.terms) (step_at first count label) ≡ label
 label_last terms label first count from_there so_many =
     let more = terms ++ label.terms in
@@ -134,7 +134,7 @@ label_last terms label first count from_there so_many =
     ap (λ (n : ℕ). take n (drop first more)) so_many ∙ ap (take (length label.terms)) (drop_at terms label.terms first (sym from_there)) ∙ take_all (length label.terms) label.terms (omega arith) in
     ap (λ (ts : List Term). let it : Label = record { kind = label.kind; from = label.from; to = label.to; terms = ts } in it) share
 
--- and stand within that list, which is longer by no more than the size of the step
+-- the terms of the step are within the list, which grows by at most the size of the step
 pub step_within : (terms : List Term) (label : Label) (first count : ℕ) → first ≡ length terms → count ≡ length label.terms → first + count ≤ length (terms ++ label.terms)
 step_within terms label first count from_there so_many =
     let long : length (terms ++ label.terms) ≡ length terms + length label.terms = length-append terms label.terms in
@@ -174,7 +174,7 @@ stands_with_numbers limit size more terms numbers others entries label first cou
     stands_with limit size more terms numbers others terms (numbers ++ label.terms) others (same_grows terms) (label.terms, refl) (same_grows others) entries (kept.Numbers (step_at first count label)) (Did label)
     stands (ap Did (label_last numbers label first count from_there so_many)) (step_within numbers label first count from_there so_many) room is (omega arith) (step_long numbers label) (omega arith)
 
--- Another entry more.
+-- One more entry that isn't a step in the shared lists.
 
 there_last : {X : Type 0} (xs : List X) (x : X) → slice_get (xs ++ x ∷ []) (length xs) ≡ Some x
 there_last [] x = refl
@@ -205,7 +205,7 @@ stands_with_quiet limit size terms numbers others entries stands room =
     subst (λ (n : ℕ). StandsFor limit n terms numbers others (entries ++ kept.Quiet ∷ [])) (let e : size + 0 ≡ size = omega arith in e)
     (stands_with limit size 0 terms numbers others terms numbers others (same_grows terms) (same_grows numbers) (same_grows others) entries kept.Quiet Quiet stands refl tt room refl (omega arith) (omega arith) (omega arith))
 
--- What stands at an index.
+-- The entry at an index.
 
 pub kept_there : (terms numbers : List Term) (others : List Other) (entries : List Kept) (at : ℕ) (it : Kept) → at < length entries → it ≡ get_or entries at it → slice_get (entries_kept terms numbers others entries) at ≡ Some (entry_kept terms numbers others it)
 kept_there terms numbers others entries at it within is =

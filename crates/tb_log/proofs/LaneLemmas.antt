@@ -1,4 +1,4 @@
--- What a log says of a lane and of time: in two parts, and where entries are left out that say nothing of it.
+-- The statements of a log about a lane and about time: for a log in two parts, and for a log without some entries that don't matter.
 use Rattle.std.proofs.Common.{◌≡◌, ◌==◌, ◌+◌, ℕ, List, [], ◌∷◌, ◌++◌, Bool, true, false, cond, not, ◌&&◌, Option, None, if◌then◌else◌, refl, sym, ap, ◌∙◌, arith}
 use Rattle.std.specs.List.{filter_map, cons_option, fold}
 use Rattle.std.specs.Prelude.{filter, count_by}
@@ -10,7 +10,7 @@ use Rattle.tb_log.specs.declared.entry.Entry.{Entry}
 use Rattle.tb_log.specs.declared.entry.Entry.TheVariants.{Did, Quiet, Fed, Gave}
 use Rattle.tb_log.specs.Lanes.{handed, handed_by, sent, cuts, is_cut_off, inputs, input_by, ticks, is_tick}
 
--- Two parts.
+-- A log in two parts.
 
 pub handed_append : (log more : List Entry) (lane : ℕ) → handed (log ++ more) lane ≡ handed log lane ++ handed more lane
 handed_append log more lane = filter_map-append (handed_by lane) log more
@@ -35,7 +35,7 @@ count_append q xs ys = fold_append q xs ys 0 ∙ fold_on q ys (count_by q xs)
 pub ticks_append : (log more : List Entry) → ticks (log ++ more) ≡ ticks log + ticks more
 ticks_append log more = count_append is_tick log more
 
--- What was handed out before is cut off by no cut in a second part that begins with none.
+-- If the second part has no cut of the lane before its first output on the lane, it cuts off no output of the first part.
 pub cut_off_append : (log more : List Entry) (lane : ℕ) → is_cut_off more lane ≡ false → is_cut_off (log ++ more) lane ≡ is_cut_off log lane
 cut_off_append [] more lane starts = starts
 cut_off_append (Did label ∷ log) more lane starts = cut_off_append log more lane starts
@@ -57,7 +57,7 @@ sent_append (Gave at out ∷ log) more lane starts =
     ∙ (ap (λ (s : List Out). if (at == lane) && not (is_cut_off log lane) then out ∷ s else s) (sent_append log more lane starts)
     ∙ put_before ((at == lane) && not (is_cut_off log lane)) out (sent log lane) (sent more lane))
 
--- Entries that are left out.
+-- A log without some entries.
 
 keep : {X Y : Type 0} (f : X → Option Y) (p : X → Bool) → ((x : X) → p x ≡ false → f x ≡ None) → (xs : List X) → filter_map f (filter p xs) ≡ filter_map f xs
 keep f p none [] = refl
@@ -90,7 +90,7 @@ inputs_kept p lane none log = keep (input_by lane) p none log
 pub ticks_kept : (p : Entry → Bool) → ((entry : Entry) → p entry ≡ false → is_tick entry ≡ false) → (log : List Entry) → ticks (filter p log) ≡ ticks log
 ticks_kept p none log = count_kept is_tick p none log
 
--- where neither a cut of the lane nor what is handed out on it is left out
+-- if each cut of the lane and each output on the lane is kept
 module _ (p : Entry → Bool) (lane : ℕ) (no_cut : (it : Input) (reply : Reply) → p (Fed it reply) ≡ false → cuts lane it ≡ false) (no_out : (at : ℕ) (out : Out) → p (Gave at out) ≡ false → (at == lane) ≡ false) where
   same_cut_off : (entry : Entry) (log : List Entry) → is_cut_off (entry ∷ filter p log) lane ≡ is_cut_off (entry ∷ log) lane → (p entry ≡ false → is_cut_off (filter p log) lane ≡ is_cut_off (entry ∷ log) lane) → (b : Bool) → p entry ≡ b
       → is_cut_off (cond b (entry ∷ filter p log) (filter p log)) lane ≡ is_cut_off (entry ∷ log) lane

@@ -1,4 +1,4 @@
--- Worked lines without terms, and what a log says of its lanes.
+-- Example lines without terms, and example logs with their statements about lanes.
 use Rattle.std.specs.Prelude.{◌≡◌, List, [], ◌∷◌, codes, refl}
 use Rattle.std.specs.Fmt.{digits}
 use Rattle.tb_log.specs.LogText.{log_text_from, log_text}
@@ -11,7 +11,7 @@ use Rattle.tb_log.specs.declared.entry.Out.TheVariants as out
 use Rattle.tb_log.specs.declared.entry.Reply.TheVariants.{Took, Dropped}
 use Rattle.tb_log.specs.declared.entry.Why.TheVariants as why
 
--- lines that a tool may not put, and the tool's end
+-- a bad line, the end of a tool, and a cut
 bad_lines : log_text_from 3 (Fed (input.Line 1 tool.Bad) (Dropped why.Bad) ∷ Fed (input.Gone 1) Took ∷ Fed (input.Cut 16) Took ∷ []) ≡ codes "3 drop bad line 1 ?\n4 gone 1\n5 cut 16\n"
 unfolding digits
 bad_lines = refl
@@ -21,7 +21,7 @@ quiet_lines : log_text (Quiet ∷ Fed input.Tick Took ∷ Gave 1 (out.Start (cod
 unfolding digits
 quiet_lines = refl
 
--- On lane 1 an end was handed out that couldn't be put, on lane 2 only what came after the cut.
+-- On lane 1, the end couldn't be written. On lane 2, both outputs come after the cut and were written.
 two_lanes : List Entry
 two_lanes =
     Gave 1 (out.Start (codes "t")) ∷ Fed (input.Cut 2) (Dropped why.NotLive) ∷ Gave 2 (out.Start (codes "u")) ∷ Fed input.Tick Took

@@ -7,7 +7,7 @@ use Rattle.tb_log.specs.LogText.{log_text, log_text_from, entry_text}
 pub log_text_first : (log : List Entry) → log_text log ≡ log_text_from 1 log
 log_text_first log = refl
 
--- the text of two parts, of which the second goes on with the numbers of the first
+-- the text of a log in two parts: the numbers of the second part continue those of the first
 pub text_append : (number : ℕ) (log more : List Entry) → log_text_from number (log ++ more) ≡ log_text_from number log ++ log_text_from (number + length log) more
 text_append number [] more = ap (λ (n : ℕ). log_text_from n more) (let e : number ≡ number + 0 = omega arith in e)
 text_append number (entry ∷ log) more =

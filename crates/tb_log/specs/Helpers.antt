@@ -1,3 +1,3 @@
--- Definitions that proofs and private functions need, and that nobody has to believe who believes the program's call.
+-- Definitions for proofs and private functions. A reader who trusts the contracts of the public calls doesn't have to trust them.
 pub mod KeptLogs
 pub mod StepText

@@ -19,11 +19,11 @@ use Rattle.tb_log.specs.declared.entry.Why.TheVariants as why
 use Rattle.tb_log.specs.declared.entry.Entry.{Entry}
 use Rattle.tb_log.specs.declared.entry.Entry.TheVariants.{Did, Quiet, Fed, Gave}
 
--- a process and one of its atoms, behind a blank
+-- a space, and the numbers of a process and of one of its atoms, with a point between them
 abbrev pub place_words : Place → List ℕ
 place_words place = 32 ∷ decimal place.proc ++ 46 ∷ decimal place.atom
 
--- the terms joined by commas, behind a blank, where there are any
+-- a space, and the terms joined by commas; nothing if there are no terms
 abbrev pub term_words : List Term → List ℕ
 term_words [] = []
 term_words (term ∷ terms) = 32 ∷ terms_text (term ∷ terms)
@@ -53,19 +53,20 @@ kind_word kind.Shutdown = codes "shutdown"
 kind_word kind.Finish = codes "finish"
 kind_word kind.Halt = codes "halt"
 
--- a step by its kind: both places of a message, none of the end of a bus, the one place of any other atom; then the terms
+-- the words of a step by its kind: both places of a message, no place of `finish` and `halt`, the one place of any other step; then
+-- the terms
 abbrev pub label_words : LabelKind → Place → Place → List Term → List ℕ
 label_words kind.Msg from to terms = codes "msg" ++ place_words from ++ place_words to ++ term_words terms
 label_words kind.Finish from to terms = codes "finish"
 label_words kind.Halt from to terms = codes "halt"
 label_words kind from to terms = kind_word kind ++ place_words from ++ term_words terms
 
--- the arguments of a name, where it has any
+-- terms in parentheses, joined by commas; nothing if there are no terms
 abbrev pub arguments_text : List Term → List ℕ
 arguments_text [] = []
 arguments_text (term ∷ terms) = 40 ∷ terms_text (term ∷ terms) ++ 41 ∷ []
 
--- a line of a tool: the text of a term, or a question mark where it was a bad one
+-- a line from a tool as text, or a question mark if the line is bad
 abbrev pub tool_line_words : ToolLine → List ℕ
 tool_line_words (tool.Value term) = codes "snd-value" ++ 40 ∷ term_text term ++ 41 ∷ []
 tool_line_words (tool.Event terms) = codes "snd-event" ++ arguments_text terms
@@ -73,6 +74,7 @@ tool_line_words (tool.Connect name) = codes "snd-connect" ++ 40 ∷ name ++ 41 �
 tool_line_words tool.Disconnect = codes "snd-disconnect"
 tool_line_words tool.Bad = codes "?"
 
+-- the words of an input
 abbrev pub input_words : Input → List ℕ
 input_words input.Tick = codes "tick"
 input_words input.NoTicks = codes "noticks"
@@ -80,6 +82,7 @@ input_words (input.Line lane line) = codes "line " ++ decimal lane ++ 32 ∷ too
 input_words (input.Gone lane) = codes "gone " ++ decimal lane
 input_words (input.Cut lane) = codes "cut " ++ decimal lane
 
+-- the word of the reason why an input was dropped
 abbrev pub why_word : Why → List ℕ
 why_word why.Unasked = codes "unasked"
 why_word why.NotLive = codes "not-live"
@@ -88,30 +91,33 @@ why_word why.Stranger = codes "stranger"
 why_word why.Bad = codes "bad"
 why_word why.Down = codes "down"
 
--- a dropped input says why it was dropped in front
+-- the words of an input with its reply: a dropped input begins with `drop` and the reason
 abbrev pub fed_words : Reply → Input → List ℕ
 fed_words Took input = input_words input
 fed_words (Dropped why) input = codes "drop " ++ why_word why ++ 32 ∷ input_words input
 
--- what is handed out: the command of a start as a string, a line as its term
+-- the words of an output: the command of a start as a string, a line as its term
 abbrev pub out_words : Out → List ℕ
 out_words (out.Start command) = codes "start " ++ quoted command
 out_words (out.Line term) = term_text term
 out_words out.End = codes "end"
 
+-- the words of an entry: its line without the number and the newline
 abbrev pub entry_words : Entry → List ℕ
 entry_words (Did label) = label_words label.kind label.from label.to label.terms
 entry_words Quiet = codes "quiet"
 entry_words (Fed input reply) = fed_words reply input
 entry_words (Gave lane out) = codes "out " ++ decimal lane ++ 32 ∷ out_words out
 
--- an entry's line: its number, a blank, its words and a newline
+-- the line of an entry: its number, a space, its words and a newline
 abbrev pub entry_text : ℕ → Entry → List ℕ
 entry_text number entry = decimal number ++ 32 ∷ entry_words entry ++ 10 ∷ []
 
+-- the lines of entries, numbered from `number` on
 abbrev pub log_text_from : ℕ → List Entry → List ℕ
 log_text_from number [] = []
 log_text_from number (entry ∷ log) = entry_text number entry ++ log_text_from (number + 1) log
 
+-- the text of a log: its lines, numbered from 1
 abbrev pub log_text : List Entry → List ℕ
 log_text log = log_text_from 1 log

@@ -1,4 +1,5 @@
--- What each entry of a program is: its numbers fit their types, and its terms, strings and names are such.
+-- Well-formed entries: their numbers fit their types, and their terms, strings and names are well-formed. Each entry in a program is
+-- well-formed.
 use Rattle.std.specs.Prelude.{◌^◌, Bool, true, ◌&&◌, nat_lt}
 use Rattle.std.specs.List.{list_all}
 use Rattle.tb_terms.specs.Names.{is_name, is_string}

@@ -1,4 +1,4 @@
--- Which entries a log may have: what each shows, within which limits, and on which lanes; how many lanes there are.
+-- The entries that a log may have: their places, the number and size of their terms, and their lanes.
 use Rattle.std.specs.Prelude.{◌≡◌, ℕ, ◌≤◌, Bool, ◌&&◌, ◌||◌, ◌==◌, nat_le, List, length, IsTrue, codes}
 use Rattle.std.specs.List.{All}
 use Rattle.std.specs.Str.{bytes_eq}
@@ -24,14 +24,15 @@ use Rattle.tb_log.specs.declared.entry.Entry.TheVariants.{Did, Quiet, Fed, Gave}
 abbrev pub nowhere : Place
 nowhere = record { proc = 0; atom = 0 }
 
--- A message has two places. The end of a bus has none, and any other step has one: the line shows no more.
+-- the places of a step: a message has two, `finish` and `halt` have none, and any other step has one; each place that the line doesn't
+-- show is `nowhere`
 abbrev pub HasPlaces : LabelKind → Place → Place → Type 0
 HasPlaces kind.Msg from to = Unit {0}
 HasPlaces kind.Finish from to = (from ≡ nowhere) × (to ≡ nowhere)
 HasPlaces kind.Halt from to = (from ≡ nowhere) × (to ≡ nowhere)
 HasPlaces kind from to = to ≡ nowhere
 
--- how many terms a step shows
+-- whether a step of this kind can show this many terms
 abbrev pub has_terms : LabelKind → ℕ → Bool
 has_terms kind.Msg count = nat_le 1 count
 has_terms kind.Set count = count == 1
@@ -56,22 +57,24 @@ has_terms kind.Shutdown count = count == 1
 has_terms kind.Finish count = count == 0
 has_terms kind.Halt count = count == 0
 
+-- the label of a step has the places and the number of terms of its kind, and each term is within the limits
 pub record IsLabelInShape (label : Label) : Type 0 where
   pub places : HasPlaces label.kind label.from label.to
   pub count : IsTrue (has_terms label.kind (length label.terms))
   pub terms : All IsWithinLimits label.terms
 
--- What one line between the bus and a tool carries: each part is within the limits, and all together are no larger than
--- a term may be. The name around them isn't counted.
+-- The parts of one line between the bus and a tool: each part is within the limits, and the total size of the parts is at most the
+-- greatest size of a term. The name around the parts doesn't count.
 pub record AreParts (parts : List Term) : Type 0 where
   pub each : All IsWithinLimits parts
   pub together : terms_size parts ≤ most_term_size
 
--- how long the name of a tool may be: its term, which is the name with a number, is 2 larger, and no larger than a term may be
+-- the greatest length of a tool's name: the size of the tool's term, which is the name with a number, is 2 larger, and at most the
+-- greatest size of a term
 abbrev pub most_tool_name : ℕ
 most_tool_name = 65534
 
--- a line that a tool may put, or a bad one
+-- a line that a tool may send, or a bad line
 abbrev pub IsToolLineInShape : ToolLine → Type 0
 IsToolLineInShape (tool.Value term) = IsWithinLimits term
 IsToolLineInShape (tool.Event terms) = (1 ≤ length terms) × AreParts terms
@@ -79,32 +82,35 @@ IsToolLineInShape (tool.Connect name) = length name ≤ most_tool_name
 IsToolLineInShape tool.Disconnect = Unit {0}
 IsToolLineInShape tool.Bad = Unit {0}
 
--- the four lines for a tool: an acknowledged event has one part or more, each other one
+-- the names of the four lines for a tool, with the number of their parts: an acknowledged event has at least one part, each other
+-- line exactly one
 abbrev pub has_parts : List ℕ → ℕ → Bool
 has_parts name count =
     (bytes_eq name (codes "rec-eval") && (count == 1)) || (bytes_eq name (codes "rec-do") && (count == 1))
     || (bytes_eq name (codes "rec-terminate") && (count == 1)) || (bytes_eq name (codes "rec-ack-event") && nat_le 1 count)
 
+-- a term that the bus may send to a tool as a line
 abbrev pub IsForTool : Term-F Term → Type 0
 IsForTool (layer.Int number) = ⊥
 IsForTool (layer.Str bytes) = ⊥
 IsForTool (layer.Appl name parts) = IsTrue (has_parts name (length parts)) × AreParts parts
 IsForTool (layer.List parts) = ⊥
 
--- what may be handed out: any command, a line for a tool, the end
+-- an output that a bus may send: any command, a line for a tool, the end
 abbrev pub IsOutInShape : Out → Type 0
 IsOutInShape (out.Start command) = Unit {0}
 IsOutInShape (out.Line term) = IsForTool (out-Term term)
 IsOutInShape out.End = Unit {0}
 
--- how many lanes there are
+-- the number of lanes
 abbrev pub lane_count : ℕ
 lane_count = 16
 
--- lanes have the numbers from 1
+-- the numbers of lanes: from 1 to `lane_count`
 abbrev pub IsLane : ℕ → Type 0
 IsLane lane = (1 ≤ lane) × (lane ≤ lane_count)
 
+-- an input that a log may have
 abbrev pub IsInputInShape : Input → Type 0
 IsInputInShape input.Tick = Unit {0}
 IsInputInShape input.NoTicks = Unit {0}
@@ -112,6 +118,7 @@ IsInputInShape (input.Line lane line) = IsLane lane × IsToolLineInShape line
 IsInputInShape (input.Gone lane) = IsLane lane
 IsInputInShape (input.Cut lane) = IsLane lane
 
+-- an entry that a log may have
 abbrev pub InShape : Entry → Type 0
 InShape (Did label) = IsLabelInShape label
 InShape Quiet = Unit {0}

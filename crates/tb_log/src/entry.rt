@@ -1,26 +1,26 @@
-//! The entries of a log, and their copies.
+//! The entries of a log, and copies of entries.
 ghost use Rattle.std.specs.Prelude.{◌≡◌, IfOk};
 
 use std::alloc::Global;
 use tb_terms::{Items, Name, NoMemory, Term, Terms, Text, copy_terms};
 
-/// A line that a tool put.
+/// A line that a tool sent.
 #[derive(Drop)]
 pub enum ToolLine {
-    /// The value of what the tool was asked to evaluate.
+    /// A value: the result of an evaluation.
     Value(Term),
-    /// An event, with what it carries.
+    /// An event, with its terms.
     Event(Terms),
-    /// The tool names itself.
+    /// A connect request: the tool gives its name.
     Connect(Name),
-    /// The tool leaves.
+    /// A disconnect request.
     Disconnect,
-    /// Anything else.
+    /// Any other line.
     Bad,
 }
 
 impl ToolLine {
-    /// The same line in memory of its own.
+    /// Copies the line into new memory.
     pub fn copy(&self, alloc: Global) -> Result<ToolLine, NoMemory>
         ensures { IfOk result (λ copy. copy ≡ self.now) }
     {
@@ -34,23 +34,23 @@ impl ToolLine {
     }
 }
 
-/// What comes from outside. A lane has a number from 1 to 16.
+/// An input from the environment. Lanes have the numbers from 1 to 16.
 #[derive(Drop)]
 pub enum Input {
-    /// A unit of time has passed.
+    /// One unit of time has passed.
     Tick,
     /// No more ticks come.
     NoTicks,
-    /// The program on this lane put a line.
+    /// The program on this lane sent a line.
     Line(u8, ToolLine),
     /// The program on this lane has ended.
     Gone(u8),
-    /// What was handed out on this lane couldn't be put.
+    /// An output on this lane couldn't be written.
     Cut(u8),
 }
 
 impl Input {
-    /// The same input in memory of its own.
+    /// Copies the input into new memory.
     pub fn copy(&self, alloc: Global) -> Result<Input, NoMemory>
         ensures { IfOk result (λ copy. copy ≡ self.now) }
     {
@@ -64,43 +64,45 @@ impl Input {
     }
 }
 
-/// Why an input changed nothing.
+/// The reason why an input changed nothing.
 #[derive(Clone, Copy, Debug, PartialEq, Eq)]
 pub enum Why {
-    /// A value came that nobody had asked for, or a second one.
+    /// The tool sent a value that no process had requested, or a second value.
     Unasked,
-    /// The lane wasn't up or had ended, or it had no tool that could put such a line.
+    /// The lane wasn't up or had ended, or it had no tool that could send such a line.
     NotLive,
-    /// A tool named itself on a lane that has a tool.
+    /// A connect request came on a lane that already has a tool.
     Named,
-    /// A tool named itself by a name that isn't declared.
+    /// A connect request came with a name that isn't declared.
     Stranger,
-    /// The line was none that a tool may put.
+    /// The line isn't one that a tool may send.
     Bad,
-    /// The bus was down.
+    /// The bus had shut down.
     Down,
 }
 
-/// What became of an input.
+/// The reply to an input.
 #[derive(Clone, Copy, Debug, PartialEq, Eq)]
 pub enum Reply {
+    /// The bus took the input.
     Took,
+    /// The bus dropped the input, for this reason.
     Dropped(Why),
 }
 
-/// What is handed out on a lane.
+/// An output on a lane.
 #[derive(Drop)]
 pub enum Out {
     /// The command that starts the tool.
     Start(Text),
     /// A line for the tool.
     Line(Term),
-    /// The tool gets no more lines.
+    /// The end: the tool receives no more lines.
     End,
 }
 
 impl Out {
-    /// The same in memory of its own.
+    /// Copies the output into new memory.
     pub fn copy(&self, alloc: Global) -> Result<Out, NoMemory>
         ensures { IfOk result (λ copy. copy ≡ self.now) }
     {
@@ -112,55 +114,79 @@ impl Out {
     }
 }
 
-/// An atom of a process, both numbered from 1; 0 and 0 where there is none.
+/// An atom of a process. Both numbers count from 1. If there is no atom, both are 0.
 #[derive(Clone, Copy, Debug, PartialEq, Eq)]
 pub struct Place {
+    /// The number of the process.
     pub proc: u32,
+    /// The number of the atom in its process.
     pub atom: u32,
 }
 
-/// What kind of step was made. Most are named as the atom that made it.
+/// The kind of a step. Most kinds have the name of the atom that takes the step.
 #[derive(Clone, Copy, Debug, PartialEq, Eq)]
 pub enum LabelKind {
-    /// One process handed terms to another.
+    /// A message: one process sent terms to another process.
     Msg,
-    /// A variable took a value.
+    /// An assignment: a variable took a value.
     Set,
+    /// A step of an atom `tau`.
     Tau,
+    /// A step of an atom `printf`.
     Printf,
+    /// A step of an atom `snd-note`.
     SndNote,
+    /// A step of an atom `rec-note`.
     RecNote,
+    /// A step of an atom `no-note`.
     NoNote,
+    /// A step of an atom `subscribe`.
     Subscribe,
+    /// A step of an atom `unsubscribe`.
     Unsubscribe,
+    /// A step of an atom `create`.
     Create,
+    /// A step of an atom `execute`.
     Execute,
+    /// A step of an atom `rec-connect`.
     RecConnect,
+    /// A step of an atom `rec-disconnect`.
     RecDisconnect,
+    /// A step of an atom `snd-eval`.
     SndEval,
+    /// A step of an atom `rec-value`.
     RecValue,
+    /// A step of an atom `snd-do`.
     SndDo,
+    /// A step of an atom `rec-event`.
     RecEvent,
+    /// A step of an atom `snd-ack-event`.
     SndAckEvent,
+    /// A step of an atom `snd-terminate`.
     SndTerminate,
+    /// A step of an atom `shutdown`.
     Shutdown,
-    /// No process was left.
+    /// The end of the bus: no process was left.
     Finish,
-    /// No process could do anything, and no more ticks come.
+    /// The end of the bus: no process could take a step, and no more ticks come.
     Halt,
 }
 
-/// What is seen of a step: which atoms made it, the sender's first, and which terms it moved.
+/// The label of a step: its atoms, with the sender of a message first, and its terms.
 #[derive(Drop)]
 pub struct Label {
+    /// The kind of step.
     pub kind: LabelKind,
+    /// The atom of the step. In a message, it is the sender.
     pub from: Place,
+    /// The receiver of a message.
     pub to: Place,
+    /// The terms of the step.
     pub terms: Terms,
 }
 
 impl Label {
-    /// The same label in memory of its own.
+    /// Copies the label into new memory.
     pub fn copy(&self, alloc: Global) -> Result<Label, NoMemory>
         ensures { IfOk result (λ copy. copy ≡ self.now) }
     {
@@ -177,21 +203,21 @@ impl Label {
 /// One event of the bus.
 #[derive(Drop)]
 pub enum Entry {
-    /// A step was made.
+    /// A step of the bus.
     Did(Label),
-    /// No step was possible, and the bus wasn't down.
+    /// No step was possible, and the bus hadn't shut down.
     Quiet,
-    /// An input was handed in, and this became of it.
+    /// An input, and whether the bus took it or dropped it.
     Fed(Input, Reply),
-    /// This was handed out on a lane, which has a number from 1 to 16.
+    /// An output on a lane. Lanes have the numbers from 1 to 16.
     Gave(u8, Out),
 }
 
-/// Entries in a row, as a log has them.
+/// A sequence of entries, in the order of a log.
 pub type Entries = Items<Entry>;
 
 impl Entry {
-    /// The same entry in memory of its own.
+    /// Copies the entry into new memory.
     pub fn copy(&self, alloc: Global) -> Result<Entry, NoMemory>
         ensures { IfOk result (λ copy. copy ≡ self.now) }
     {

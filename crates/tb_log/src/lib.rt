@@ -1,4 +1,4 @@
-//! The log: what happens on a bus, event by event, and the line of each.
+//! The log of a bus: one entry for each event, and the line of each entry.
 #![tactic(auto)]
 
 mod entry;

@@ -1,4 +1,4 @@
-//! A log within limits, which keeps its entries in few lists.
+//! A log within limits. It keeps its entries in four lists.
 ghost use Rattle.std.specs.Prelude.{◌≡◌, ◌≤◌, ◌<◌, ◌+◌, ◌++◌, ◌∷◌, [], IsTrue, false, IsOk, OnOk, OnErr, Some, min, length, take, drop, reverse, slice_get, vec_len, vec_capacity};
 ghost use Rattle.std.below.core.specs.declared.int.usize.TheConstants.{MAX};
 ghost use Rattle.tb_log.specs.Limits.{entry_size, input_size, tool_line_size, out_size, has_room, terms_size};
@@ -11,23 +11,25 @@ use std::alloc::Global;
 use std::marker::Model;
 use tb_terms::{NoMemory, Term, Terms, size, total_size};
 
-/// How large all terms of a log may be together.
+/// The greatest total size of all entries of a log.
 const MOST_SIZE: usize = 16_777_216;
 
-/// The entries of a bus, within limits: at most so many, whose terms are together at most 16,777,216 in size. What they carry
-/// stands in lists beside them, so that an entry takes little memory, and a step takes none of its own.
+/// The entries of a bus, within two limits: their number, and their total size, which is at most 16,777,216. The terms, inputs and
+/// outputs of the entries are in separate lists. So an entry takes little memory, and a step that `push_step` adds has no list of its
+/// own.
 #[derive(Drop)]
 pub struct Log {
     entries: Vec<Kept>,
-    /// The terms of the steps that have a term which is no number.
+    /// The terms of the steps that have at least one term that isn't a number.
     terms: Vec<Term>,
-    /// The terms of the steps that have numbers alone.
+    /// The terms of the steps whose terms are all numbers.
     numbers: Vec<i64>,
     others: Vec<Other>,
     limit: u32,
-    /// How large the entries are together.
+    /// The total size of the entries.
     size: usize,
-    /// How large the step is for which memory was taken: there is memory for so many terms more, and for so many numbers.
+    /// The size of the step for which memory is reserved: there is memory for this many further terms, and for this many further
+    /// numbers.
     reserved: usize,
 }
 
@@ -61,7 +63,7 @@ impl Log {
     ghost use Rattle.tb_log.specs.declared.entry.Entry.{Entry};
     ghost use Rattle.tb_log.specs.Helpers.KeptLogs.{other_entry};
 
-    /// A log without entries, for at most so many.
+    /// Returns a log without entries, for at most `limit` entries.
     pub fn new(alloc: Global, limit: u32) -> Log
         ensures limit { result.limit ≡ limit }
         ensures entries { result.entries ≡ [] }
@@ -77,14 +79,14 @@ impl Log {
         }
     }
 
-    /// How many entries it has.
+    /// Returns the number of entries.
     pub fn len(&self) -> usize
         ensures { result ≡ length self.now.entries }
     {
         self.entries.len()
     }
 
-    /// The entry at this index, lent.
+    /// Lends the entry at the index.
     pub fn at(&self, at: usize) -> Seen<'_>
         requires { at < length self.now.entries }
         ensures { slice_get self.now.entries at ≡ Some (entry_seen result) }
@@ -99,14 +101,14 @@ impl Log {
         }
     }
 
-    /// Whether neither limit is passed with this entry.
+    /// Returns whether the log is still within both limits with this entry.
     pub fn room_for(&self, entry: &Entry) -> bool
         ensures { result ≡ has_room self.now.limit self.now.entries entry.now }
     {
         self.room_for_size(size_of(entry))
     }
 
-    /// Whether neither limit is passed with an entry of this size.
+    /// Returns whether the log is still within both limits with an entry of this size.
     pub fn room_for_size(&self, size: usize) -> bool
         ensures { (entry : Entry) → size ≡ min (entry_size entry) MAX
             → result ≡ has_room self.now.limit self.now.entries entry }
@@ -114,7 +116,7 @@ impl Log {
         self.entries.len() < self.limit as usize && self.size.saturating_add(size) <= MOST_SIZE
     }
 
-    /// Takes memory for so many entries more that are no steps, where there isn't enough yet.
+    /// Reserves memory for `n` further entries, apart from the terms of steps, if there isn't enough yet.
     pub fn reserve(&mut self, n: usize) -> Result<(), NoMemory>
         ensures spare { OnOk result (n ≤ self.new.spare) }
         ensures enough { n ≤ self.old.spare → IsOk result }
@@ -128,8 +130,8 @@ impl Log {
         Ok(())
     }
 
-    /// Takes memory for a step more, of this size, in the list of terms and in that of numbers. A term has a size of 1 at
-    /// least, so that a step has no more terms.
+    /// Reserves memory for one further step of this size, in the list of terms and in the list of numbers. Each term has a size of at
+    /// least 1, so a step has at most `size` terms.
     pub fn reserve_step(&mut self, size: usize) -> Result<(), NoMemory>
         ensures spare { OnOk result (0 < self.new.spare) }
         ensures enough { 0 < self.old.spare → size ≤ self.old.reserved → IsOk result }
@@ -146,7 +148,7 @@ impl Log {
         Ok(())
     }
 
-    /// For how many entries more there is memory, but for the terms of steps.
+    /// Returns for how many further entries there is memory, apart from the terms of steps.
     pub fn spare(&self) -> usize
         ensures { result ≡ self.now.spare }
     {
@@ -154,7 +156,7 @@ impl Log {
         entries.min(self.others.capacity() - self.others.len())
     }
 
-    /// Adds a step, for which memory was taken, at the end. Its terms are moved out of where they stand. This takes no memory.
+    /// Adds a step at the end. Its terms move from `terms` into the log. The call takes no memory: `reserve_step` reserves it.
     pub fn push_step(&mut self, kind: LabelKind, from: Place, to: Place, terms: &mut Terms)
         requires room { IsTrue (has_room self.old.limit self.old.entries
             (Entry.Did (record { kind = kind; from = from; to = to; terms = terms.old }))) }
@@ -193,7 +195,7 @@ impl Log {
         }));
     }
 
-    /// Adds an entry at the end. This takes no memory: a step that is added so keeps a list of terms of its own.
+    /// Adds an entry at the end. The call takes no memory: if the entry is a step, it keeps its own list of terms.
     pub fn push(&mut self, entry: Entry)
         requires room { IsTrue (has_room self.old.limit self.old.entries entry) }
         requires spare { 0 < self.old.spare }
@@ -211,7 +213,7 @@ impl Log {
         }
     }
 
-    /// Adds at the end that nothing was possible. This takes no memory.
+    /// Adds the entry `quiet` at the end: no step was possible. The call takes no memory.
     pub fn push_quiet(&mut self)
         requires room { IsTrue (has_room self.old.limit self.old.entries Entry.Quiet) }
         requires spare { 0 < self.old.spare }
@@ -223,7 +225,7 @@ impl Log {
         self.entries.push_reserved(Kept::Quiet);
     }
 
-    /// Adds an input, which is so large, at the end, with what became of it. This takes no memory.
+    /// Adds an input of this size and its reply at the end. The call takes no memory.
     pub fn push_fed(&mut self, input: Input, reply: Reply, size: usize)
         requires room { IsTrue (has_room self.old.limit self.old.entries (Entry.Fed input reply)) }
         requires sized { size ≡ min (input_size input) MAX }
@@ -236,7 +238,7 @@ impl Log {
         self.push_other(Other::Fed(input, reply), size);
     }
 
-    /// Adds what was handed out on a lane, which is so large, at the end. This takes no memory.
+    /// Adds an output of this size on a lane at the end. The call takes no memory.
     pub fn push_gave(&mut self, lane: u8, out: Out, size: usize)
         requires room { IsTrue (has_room self.old.limit self.old.entries (Entry.Gave lane out)) }
         requires sized { size ≡ min (out_size out) MAX }
@@ -265,7 +267,8 @@ impl Log {
     }
 }
 
-/// Adds terms that are all numbers at the end, and tells whether they are; where one isn't, adds none. This takes no memory.
+/// Adds the terms at the end and returns `true` if they are all numbers. If not, adds none and returns `false`. The call takes no
+/// memory.
 #[inline(always)]
 fn push_numbers(terms: &[Term], into: &mut Vec<i64>) -> bool
     requires { vec_len into.old + length terms.now ≤ vec_capacity into.old }
@@ -287,14 +290,14 @@ fn push_numbers(terms: &[Term], into: &mut Vec<i64>) -> bool
     true
 }
 
-/// Takes all terms out of a list.
+/// Removes all terms from a list.
 fn clear(terms: &mut Terms)
     ensures { terms.new ≡ [] }
 {
     while let Some(_term) = terms.pop() {}
 }
 
-/// Moves terms to the end, in their order. This takes no memory.
+/// Moves the terms to the end of `into`, in their order. The call takes no memory.
 fn move_terms(terms: &mut Terms, into: &mut Vec<Term>)
     requires { vec_len into.old + length terms.old ≤ vec_capacity into.old }
     ensures moved { into.new.items ≡ into.old.items ++ terms.old }
@@ -305,7 +308,7 @@ fn move_terms(terms: &mut Terms, into: &mut Vec<Term>)
     turn(into.as_mut_slice(), first);
 }
 
-/// Turns the order of the terms from this index on.
+/// Reverses the order of the terms from index `from` on.
 fn turn(terms: &mut [Term], from: usize)
     requires { from ≤ length terms.old }
     ensures { terms.new ≡ take from terms.old ++ reverse (drop from terms.old) }
@@ -313,7 +316,7 @@ fn turn(terms: &mut [Term], from: usize)
     terms[from..].reverse();
 }
 
-/// Moves terms to the end, the last one first.
+/// Moves the terms to the end of `into`, the last term first.
 fn pour(terms: &mut Terms, into: &mut Vec<Term>)
     requires { vec_len into.old + length terms.old ≤ vec_capacity into.old }
     ensures poured { into.new.items ≡ into.old.items ++ reverse terms.old }
@@ -324,7 +327,7 @@ fn pour(terms: &mut Terms, into: &mut Vec<Term>)
     }
 }
 
-/// The size of an entry, or the greatest usize where it is greater.
+/// Returns the size of an entry, or `usize::MAX` if the size is larger.
 fn size_of(entry: &Entry) -> usize
     ensures { result ≡ min (entry_size entry.now) MAX }
 {
@@ -336,7 +339,7 @@ fn size_of(entry: &Entry) -> usize
     }
 }
 
-/// The size of an input, or the greatest usize where it is greater.
+/// Returns the size of an input, or `usize::MAX` if the size is larger.
 pub fn input_size(input: &Input) -> usize
     ensures { result ≡ min (input_size input.now) MAX }
 {
@@ -357,7 +360,7 @@ fn tool_line_size(line: &ToolLine) -> usize
     }
 }
 
-/// The size of what is handed out, or the greatest usize where it is greater.
+/// Returns the size of an output, or `usize::MAX` if the size is larger.
 pub fn out_size(out: &Out) -> usize
     ensures { result ≡ min (out_size out.now) MAX }
 {

@@ -1,4 +1,4 @@
-//! Copies of a piece of a log.
+//! Copies a piece of a log.
 ghost use Rattle.std.specs.Prelude.{◌≡◌, ◌≤◌, ◌<◌, ◌+◌, ◌^◌, IfOk, take, drop, length};
 
 use crate::entry::Entries;
@@ -6,7 +6,8 @@ use crate::log::Log;
 use std::alloc::Global;
 use tb_terms::{Items, NoMemory};
 
-/// Copies of the first `most` of the entries that stand behind the first `from`, or of all of these where they are fewer.
+/// Returns copies of the `most` entries after the first `from` entries. If fewer entries follow, returns copies of all entries that
+/// follow.
 pub fn piece(alloc: Global, log: &Log, from: u64, most: usize) -> Result<Entries, NoMemory>
     ensures { IfOk result (λ piece. piece ≡ take most (drop from log.now.entries)) }
 {
@@ -15,7 +16,7 @@ pub fn piece(alloc: Global, log: &Log, from: u64, most: usize) -> Result<Entries
     copies(alloc, log, before, count)
 }
 
-/// Copies of so many entries that stand behind so many.
+/// Returns copies of the `count` entries after the first `before` entries.
 fn copies(alloc: Global, log: &Log, before: usize, count: usize) -> Result<Entries, NoMemory>
     requires within { before + count ≤ length log.now.entries }
     requires fits { before + count < 2 ^ 64 }

@@ -1,4 +1,4 @@
-//! Walks that show that each entry of a log is well-formed.
+//! Functions that show that each entry of a log is well-formed. They walk an entry and change nothing.
 ghost use Rattle.std.specs.Prelude.{IsTrue};
 ghost use Rattle.std.specs.List.{list_all};
 ghost use Rattle.tb_terms.specs.Names.{is_string};
@@ -11,8 +11,8 @@ use crate::log::Log;
 use crate::seen::{Seen, SeenTerms};
 use tb_terms::{Term, Text, show_proper};
 
-/// Every log is one of proper entries. The call walks the log and changes nothing: its contract is
-/// what a proof may use of entries whose parts it doesn't see.
+/// States that each entry of a log is well-formed. The call walks the log and changes nothing. Its contract is for proofs about
+/// entries whose parts the proof doesn't see.
 pub fn show_proper_log(log: &Log)
     ensures { IsTrue (list_all is_proper_entry log.now.entries) }
 {
@@ -21,7 +21,7 @@ pub fn show_proper_log(log: &Log)
     }
 }
 
-/// Every entry is proper. The call walks the entry and changes nothing.
+/// States that an entry is well-formed. The call walks the entry and changes nothing.
 pub fn show_proper_entry(entry: &Entry)
     ensures { IsTrue (is_proper_entry entry.now) }
 {

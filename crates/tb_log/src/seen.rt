@@ -1,4 +1,4 @@
-//! Entries as they are read: what a log keeps is lent, and not copied.
+//! Entries as a log lends them: reading copies nothing.
 ghost use Rattle.std.specs.Prelude.{◌≡◌, ◌+◌, ◌≤◌, IfOk, length, take, drop};
 ghost use Rattle.tb_log.specs.Seens.{entry_seen, label_seen, number_terms, terms_seen};
 
@@ -6,15 +6,17 @@ use crate::entry::{Entry, Input, Label, LabelKind, Out, Place, Reply};
 use std::alloc::Global;
 use tb_terms::{Items, NoMemory, Term, Terms};
 
-/// The terms of a step, lent: as terms, or as the numbers that all of them are.
+/// The borrowed terms of a step: terms, or numbers if all terms are numbers.
 #[derive(Clone, Copy)]
 pub enum SeenTerms<'a> {
+    /// The terms.
     Terms(&'a [Term]),
+    /// The values of terms that are all numbers.
     Numbers(&'a [i64]),
 }
 
 impl<'a> SeenTerms<'a> {
-    /// So many of the terms, from this index on.
+    /// Returns `count` of the terms, from index `first` on.
     pub(crate) fn share(self, first: usize, count: usize) -> SeenTerms<'a>
         requires { first + count ≤ length (terms_seen self) }
         ensures { terms_seen result ≡ take count (drop first (terms_seen self.entry)) }
@@ -25,7 +27,7 @@ impl<'a> SeenTerms<'a> {
         }
     }
 
-    /// The terms in memory of their own.
+    /// Copies the terms into new memory.
     pub fn copy(&self, alloc: Global) -> Result<Terms, NoMemory>
         ensures { IfOk result (λ copies. copies ≡ terms_seen self.now) }
     {
@@ -36,17 +38,21 @@ impl<'a> SeenTerms<'a> {
     }
 }
 
-/// A step, lent: which atoms made it, the sender's first, and which terms it moved.
+/// A borrowed step: its atoms, with the sender of a message first, and its terms.
 #[derive(Clone, Copy)]
 pub struct SeenLabel<'a> {
+    /// The kind of step.
     pub kind: LabelKind,
+    /// The atom of the step. In a message, it is the sender.
     pub from: Place,
+    /// The receiver of a message.
     pub to: Place,
+    /// The terms of the step.
     pub terms: SeenTerms<'a>,
 }
 
 impl<'a> SeenLabel<'a> {
-    /// The label in memory of its own.
+    /// Copies the label into new memory.
     pub fn copy(&self, alloc: Global) -> Result<Label, NoMemory>
         ensures { IfOk result (λ copy. copy ≡ label_seen self.now) }
     {
@@ -60,16 +66,16 @@ impl<'a> SeenLabel<'a> {
     }
 }
 
-/// An entry, lent.
+/// A borrowed entry.
 #[derive(Clone, Copy)]
 pub enum Seen<'a> {
-    /// A step was made.
+    /// A step of the bus.
     Did(SeenLabel<'a>),
-    /// No step was possible, and the bus wasn't down.
+    /// No step was possible, and the bus hadn't shut down.
     Quiet,
-    /// An input was handed in, and this became of it.
+    /// An input, and whether the bus took it or dropped it.
     Fed(&'a Input, Reply),
-    /// This was handed out on a lane, which has a number from 1 to 16.
+    /// An output on a lane. Lanes have the numbers from 1 to 16.
     Gave(u8, &'a Out),
 }
 
@@ -91,7 +97,7 @@ impl<'a> Seen<'a> {
         }
     }
 
-    /// The entry in memory of its own.
+    /// Copies the entry into new memory.
     pub fn copy(&self, alloc: Global) -> Result<Entry, NoMemory>
         ensures { IfOk result (λ copy. copy ≡ entry_seen self.now) }
     {

@@ -1,4 +1,4 @@
-//! Whether a log may have an entry.
+//! Checks whether a log may have an entry.
 ghost use Rattle.std.specs.Prelude.{◌≡◌, ◌≤◌, ◌↔◌, length, IsTrue};
 ghost use Rattle.std.specs.Str.{bytes_eq};
 ghost use Rattle.tb_terms.specs.declared.term.Term.{out-Term};
@@ -7,13 +7,13 @@ ghost use Rattle.tb_log.specs.Shapes.{InShape, IsInputInShape, IsToolLineInShape
 use crate::entry::{Entry, Input, Label, LabelKind, Out, Place, ToolLine};
 use tb_terms::{MOST_TERM_SIZE, Term, are_within_limits, is_within_limits, total_size};
 
-/// How many lanes there are. They are numbered from 1.
+/// The number of lanes. They are numbered from 1.
 pub const LANES: usize = 16;
 
-/// How long the name of a tool may be: the term of a tool is 2 larger.
+/// The greatest length of a tool's name, in bytes. The size of the tool's term is 2 larger.
 pub const MOST_TOOL_NAME: usize = 65_534;
 
-/// Whether a log may have this entry.
+/// Returns whether a log may have this entry.
 pub fn is_in_shape(entry: &Entry) -> bool
     ensures { IsTrue result ↔ InShape entry.now }
 {
@@ -33,7 +33,7 @@ fn is_label_in_shape(label: &Label) -> bool
         && are_within_limits(label.terms.as_slice())
 }
 
-/// Whether the places that the line of such a step doesn't show are none.
+/// Returns whether each place that the line of a step of this kind doesn't show is `nowhere`.
 fn has_places(kind: LabelKind, from: Place, to: Place) -> bool
     ensures { IsTrue result ↔ HasPlaces kind from to }
 {
@@ -50,7 +50,7 @@ fn is_nowhere(place: Place) -> bool
     place.proc == 0 && place.atom == 0
 }
 
-/// Whether such a step shows so many terms.
+/// Returns whether a step of this kind can show `count` terms.
 fn has_terms(kind: LabelKind, count: usize) -> bool
     ensures { result ≡ has_terms kind count }
 {
@@ -93,7 +93,7 @@ pub fn is_lane(lane: u8) -> bool
     1 <= lane && usize::from(lane) <= LANES
 }
 
-/// Whether a tool may put this line, or it is a bad one.
+/// Returns whether a tool may send this line, or the line is bad.
 pub fn is_tool_line_in_shape(line: &ToolLine) -> bool
     ensures { IsTrue result ↔ IsToolLineInShape line.now }
 {
@@ -105,7 +105,7 @@ pub fn is_tool_line_in_shape(line: &ToolLine) -> bool
     }
 }
 
-/// Whether this may be handed out.
+/// Returns whether a bus may send this output.
 pub fn is_out_in_shape(out: &Out) -> bool
     ensures { IsTrue result ↔ IsOutInShape out.now }
 {
@@ -126,7 +126,7 @@ fn is_for_tool(term: &Term) -> bool
     }
 }
 
-/// Whether a line for a tool may have this name, with so many parts.
+/// Returns whether a line for a tool may have this name with `count` parts.
 fn has_parts(name: &[u8], count: usize) -> bool
     ensures { result ≡ has_parts name.now count }
 {

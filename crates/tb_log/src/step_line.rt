@@ -1,4 +1,4 @@
-//! The line of a step, written from its end to its start, since the last digit of a number is known first.
+//! Writes the line of a step from its end to its start, since the last digit of a number is known first.
 ghost use Rattle.std.specs.Prelude.{◌≡◌, ◌+◌, ◌<◌, ◌≤◌, ◌++◌, ◌∷◌, [], drop, length, decimal, IfSome};
 ghost use Rattle.std.specs.Fmt.{signed_decimal};
 ghost use Rattle.std.specs.List.{flat_map};
@@ -14,17 +14,17 @@ use crate::text::kind_word;
 use itoa::write_digits;
 use tb_terms::Term;
 
-/// How many bytes a short line has at most.
+/// The greatest number of bytes of a short line.
 pub(crate) const LINE_BYTES: usize = 192;
 
-/// How many bytes of a line stand in front of its terms at most: a number and a blank, a word, and two places of two
-/// numbers.
+/// The greatest number of bytes of a line before its terms: a number and a space, a word, and two places of two numbers each.
 const HEAD_BYTES: usize = 120;
 
-/// How many bytes the text of a short term has at most: those of a number of 64 bits.
+/// The greatest number of bytes of a short term. A number of 64 bits has at most this many.
 const TERM_BYTES: usize = 20;
 
-/// Writes the line of a step at the end of the array, where it is a short one, and tells where it begins.
+/// Writes the line of a step at the end of the array, and returns where the line begins. Returns `None` if a term isn't short or the
+/// array has too little space. Then the content of the array has no meaning.
 pub(crate) fn put_line(number: u64, label: &SeenLabel, line: &mut [u8; LINE_BYTES]) -> Option<usize>
     ensures { IfSome result (λ start. (start ≤ LINE_BYTES) × (drop start line.new ≡ decimal number
         ++ 32 ∷ label_words label.now.kind label.now.from label.now.to (terms_seen label.now.terms)
@@ -37,7 +37,7 @@ pub(crate) fn put_line(number: u64, label: &SeenLabel, line: &mut [u8; LINE_BYTE
     Some(put_number(number, line, end))
 }
 
-/// The terms that the line of a step shows.
+/// Returns the terms that the line of a step shows.
 fn shown_terms<'a>(label: &SeenLabel<'a>) -> SeenTerms<'a>
     ensures { terms_seen result ≡ shown_terms label.now.kind (terms_seen label.now.terms) }
 {
@@ -47,7 +47,7 @@ fn shown_terms<'a>(label: &SeenLabel<'a>) -> SeenTerms<'a>
     }
 }
 
-/// The word and the places of a step.
+/// Writes the word and the places of a step before `end`, and returns where they begin.
 #[inline(always)]
 pub(crate) fn put_head(label: &SeenLabel, line: &mut [u8; LINE_BYTES], end: usize) -> usize
     requires { (HEAD_BYTES ≤ end) × (end ≤ LINE_BYTES) }
@@ -99,7 +99,7 @@ fn put_word(kind: LabelKind, line: &mut [u8; LINE_BYTES], end: usize) -> usize
     ensures room { (end ≤ result + 14) × (result ≤ end) }
     ensures written { drop result line.new ≡ kind_word kind ++ drop end line.old }
 {
-    // Words of a known length are put without a call.
+    // Words of a known length are written without a function call.
     match kind {
         LabelKind::Msg => put_text(b"msg", line, end),
         LabelKind::Tau => put_text(b"tau", line, end),
@@ -107,8 +107,8 @@ fn put_word(kind: LabelKind, line: &mut [u8; LINE_BYTES], end: usize) -> usize
     }
 }
 
-/// Each term behind a comma, but for the first, which stands behind a blank. None where one isn't short or the room
-/// isn't enough; some of them may be written then.
+/// Writes the terms before `end` and returns where they begin. A space comes before the first term, and a comma before each other
+/// term. Returns `None` if a term isn't short or there is too little space. Then some of the terms may be written.
 fn put_terms(terms: SeenTerms, line: &mut [u8; LINE_BYTES], end: usize) -> Option<usize>
     requires { (HEAD_BYTES ≤ end) × (end ≤ LINE_BYTES) }
     ensures { IfSome result (λ start. (HEAD_BYTES ≤ start) × (start ≤ end)
@@ -135,7 +135,7 @@ fn put_all(terms: &[Term], line: &mut [u8; LINE_BYTES], end: usize) -> Option<us
     }
 }
 
-/// Each term behind a comma.
+/// Writes a comma and the term, for each term, before `end`.
 fn put_others(terms: &[Term], line: &mut [u8; LINE_BYTES], end: usize) -> Option<usize>
     requires { (HEAD_BYTES ≤ end) × (end ≤ LINE_BYTES) }
     ensures { IfSome result (λ start. (HEAD_BYTES ≤ start) × (start ≤ end) × (drop start line.new
@@ -165,7 +165,7 @@ fn put_numbers(numbers: &[i64], line: &mut [u8; LINE_BYTES], end: usize) -> Opti
     }
 }
 
-/// Each number behind a comma.
+/// Writes a comma and the number, for each number, before `end`.
 fn put_other_numbers(numbers: &[i64], line: &mut [u8; LINE_BYTES], end: usize) -> Option<usize>
     requires { (HEAD_BYTES ≤ end) × (end ≤ LINE_BYTES) }
     ensures { IfSome result (λ start. (HEAD_BYTES ≤ start) × (start ≤ end) × (drop start line.new
@@ -190,7 +190,8 @@ fn put_other(term: &Term, line: &mut [u8; LINE_BYTES], end: usize) -> Option<usi
     Some(put_byte(b',', line, end))
 }
 
-/// A number, or a name without arguments, where it leaves room for the head and a byte.
+/// Writes a number, or a short name without arguments, before `end`. Returns `None` for any other term, or if there is too little
+/// space: space for the head and one more byte must remain.
 #[inline(always)]
 fn put_term(term: &Term, line: &mut [u8; LINE_BYTES], end: usize) -> Option<usize>
     requires { end ≤ LINE_BYTES }
@@ -224,7 +225,7 @@ fn put_integer(number: i64, line: &mut [u8; LINE_BYTES], end: usize) -> usize
     put_byte(b'-', line, start)
 }
 
-/// A number of one digit is put as its byte.
+/// Writes a number in decimal before `end`. A number of one digit is written as one byte.
 #[inline(always)]
 fn put_number(number: u64, line: &mut [u8; LINE_BYTES], end: usize) -> usize
     requires { (20 ≤ end) × (end ≤ LINE_BYTES) }

@@ -1,4 +1,4 @@
-//! The line of each entry, piece by piece.
+//! Writes the line of each entry.
 ghost use Rattle.std.specs.Prelude.{◌≡◌, ◌++◌, [], ◌∷◌, OnOk, OnErr, codes, decimal};
 ghost use Rattle.std.specs.List.{flat_map};
 ghost use Rattle.tb_terms.specs.Texts.{term_text};
@@ -14,7 +14,7 @@ use crate::step_line::{LINE_BYTES, put_head, put_line};
 use itoa::Buffer;
 use tb_terms::{NoMemory, Term, Terms, push_quoted, write_term, write_terms};
 
-/// Writes the line of an entry with this number at the end.
+/// Appends the line of an entry with this number. If memory runs out, the bytes remain unchanged.
 pub fn write_entry(number: u64, entry: &Entry, into: &mut Vec<u8>) -> Result<(), NoMemory>
     ensures ok { OnOk result (into.new.items ≡ into.old.items ++ entry_text number entry.now) }
     ensures err { OnErr result (into.new.items ≡ into.old.items) }
@@ -22,7 +22,7 @@ pub fn write_entry(number: u64, entry: &Entry, into: &mut Vec<u8>) -> Result<(),
     write_seen(number, &Seen::of(entry), into)
 }
 
-/// The same of an entry that is lent.
+/// Appends the line of a borrowed entry with this number. If memory runs out, the bytes remain unchanged.
 pub fn write_seen(number: u64, seen: &Seen, into: &mut Vec<u8>) -> Result<(), NoMemory>
     ensures ok { OnOk result
         (into.new.items ≡ into.old.items ++ entry_text number (entry_seen seen.now)) }
@@ -37,7 +37,7 @@ pub fn write_seen(number: u64, seen: &Seen, into: &mut Vec<u8>) -> Result<(), No
     write_any(number, seen, into)
 }
 
-/// The same of any entry, piece by piece.
+/// Appends the line of any entry, part by part. If memory runs out, the bytes remain unchanged.
 #[inline(never)]
 fn write_any(number: u64, seen: &Seen, into: &mut Vec<u8>) -> Result<(), NoMemory>
     ensures ok { OnOk result
@@ -89,7 +89,7 @@ fn push_label(label: &SeenLabel, into: &mut Vec<u8>) -> Result<(), NoMemory>
     push_shown_terms(label, into)
 }
 
-/// The word and the places of a step.
+/// Appends the word and the places of a step.
 fn push_head(label: &SeenLabel, into: &mut Vec<u8>) -> Result<(), NoMemory>
     ensures ok { OnOk result (into.new.items ≡ into.old.items
         ++ (kind_word label.now.kind ++ shown_places label.now.kind label.now.from label.now.to)) }
@@ -111,7 +111,7 @@ fn push_shown_terms(label: &SeenLabel, into: &mut Vec<u8>) -> Result<(), NoMemor
     }
 }
 
-/// The word with which the line of such a step begins.
+/// Returns the word with which the line of a step of this kind begins.
 pub fn kind_word(kind: LabelKind) -> &'static [u8]
     ensures { result.now ≡ kind_word kind }
 {
@@ -166,7 +166,7 @@ fn push_all(terms: &[Term], into: &mut Vec<u8>) -> Result<(), NoMemory>
     }
 }
 
-/// Each term behind a comma.
+/// Appends a comma and the term, for each term.
 fn push_others(terms: &[Term], into: &mut Vec<u8>) -> Result<(), NoMemory>
     ensures ok { OnOk result
         (into.new.items ≡ into.old.items ++ flat_map (λ term. 44 ∷ term_text term) terms.now) }
@@ -194,7 +194,7 @@ fn push_numbers(numbers: &[i64], into: &mut Vec<u8>) -> Result<(), NoMemory>
     }
 }
 
-/// Each number behind a comma.
+/// Appends a comma and the number, for each number.
 fn push_other_numbers(numbers: &[i64], into: &mut Vec<u8>) -> Result<(), NoMemory>
     ensures ok { OnOk result (into.new.items
         ≡ into.old.items ++ flat_map (λ number. 44 ∷ term_text (Int number)) numbers.now) }
@@ -238,7 +238,7 @@ fn push_why(why: Why, into: &mut Vec<u8>) -> Result<(), NoMemory>
     push_text(why_word(why), into)
 }
 
-/// The word for why an input was dropped.
+/// Returns the word of the reason why an input was dropped.
 pub fn why_word(why: Why) -> &'static [u8]
     ensures { result.now ≡ why_word why }
 {
@@ -269,7 +269,7 @@ fn push_input(input: &Input, into: &mut Vec<u8>) -> Result<(), NoMemory>
     }
 }
 
-/// A word with the blank behind it, and the lane.
+/// Appends the word, which ends in a space, and the number of the lane.
 fn push_lane(word: &[u8], lane: u8, into: &mut Vec<u8>) -> Result<(), NoMemory>
     ensures ok { OnOk result (into.new.items ≡ into.old.items ++ (word.now ++ decimal lane)) }
     ensures err { OnErr result (KeepsPrefix into.old.items into.new.items) }
@@ -304,7 +304,7 @@ fn push_event(terms: &Terms, into: &mut Vec<u8>) -> Result<(), NoMemory>
     push_arguments(terms, into)
 }
 
-/// The arguments of a name in parentheses, where it has any.
+/// Appends the terms in parentheses, or nothing if there are no terms.
 fn push_arguments(terms: &Terms, into: &mut Vec<u8>) -> Result<(), NoMemory>
     ensures ok { OnOk result (into.new.items ≡ into.old.items ++ arguments_text terms.now) }
     ensures err { OnErr result (KeepsPrefix into.old.items into.new.items) }
@@ -318,7 +318,7 @@ fn push_arguments(terms: &Terms, into: &mut Vec<u8>) -> Result<(), NoMemory>
     Ok(())
 }
 
-/// A word with this in parentheses behind it.
+/// Appends the word, and `inner` in parentheses.
 fn push_of(word: &[u8], inner: &[u8], into: &mut Vec<u8>) -> Result<(), NoMemory>
     ensures ok { OnOk result
         (into.new.items ≡ into.old.items ++ (word.now ++ 40 ∷ inner.now ++ 41 ∷ [])) }
@@ -355,7 +355,7 @@ fn push_out(out: &Out, into: &mut Vec<u8>) -> Result<(), NoMemory>
     }
 }
 
-/// A number of one digit is put as its byte.
+/// Appends a number in decimal. A number of one digit is written as one byte, without a buffer.
 #[tactic(auto, using(std::proofs::lemmas::Fmt::decimal_digit))]
 fn push_number(number: u64, into: &mut Vec<u8>) -> Result<(), NoMemory>
     ensures ok { OnOk result (into.new.items ≡ into.old.items ++ decimal number) }

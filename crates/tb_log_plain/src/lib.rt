@@ -1,4 +1,4 @@
-//! A log in the words of people: processes and atoms by their names and places in the source.
+//! Writes a log in plain words for people. It names processes, and gives the places of atoms in the source.
 #![tactic(auto)]
 
 mod names;

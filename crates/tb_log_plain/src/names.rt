@@ -1,25 +1,29 @@
-//! The texts of processes, with the names of their bodies and the places of their atoms.
+//! Writes processes, with the names of their bodies and the places of their atoms.
 use crate::write::{put, put_number};
 use tb_terms::{Ident, Items, NoMemory};
 
-/// A place in the source: the line and the column, both from 1.
+/// A place in the source.
 #[derive(Clone, Copy, Debug, PartialEq, Eq)]
 pub struct Spot {
+    /// The line, from 1.
     pub line: usize,
+    /// The column, from 1.
     pub column: usize,
 }
 
-/// A definition of the script: its name, and where its atoms are, the one with number n at position n - 1.
+/// A process that the script defines.
 #[derive(Drop)]
 pub struct Named {
+    /// The name of the process.
     pub name: Ident,
+    /// The places of its atoms. The atom with number n has its place at position n - 1.
     pub spots: Items<Spot>,
 }
 
-/// The definitions in their order: a process has the body at the same position.
+/// The processes that the script defines, in order of definition. The index of a body is the position of its process here.
 pub type Names = Items<Named>;
 
-/// Appends `process 2 (Client)`: a process by its number and the name of its body.
+/// Appends a process, such as `process 2 (Client)`: its number, and the name of its body if the body is known.
 pub fn put_process(
     names: &Names,
     number: u32,
@@ -36,7 +40,8 @@ pub fn put_process(
     Ok(())
 }
 
-/// Appends `process 2 (Client) at 3:7`: the same, with the place of one of its atoms.
+/// Appends a process with the place of one of its atoms, such as `process 2 (Client) at 3:7`. If the place isn't known, appends only
+/// the process.
 pub fn put_at(
     names: &Names,
     number: u32,
@@ -54,7 +59,7 @@ pub fn put_at(
     Ok(())
 }
 
-/// Where an atom of a body is.
+/// Returns the place of an atom of a body.
 fn spot_of(names: &Names, body: u32, atom: u32) -> Option<Spot> {
     let named = names.get(body as usize)?;
     let spot = named.spots.get((atom as usize).saturating_sub(1))?;

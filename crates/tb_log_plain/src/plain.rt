@@ -1,4 +1,4 @@
-//! A log for people, line by line.
+//! Writes a log for people, line by line.
 
 use crate::names::{Names, put_at, put_process};
 use crate::write::{put, put_number, put_terms};
@@ -8,23 +8,24 @@ use tb_log::{Entry, Input, Label, LabelKind, Out, Place, Reply, ToolLine, Why, k
 use tb_log_read::{LineBuffers, read_entry_in};
 use tb_terms::{NoMemory, Term, push_quoted, write_term};
 
-/// The body of a process that the log hasn't told.
+/// The index of a body that isn't known: no line so far states which body the process has.
 const UNKNOWN: u32 = u32::MAX;
 
-/// A log that is read as it grows, of a script with these names. It keeps the body of each process and the time.
+/// The reader of a growing log of a program with these names. It stores the body of each process and the time.
 #[derive(Drop)]
 pub struct Plain<'a> {
     alloc: Global,
     program: &'a Program,
     names: &'a Names,
-    /// The body of each process, by its number from 1.
+    /// The index of the body of each process. The process with number n is at position n - 1.
     bodies: Vec<u32>,
+    /// The number of ticks that the bus took.
     ticks: u64,
     buffers: LineBuffers,
 }
 
 impl<'a> Plain<'a> {
-    /// A log that begins.
+    /// Returns the reader of a log from its first line on.
     pub fn new(
         alloc: Global,
         program: &'a Program,
@@ -44,8 +45,8 @@ impl<'a> Plain<'a> {
         })
     }
 
-    /// Appends what a line of the log, with its newline, tells people: nothing where it is idle. A line that is no entry's is
-    /// appended as it is, behind a question mark.
+    /// Appends the text for one line of the log, which includes its newline. Nothing is appended for a `quiet` entry or a tick. A
+    /// line that isn't an entry's is appended unchanged, after a question mark and a space.
     pub fn line(&mut self, line: &[u8], into: &mut Vec<u8>) -> Result<(), NoMemory> {
         match read_entry_in(self.alloc, line, &mut self.buffers)? {
             Some(numbered) => {
@@ -83,21 +84,21 @@ impl<'a> Plain<'a> {
         }
     }
 
-    /// A tick that is taken is time.
+    /// Counts a tick if the bus took it.
     fn tick(&mut self, reply: Reply) {
         if reply == Reply::Took {
             self.ticks = self.ticks.saturating_add(1);
         }
     }
 
-    /// How many ticks have passed, before each line.
+    /// Appends the number of ticks so far in brackets, as at the start of each line.
     fn time(&self, into: &mut Vec<u8>) -> Result<(), NoMemory> {
         put(b"[", into)?;
         put_number(self.ticks, into)?;
         put(b"] ", into)
     }
 
-    /// The body of a process, where the log has told it.
+    /// Returns the body of a process, or `UNKNOWN`.
     fn body_of(&self, number: u32) -> u32 {
         let place = (number as usize).saturating_sub(1);
         match self.bodies.get(place) {
@@ -116,7 +117,7 @@ impl<'a> Plain<'a> {
         )
     }
 
-    /// The line of a step.
+    /// Appends the line of a step.
     fn did(&self, label: &Label, into: &mut Vec<u8>) -> Result<(), NoMemory> {
         self.time(into)?;
         match label.kind {
@@ -158,7 +159,7 @@ impl<'a> Plain<'a> {
         put(b"\n", into)
     }
 
-    /// Keeps the body of a process that is created.
+    /// Stores the body of the process that a step creates.
     fn keep(&mut self, label: &Label) -> Result<(), NoMemory> {
         if label.kind == LabelKind::Create {
             let body = self.created_body(label);
@@ -167,7 +168,7 @@ impl<'a> Plain<'a> {
         Ok(())
     }
 
-    /// The body that an atom creates a process of.
+    /// Returns the body of the process that the step's atom creates, or `UNKNOWN`.
     fn created_body(&self, label: &Label) -> u32 {
         let body = self.body_of(label.from.proc);
         let Some(body) = self.program.bodies.get(body as usize) else {
@@ -183,7 +184,7 @@ impl<'a> Plain<'a> {
     }
 }
 
-/// The number of the process that a step creates.
+/// Returns the number of the process that a step creates, if its first term is such a number.
 fn created(label: &Label) -> Option<u32> {
     match label.terms.get(0) {
         Some(Term::Int(number)) => {
@@ -204,7 +205,7 @@ fn word_of(kind: LabelKind) -> &'static [u8] {
     }
 }
 
-/// The text that is printed, as it is; its last line gets a newline where it has none.
+/// Appends the printed text, unchanged. If it doesn't end in a newline, appends one.
 fn put_printed(label: &Label, into: &mut Vec<u8>) -> Result<(), NoMemory> {
     let Some(Term::Str(text)) = label.terms.get(0) else {
         return Ok(());
@@ -217,7 +218,7 @@ fn put_printed(label: &Label, into: &mut Vec<u8>) -> Result<(), NoMemory> {
     }
 }
 
-/// What came in, and why it was dropped, if it was.
+/// Appends the line of an input. If the bus dropped the input, the line begins with the reason.
 fn put_fed(input: &Input, reply: Reply, into: &mut Vec<u8>) -> Result<(), NoMemory> {
     if let Reply::Dropped(why) = reply {
         put(b"dropped, since ", into)?;
@@ -280,7 +281,7 @@ fn put_tool_line(line: &ToolLine, into: &mut Vec<u8>) -> Result<(), NoMemory> {
     }
 }
 
-/// What a lane was sent.
+/// Appends the line of an output on a lane.
 fn put_gave(lane: u8, out: &Out, into: &mut Vec<u8>) -> Result<(), NoMemory> {
     match out {
         Out::Start(command) => {

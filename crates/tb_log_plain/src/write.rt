@@ -1,4 +1,4 @@
-//! How texts are put together.
+//! Appends texts, numbers and terms to bytes.
 
 use itoa::Buffer;
 use tb_terms::{NoMemory, Term, write_term};
@@ -16,7 +16,7 @@ pub fn put_number(number: u64, into: &mut Vec<u8>) -> Result<(), NoMemory> {
     Ok(())
 }
 
-/// Appends a number with its word, which ends in `s` unless the number is 1.
+/// Appends a number and a word, with an `s` after the word unless the number is 1.
 pub fn put_count(number: u64, word: &[u8], into: &mut Vec<u8>) -> Result<(), NoMemory> {
     put_number(number, into)?;
     put(b" ", into)?;
@@ -36,7 +36,7 @@ pub fn put_terms(terms: &[Term], into: &mut Vec<u8>) -> Result<(), NoMemory> {
     Ok(())
 }
 
-/// Appends a comma before each but the first of a row.
+/// Appends a comma, unless `place` is 0: a caller writes it before each element of a sequence.
 pub fn put_comma(place: usize, into: &mut Vec<u8>) -> Result<(), NoMemory> {
     if place > 0 {
         put(b",", into)?;

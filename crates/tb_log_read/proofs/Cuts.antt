@@ -1,4 +1,4 @@
--- What stands before the first byte of a kind, and behind it.
+-- The bytes before the first separator, and after it.
 use Rattle.std.proofs.Common.{◌≡◌, ℕ, ◌+◌, ◌-◌, Bool, true, false, not, eqb, List, [], ◌∷◌, ◌++◌, length, refl, ap, sym, ◌∙◌, arith, length-append}
 use Rattle.std.specs.List.{list_all}
 use Rattle.std.proofs.lemmas.Bool.{false≢true, and_parts, and_from, eq-eqb, eqb-true}
@@ -6,7 +6,7 @@ use Rattle.std.proofs.lemmas.List.{take_at}
 use Rattle.std.proofs.lemmas.List.Folds.{list_all-append}
 use Rattle.tb_log_read.specs.Helpers.Cutting.{prefix, behind, without_last}
 
--- no byte is this one
+-- no byte is the separator
 abbrev pub lacks : ℕ → List ℕ → Bool
 lacks separator bytes = list_all (λ byte. not (eqb byte separator)) bytes
 
@@ -50,7 +50,7 @@ without_last-push xs x =
 pub lacks-append : (s : ℕ) (xs ys : List ℕ) → lacks s xs ≡ true → lacks s ys ≡ true → lacks s (xs ++ ys) ≡ true
 lacks-append s xs ys p q = list_all-append (λ byte. not (eqb byte s)) xs ys ∙ and_from (lacks s xs) (lacks s ys) p q
 
--- where each byte passes a test that the separator fails
+-- if each byte passes a test that the separator fails, no byte is the separator
 pub lacks_by : (p : ℕ → Bool) (s : ℕ) → p s ≡ false → (xs : List ℕ) → list_all p xs ≡ true → lacks s xs ≡ true
 lacks_by p s f [] h = refl
 lacks_by p s f (x ∷ xs) h =

@@ -61,7 +61,7 @@ label_terms-text t ts h w = by (terms_text (t ∷ ts)) (terms_of-text t ts h w) 
 
 -- Steps.
 
--- a place, without the blank before it
+-- a place, without the space before it
 abbrev place_text : Place → List ℕ
 place_text place = decimal place.proc ++ (46 ∷ decimal place.atom)
 
@@ -78,7 +78,7 @@ place_read place h =
     let point : lacks 32 (46 ∷ decimal place.atom) ≡ true = lacks-append 32 (46 ∷ []) (decimal place.atom) refl second in
     (lacks-append 32 (decimal place.proc) (46 ∷ decimal place.atom) first point, place_of-decimal place.proc place.atom proc atom)
 
--- a place, and the terms behind it
+-- a place, and the terms after it
 abbrev Behind : Place → List Term → Type 0
 Behind place ts = (prefix 32 (place_text place ++ term_words ts) ≡ place_text place) × (label_terms (behind 32 (place_text place ++ term_words ts)) ≡ Some ts)
 
@@ -133,7 +133,7 @@ label_read = kinds OfKind message_read
     (λ from to ts f t h w places count. end_read kind.Finish refl from to ts refl places count)
     (λ from to ts f t h w places count. end_read kind.Halt refl from to ts refl places count) one_read
 
--- Lines of tools.
+-- Lines from tools.
 
 tool_line_read : (line : ToolLine) → is_proper_tool_line line ≡ true → IsToolLineInShape line → tool_line_of (tool_line_words line) ≡ Some line
 tool_line_read (tool.Value t) h w = ap (λ (l : List ℕ). value_line (term_of l)) (without_last-push (term_text t) 41) ∙ ap value_line (term_of-text t h w)
@@ -190,7 +190,7 @@ fed_read : (reply : Reply) (input : Input) → InputRead input → words_of (fed
 fed_read Took input r = took_words input ∙ ap (fed_by Took) r
 fed_read (Dropped why) input r = drop_words why (input_words input) ∙ ap (fed_by (Dropped why)) r
 
--- What is handed out.
+-- Outputs.
 
 start_read : (command : List ℕ) → is_string command ≡ true → out_of (out_words (out.Start command)) ≡ Some (out.Start command)
 start_read command h =

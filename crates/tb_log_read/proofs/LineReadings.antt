@@ -1,4 +1,4 @@
--- A line that is an entry's says just this entry, and what it says is the entry where its text is the line.
+-- The line of an entry states this entry. An entry that a line states is the line's entry if the entry's text is the line.
 use Rattle.std.proofs.Common.{◌≡◌, ◌≤◌, ◌<◌, ◌^◌, ℕ, true, List, [], ◌∷◌, ◌++◌, Option, Some, None, refl, ap, sym, ◌∙◌, subst, arith}
 use Rattle.std.specs.Fmt.{decimal}
 use Rattle.tb_log.specs.LogText.{entry_words, entry_text}
@@ -54,14 +54,14 @@ found_by number words (Some entry) x fits e f =
     let same : numbered number entry ≡ x = cc in
     rw (← same) (fits, words_proper words entry e)
 
--- what a line says is its entry, where that has the line
+-- if the text of the stated entry is the line, the line is that of this entry
 pub says_line : (line : List ℕ) (x : Numbered) → numbered_of line ≡ Some x → (1 ≤ x.number) × InShape x.entry × (line ≡ entry_text x.number x.entry) → IsLine x.number x.entry line
 says_line line x e h =
     let text = prefix 10 line in
     let p = found_by (number64 (prefix 32 text)) (behind 32 text) (words_of (behind 32 text)) x (omega arith) refl e in
     record { from_one = h.0; fits = p.0; proper = p.1; shape = h.1; text = h.2 }
 
--- and where it doesn't have the line, this is no entry's
+-- if the line is that of any entry, the text of the stated entry is the line
 pub says_other : (line : List ℕ) (x : Numbered) (n : ℕ) (e : Entry) → numbered_of line ≡ Some x → IsLine n e line → (1 ≤ x.number) × InShape x.entry × (line ≡ entry_text x.number x.entry)
 says_other line x n e s l = along x (sym (line_says n e line l) ∙ s) where
   along : (x : Numbered) → Some (numbered n e) ≡ Some x → (1 ≤ x.number) × InShape x.entry × (line ≡ entry_text x.number x.entry)

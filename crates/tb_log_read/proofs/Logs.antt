@@ -1,4 +1,4 @@
--- One log has one text, and stops at one line.
+-- Logs with the same text are the same, and bytes stop at one line at most.
 use Rattle.std.proofs.Common.{◌≡◌, ◌⊎◌, ◌≤◌, ◌<◌, ◌^◌, ℕ, suc, ◌+◌, Bool, true, false, not, eqb, List, [], ◌∷◌, ◌++◌, length, Result, Ok, Err, refl, ap, sym, ◌∙◌, subst, inl, inr, arith, append_assoc, append-nil, length-append}
 use Rattle.std.specs.Fmt.{decimal}
 use Rattle.std.specs.Prelude.{IfOk, IfErr}
@@ -30,7 +30,7 @@ first_cut (x ∷ xs) rest h =
     let p = and_parts (not (eqb x 10)) (lacks 10 xs) h in
     rw (apart (eqb x 10) p.0) (ap (λ (l : List ℕ). x ∷ l) (first_cut xs rest p.1))
 
--- an entry that may be read, with this number
+-- an entry that can be read, with this number
 pub record Readable (n : ℕ) (e : Entry) : Type 0 where
   pub from_one : 1 ≤ n
   pub fits : n < 2 ^ 64
@@ -43,7 +43,7 @@ first_entry n e rest r = first_cut (decimal n ++ (32 ∷ entry_words e)) rest (t
 line_of : (n : ℕ) (e : Entry) (line : List ℕ) → Readable n e → line ≡ entry_text n e → IsLine n e line
 line_of n e line r t = record { from_one = r.from_one; fits = r.fits; proper = r.proper; shape = r.shape; text = t }
 
--- two texts that begin with the line of an entry with this number
+-- if two equal texts begin with the line of an entry with this number, the entries and the rests are equal
 same_first : (n : ℕ) (d e : Entry) (x y : List ℕ) → Readable n d → Readable n e → entry_text n d ++ x ≡ entry_text n e ++ y → (d ≡ e) × (x ≡ y)
 same_first n d e x y rd re same =
     let lines : entry_text n d ≡ entry_text n e = sym (first_entry n d x rd) ∙ ap first_line same ∙ first_entry n e y re in
@@ -57,7 +57,7 @@ no_text n e rest same =
     let none : 0 ≡ length (entry_text n e ++ rest) = ap (λ (l : List ℕ). length l) same in
     omega arith
 
--- Logs, numbered from n on.
+-- Logs that are numbered from n on.
 
 abbrev Readables : ℕ → List Entry → Type 0
 Readables n [] = Unit {0}
@@ -73,9 +73,9 @@ readables n (e ∷ es) from few p s =
 log_readables : (log : List Entry) → IsLog log → Readables 1 log
 log_readables log l = let few : length log < 2 ^ 64 = l.few in readables 1 log (omega arith) (omega arith) l.proper l.shape
 
--- Two logs whose texts agree as far as both go.
+-- Two logs whose texts agree up to the end of the shorter one.
 
--- the second is the first and then more, and what is left behind the first begins with the line of the next entry
+-- the second log is the first log and more entries; the bytes after the text of the first begin with the line of the next entry
 pub record NextEntry (n : ℕ) (xs ys : List Entry) (x : List ℕ) : Type 0 where
   pub entry : Entry
   pub more : List Entry
@@ -119,11 +119,11 @@ before_from n (a ∷ xs) (b ∷ ys) x y p q l e =
     let rest = before_from (n + 1) xs ys x y p.1 q.1 (omega arith) f.1 in
     (ap (λ (c : Entry). c ∷ xs) f.0 ∙ ap (λ (l : List Entry). b ∷ l) rest.0, rest.1)
 
--- the longer one goes on with an entry
+-- the longer log continues with an entry
 pub next_entry : (xs ys : List Entry) (x y : List ℕ) → IsLog xs → IsLog ys → length xs < length ys → log_text xs ++ x ≡ log_text ys ++ y → NextEntry 1 xs ys x
 next_entry xs ys x y p q l e = next_from 1 xs ys x y (log_readables xs p) (log_readables ys q) l e
 
--- logs of one length are the same
+-- logs with the same length are equal
 pub same_before : (xs ys : List Entry) (x y : List ℕ) → IsLog xs → IsLog ys → length xs ≡ length ys → log_text xs ++ x ≡ log_text ys ++ y → (xs ≡ ys) × (x ≡ y)
 same_before xs ys x y p q l e = before_from 1 xs ys x y (log_readables xs p) (log_readables ys q) l e
 
@@ -135,7 +135,7 @@ none_next xs ys y p q l e =
     let next = next_entry xs ys [] y p q l e in
     no_line (1 + length xs) next.entry next.line
 
--- a log is longer than one behind which something of its text is left
+-- if the text of a log is the text of another log and more bytes, the log has more entries
 pub is_longer : (xs ys : List Entry) (x : List ℕ) → IsLog xs → IsLog ys → (x ≡ [] → ⊥) → log_text xs ++ x ≡ log_text ys → length xs < length ys
 is_longer xs ys x p q some e = by (cases_order (length xs) (length ys)) where
   both : log_text xs ++ x ≡ log_text ys ++ []
@@ -146,7 +146,7 @@ is_longer xs ys x p q some e = by (cases_order (length xs) (length ys)) where
   by (inr (inl less)) = less
   by (inr (inr more)) = absurd (none_next ys xs x q p more (sym both))
 
--- logs with the same text are the same
+-- logs with the same text are equal
 pub same_logs : (xs ys : List Entry) → IsLog xs → IsLog ys → log_text xs ≡ log_text ys → xs ≡ ys
 same_logs xs ys p q e = by (cases_order (length xs) (length ys)) where
   both : log_text xs ++ [] ≡ log_text ys ++ []
@@ -157,7 +157,7 @@ same_logs xs ys p q e = by (cases_order (length xs) (length ys)) where
   by (inr (inl less)) = absurd (none_next xs ys [] p q less both)
   by (inr (inr more)) = absurd (none_next ys xs [] q p more (sym both))
 
--- What a reading answers.
+-- The results of reading.
 
 goes_past : (bytes : List ℕ) (n : ℕ) (s : StopsAt bytes n) (log : List Entry) (y : List ℕ) → IsLog log → length s.log < length log → bytes ≡ log_text log ++ y → ⊥
 goes_past bytes n s log y l less e =

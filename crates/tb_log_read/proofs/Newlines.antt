@@ -1,4 +1,4 @@
--- No line but at its end has a newline.
+-- The line of an entry has a newline only at its end.
 use Rattle.std.proofs.Common.{◌≡◌, ℕ, ◌^◌, ◌<◌, Bool, true, false, ◌&&◌, cond, eqb, ltb, List, [], ◌∷◌, ◌++◌, Option, Some, None, refl, arith}
 use Rattle.std.specs.Prelude.{codes}
 use Rattle.std.specs.Fmt.{decimal}
@@ -155,6 +155,6 @@ words_line (Gave lane out) h =
     let p = and_parts (ltb lane (2 ^ 8)) (is_proper_out out) h in
     both (codes "out " ++ decimal lane) (32 ∷ out_words out) (lane_line (codes "out ") lane refl p.0) (both (32 ∷ []) (out_words out) refl (out_line out p.1))
 
--- the line of an entry, but for its newline
+-- the line of an entry without its newline
 pub text_line : (number : ℕ) (entry : Entry) → number < 2 ^ 64 → is_proper_entry entry ≡ true → lacks 10 (decimal number ++ (32 ∷ entry_words entry)) ≡ true
 text_line number entry n h = both (decimal number) (32 ∷ entry_words entry) (decimal_line number n) (both (32 ∷ []) (entry_words entry) refl (words_line entry h))

@@ -1,10 +1,10 @@
--- A part and what is behind its comma.
+-- A part, and the bytes after its comma.
 use Rattle.std.proofs.Common.{◌≡◌, ℕ, Bool, true, false, List, [], ◌∷◌, length, take, drop, refl, ap, sym, ◌∙◌, arith}
 use Rattle.tb_log_read.specs.Helpers.Parts.{after, is_cut, part_len, parts_from, parts}
 use Rattle.tb_log_read.specs.declared.part.Standing.{Standing}
 use Rattle.tb_log_read.specs.declared.part.Standing.TheVariants.{Plain}
 
--- the parts behind the first, by the bytes from its comma on
+-- the parts after the first one, from the bytes that begin with its comma
 abbrev pub parts_behind : List ℕ → List (List ℕ)
 parts_behind [] = []
 parts_behind (comma ∷ bytes) = parts bytes
@@ -13,7 +13,7 @@ parted_by : (cuts : Bool) (s : Standing) (b : ℕ) (bytes : List ℕ) → is_cut
 parted_by true s b bytes e h = rw e refl
 parted_by false s b bytes e h = rw (e, h) refl
 
--- by how long the first part is
+-- the first part, by its length, and the other parts
 pub parted : (s : Standing) (bytes : List ℕ) → parts_from s bytes ≡ take (part_len s bytes) bytes ∷ parts_behind (drop (part_len s bytes) bytes)
 parted s [] = refl
 parted s (b ∷ bytes) = parted_by (is_cut s b) s b bytes refl (parted (after s b) bytes)

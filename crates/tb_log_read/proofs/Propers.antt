@@ -1,4 +1,4 @@
--- What is read is proper: its numbers fit their types, and its terms, strings and names are such.
+-- Each value that is read is well-formed: its numbers fit their types, and its terms, strings and names are well-formed.
 use Rattle.std.proofs.Common.{◌≡◌, ◌⊎◌, ◌≤◌, ◌<◌, ◌^◌, ℕ, zero, suc, ℤ, pos, neg_ℤ, Bool, true, false, ◌&&◌, cond, ltb, List, [], ◌∷◌, ◌++◌, map, Option, Some, None, refl, ap, sym, ◌∙◌, subst, inl, inr, arith, append_assoc, append-nil}
 use Rattle.std.specs.Prelude.{codes}
 use Rattle.std.specs.Str.{bytes_eq}
@@ -52,7 +52,7 @@ number_bits z text s = by s.signed where
 abbrev All : List Bool → Bool
 All bs = list_all (λ part. part) bs
 
--- A term whose tokens come first is proper, and the others follow.
+-- If the tokens of a term come first, the term is well-formed, and the other tokens follow.
 abbrev Read : Term → Type 0
 Read t = (ks : _) (bytes : List ℕ) → Spaced (tokens_of t ++ ks) bytes → (is_proper t ≡ true) × ((rest : List ℕ) × Spaced ks rest)
 
@@ -107,7 +107,7 @@ term_read = term_induction Read int_read str_read appl_read list_read
 reads_proper : (bytes : List ℕ) (t : Term) → Reads bytes t → is_proper t ≡ true
 reads_proper bytes t r = (term_read t [] bytes (rw append-nil r)).0
 
--- What an option has passes a test.
+-- If the option has a value, the value passes the test.
 abbrev Gives : {X : Type 0} → (X → Bool) → Option X → Type 0
 Gives test None = Unit {0}
 Gives test (Some x) = test x ≡ true
@@ -165,7 +165,7 @@ either : {X : Type 0} (test : X → Bool) (b : Bool) (x y : Option X) → Gives 
 either test true x y p q = p
 either test false x y p q = q
 
--- where a test decides, it holds of what it lets through
+-- if a test decides whether there is a value, each value passes the test
 tested : {X : Type 0} (test : X → Bool) (b : Bool) (x : X) → (b ≡ true → test x ≡ true) → Gives test (cond b (Some x) None)
 tested test true x p = p refl
 tested test false x p = tt
@@ -211,7 +211,7 @@ dropped_gives : (why : Option Why) (o : Option Input) → Gives is_proper_input 
 dropped_gives None o p = tt
 dropped_gives (Some why) o p = fed_gives (Dropped why) o p
 
--- What is handed out.
+-- Outputs.
 
 handed_gives : (name : List ℕ) (o : Option (List Term)) → Gives are_proper o → Gives is_proper_out (line_of name o)
 handed_gives name None p = tt

@@ -1,4 +1,4 @@
--- What a reading finds is the one term of the bytes, where they have one within the limits.
+-- Reading finds the only term of the bytes, if they have a term within the limits.
 use Rattle.std.proofs.Common.{◌≡◌, ℕ, List, Some, None, refl, ap, inl, inr}
 use Rattle.tb_terms.specs.Sizes.{IsWithinLimits}
 use Rattle.tb_terms.specs.declared.term.Term.{Term}
@@ -24,7 +24,7 @@ found_fault : (bytes : List ℕ) (one : OneOf bytes) (f : TermFault) → HasFaul
 found_fault bytes (inl found) f h n = absurd (n (no_fault 65536 64 bytes found.0 f found.1 (found.2.size, found.2.levels) h))
 found_fault bytes (inr fault) f h n = refl
 
--- none where the bytes have a fault
+-- no term if the bytes have an error
 pub term_of-fault : (bytes : List ℕ) (f : TermFault) → HasFault bytes f → (f ≡ fault.NoMemory → ⊥) → term_of bytes ≡ None
 unfolding term_of
 term_of-fault bytes f h n = found_fault bytes (has_one bytes) f h n
@@ -35,7 +35,7 @@ found_is bytes (inl found) t e =
     rw (← is) (found.1, found.2)
 found_is bytes (inr fault) t e = cc
 
--- what is found reads so
+-- the bytes parse as the term that is found, and it is within the limits
 pub term_of-is : (bytes : List ℕ) (t : Term) → term_of bytes ≡ Some t → Reads bytes t × IsWithinLimits t
 unfolding term_of
 term_of-is bytes t e = found_is bytes (has_one bytes) t e

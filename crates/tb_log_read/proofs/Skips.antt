@@ -1,4 +1,4 @@
--- The texts of terms are parted between each two, and nowhere within one.
+-- The text of several terms is split between each two terms, and never within a term.
 use Rattle.std.proofs.Common.{◌≡◌, ℕ, suc, ◌+◌, ◌-◌, Bool, true, false, cond, eqb, List, [], ◌∷◌, ◌++◌, map, Option, Some, None, refl, ap, sym, ◌∙◌, arith, append_assoc, append-nil, add-one}
 use Rattle.std.specs.List.{list_all, flat_map, All}
 use Rattle.std.proofs.lemmas.Bool.{false≢true, and_parts, and_right, eqb-true, ne_eqb, false_from_ne_true}
@@ -28,7 +28,7 @@ onto_all-first : (xs p : List ℕ) (ps : List (List ℕ)) → onto_all xs (p ∷
 onto_all-first [] p ps = refl
 onto_all-first (x ∷ xs) p ps = ap (onto x) (onto_all-first xs p ps)
 
--- from one standing to the other no part ends in these bytes
+-- these bytes lead from one state to the other, and no part ends in them
 abbrev Skips : Standing → Standing → List ℕ → Type 0
 Skips s t xs = (rest : List ℕ) → parts_from s (xs ++ rest) ≡ onto_all xs (parts_from t rest)
 

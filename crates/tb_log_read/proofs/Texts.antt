@@ -1,4 +1,4 @@
--- What holds of the text of each term, where it holds of names and strings, and goes over brackets.
+-- A property of the text of each term, from the property of names and strings; the property holds at each depth of brackets.
 use Rattle.std.proofs.Common.{◌≡◌, ℕ, ℤ, pos, negsuc, suc, ◌^◌, ◌<◌, Bool, true, false, ◌||◌, eqb, List, [], ◌∷◌, ◌++◌, map, refl, sym, ◌∙◌, subst, arith, append_assoc}
 use Rattle.std.specs.Fmt.{decimal, signed_decimal}
 use Rattle.std.specs.List.{list_all, AllByRecursion}
@@ -30,7 +30,7 @@ bytes_of_name (c ∷ cs) h =
     let first : is_name_byte c ≡ true = rw p.0 refl in
     and_from (is_name_byte c) (list_all is_name_byte cs) first p.1
 
--- the bytes of a property that is kept by ++, within so many brackets
+-- a property of bytes at a depth of brackets; the property is kept by `++`
 module _ (Q : ℕ → List ℕ → Type 0) (none : (d : ℕ) → Q d []) (more : (d : ℕ) (xs ys : List ℕ) → Q d xs → Q d ys → Q d (xs ++ ys)) (plain : (d b : ℕ) → is_name_byte b ≡ true → Q d (b ∷ [])) (string : (d : ℕ) (s : List ℕ) → is_string s ≡ true → Q d (quoted s)) (comma : (d : ℕ) → Q (suc d) (44 ∷ [])) (paren : (d : ℕ) (xs : List ℕ) → Q (suc d) xs → Q d ((40 ∷ xs) ++ (41 ∷ []))) (square : (d : ℕ) (xs : List ℕ) → Q (suc d) xs → Q d ((91 ∷ xs) ++ (93 ∷ []))) where
   pub name_text : (d : ℕ) (xs : List ℕ) → list_all is_name_byte xs ≡ true → Q d xs
   name_text d [] h = none d

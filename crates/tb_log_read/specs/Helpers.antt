@@ -1,4 +1,4 @@
--- Definitions that proofs and private functions need, and that nobody has to believe.
+-- Definitions for proofs and private functions. Nobody has to trust them.
 pub mod Cutting
 pub mod Entries
 pub mod Numbers

@@ -1,4 +1,4 @@
-//! Memory that serves again for each line that is read.
+//! Memory that is reused for each line of a log.
 ghost use Rattle.std.specs.Prelude.{◌≡◌, []};
 
 use std::alloc::Global;
@@ -6,17 +6,17 @@ use std::mem::replace;
 use tb_log::{Entry, Label};
 use tb_terms::{Items, Terms};
 
-/// Memory that serves again for each line that is read. What it holds says nothing.
+/// Memory that is reused for each line of a log. Its content has no meaning between two lines.
 #[derive(Drop)]
 pub struct LineBuffers {
-    /// In this an entry is written again, to be compared with its line.
+    /// The text of the entry that was read, for the comparison with its line.
     pub(crate) text: Vec<u8>,
     /// The list for the terms of a step.
     terms: Terms,
 }
 
 impl LineBuffers {
-    /// Nothing is kept yet.
+    /// Returns buffers without memory.
     pub fn new(alloc: Global) -> LineBuffers {
         LineBuffers {
             text: Vec::new(alloc),
@@ -24,7 +24,7 @@ impl LineBuffers {
         }
     }
 
-    /// Drops an entry, and keeps the list of a step's terms. An empty list has no memory that is worth it.
+    /// Drops an entry, and keeps the memory of the list of a step's terms. An empty list isn't kept.
     pub fn give_back(&mut self, entry: Entry) {
         if let Entry::Did(label) = entry {
             let Label { terms, .. } = label;
@@ -34,7 +34,7 @@ impl LineBuffers {
         }
     }
 
-    /// Returns a list without terms, in the memory that was kept.
+    /// Returns an empty list, in the memory that was kept.
     pub(crate) fn take_terms(&mut self, alloc: Global) -> Terms
         ensures { result ≡ [] }
     {

@@ -1,13 +1,13 @@
-//! The reasons why bytes are no text of a log.
+//! The reasons why bytes aren't the text of a log.
 use std::alloc::{AllocError, AllocFailed};
 use tb_terms::NoMemory;
 
-/// Why bytes are no text of a log.
+/// The reason why bytes aren't the text of a log.
 #[derive(Clone, Copy, Debug, PartialEq, Eq)]
 pub enum LogFault {
-    /// The first line, counted from 1, that isn't the line of an entry with this number.
+    /// The number, from 1, of the first line that isn't the line of an entry with that number.
     Line(u64),
-    /// There wasn't memory enough; it says nothing of the bytes.
+    /// Memory ran out. This states nothing about the bytes.
     NoMemory,
 }
 

@@ -1,4 +1,4 @@
-//! The reading of logs: each line that is the text of an entry gives its number and the entry.
+//! Reads logs: from each line that is the text of an entry, it gets the number and the entry.
 #![tactic(auto)]
 
 mod buffers;

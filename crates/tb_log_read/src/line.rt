@@ -1,4 +1,4 @@
-//! The entry of one line, with its number.
+//! Reads the entry of one line, with its number.
 ghost use Rattle.std.specs.Prelude.{◌≡◌, ◌≤◌, ◌<◌, ◌^◌, ◌↔◌, ℕ, Some, IsTrue, IfOk, IfSome};
 ghost use Rattle.tb_log.specs.LogText.{entry_text};
 ghost use Rattle.tb_log.specs.Shapes.{InShape};
@@ -14,19 +14,22 @@ use std::alloc::Global;
 use tb_log::{Entry, is_in_shape, write_entry};
 use tb_terms::NoMemory;
 
-/// An entry, and the number that its line has.
+/// An entry and its number.
 #[derive(Drop)]
 pub struct Numbered {
+    /// The number of the entry, with which its line begins.
     pub number: u64,
+    /// The entry.
     pub entry: Entry,
 }
 
-/// The entry whose line this is, newline and all, with its number. None where it is the line of no entry in shape.
+/// Returns the entry whose line this is, with its number. The line includes its newline. Returns `None` if no entry in shape has this
+/// line.
 pub fn read_entry(alloc: Global, line: &[u8]) -> Result<Option<Numbered>, NoMemory>
     ensures found { IfOk result
         (λ found. IfSome found (λ numbered. IsLine numbered.number numbered.entry line.now)) }
 
-    // Nothing else keeps an entry from being read.
+    // If an entry has this line, the call returns the entry or runs out of memory.
     ensures only { (number : ℕ) (entry : Entry) → IsLine number entry line.now
         → IfOk result (λ found. found ≡ Some (record { number = number; entry = entry })) }
 {
@@ -34,7 +37,8 @@ pub fn read_entry(alloc: Global, line: &[u8]) -> Result<Option<Numbered>, NoMemo
     read_entry_in(alloc, line, &mut buffers)
 }
 
-/// The same, in memory that is lent. If each entry is given back to the buffers, a line takes memory for its terms alone.
+/// Returns the same as `read_entry`, and reuses the memory of the buffers. If each entry is given back to the buffers, reading a line
+/// takes memory only for its terms.
 pub fn read_entry_in(
     alloc: Global,
     line: &[u8],
@@ -43,7 +47,7 @@ pub fn read_entry_in(
     ensures found { IfOk result
         (λ found. IfSome found (λ numbered. IsLine numbered.number numbered.entry line.now)) }
 
-    // Nothing else keeps an entry from being read.
+    // If an entry has this line, the call returns the entry or runs out of memory.
     ensures only { (number : ℕ) (entry : Entry) → IsLine number entry line.now
         → IfOk result (λ found. found ≡ Some (record { number = number; entry = entry })) }
 {
@@ -57,7 +61,7 @@ pub fn read_entry_in(
     }
 }
 
-/// What the line says, if it is an entry's.
+/// Returns the number and the entry that the line states, provided that the line is an entry's. Otherwise, the result has no meaning.
 fn read_numbered(
     alloc: Global,
     line: &[u8],
@@ -76,7 +80,7 @@ fn read_numbered(
     }
 }
 
-/// Whether an entry is in shape, and the line is its own, byte for byte.
+/// Returns whether the number isn't 0, the entry is in shape, and its line is exactly this one.
 fn is_line(numbered: &Numbered, line: &[u8], text: &mut Vec<u8>) -> Result<bool, NoMemory>
     ensures { IfOk result (λ is. IsTrue is ↔ ((1 ≤ numbered.now.number) × InShape numbered.now.entry
         × (line.now ≡ entry_text numbered.now.number numbered.now.entry))) }

@@ -1,4 +1,4 @@
-//! The log of some bytes, line by line.
+//! Reads a log, line by line.
 ghost use Rattle.std.specs.Prelude.{◌≡◌, ◌<◌, ◌≤◌, ◌⊎◌, ◌++◌, ℕ, List, Ok, Err, length, take, IfOk, IfErr};
 ghost use Rattle.tb_log.specs.LogText.{log_text};
 ghost use Rattle.tb_log.specs.declared.entry.Entry.{Entry};
@@ -11,16 +11,16 @@ use std::alloc::Global;
 use tb_log::{Entries, Entry};
 use tb_terms::Items;
 
-/// The log whose text the bytes are: entries in shape, numbered from 1, a line each.
+/// Returns the log whose text the bytes are: entries in shape, numbered from 1, one line each.
 pub fn read_log(alloc: Global, bytes: &[u8]) -> Result<Entries, LogFault>
     ensures found { IfOk result (λ log. IsLog log × (bytes.now ≡ log_text log)) }
 
-    // Nothing else keeps a log from being read.
+    // If the bytes are the text of a log, the call returns the log or runs out of memory.
     ensures only { (log : List Entry) → IsLog log → bytes.now ≡ log_text log
         → (result ≡ Ok log) ⊎ (result ≡ Err LogFault.NoMemory) }
     ensures fault { IfErr result (HasFault bytes.now) }
 
-    // Where a line is no entry's, this is what comes.
+    // If a line isn't an entry's, the call reports the first such line or runs out of memory.
     ensures exact { (number : ℕ) → StopsAt bytes.now number
         → (result ≡ Err (LogFault.Line number)) ⊎ (result ≡ Err LogFault.NoMemory) }
 {
@@ -43,7 +43,7 @@ fn read(alloc: Global, bytes: &[u8]) -> Result<Entries, LogFault>
     Ok(entries)
 }
 
-/// The entry of this line, newline and all, where its number is this one. Else the fault has this number.
+/// Returns the entry of this line, which includes its newline, if the entry has this number. Otherwise, the error has this number.
 pub fn read_line(
     alloc: Global,
     number: u64,
@@ -59,7 +59,7 @@ pub fn read_line(
     }
 }
 
-/// The first line, with its newline if it has one, and what is behind it.
+/// Returns the first line, with its newline if it has one, and the bytes after the line.
 pub fn split_line(bytes: &[u8]) -> (&[u8], &[u8])
     requires { 0 < length bytes.now }
     ensures line { result.0.now ≡ first_line bytes.now }
@@ -69,7 +69,7 @@ pub fn split_line(bytes: &[u8]) -> (&[u8], &[u8])
     bytes.split_at(line_len(bytes))
 }
 
-/// How long the first line is.
+/// Returns the length of the first line, with its newline if it has one.
 fn line_len(bytes: &[u8]) -> usize
     requires { 0 < length bytes.now }
     ensures line { take result bytes.now ≡ first_line bytes.now }

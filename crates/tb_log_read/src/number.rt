@@ -1,4 +1,4 @@
-//! The numbers and the places in a line.
+//! Reads the numbers and the places in a line.
 ghost use Rattle.std.specs.Prelude.{◌≡◌};
 ghost use Rattle.tb_log_read.specs.Helpers.Numbers.{number64, number32, number8, place_of};
 
@@ -6,7 +6,7 @@ use crate::cut::cut;
 use tb_log::Place;
 use tb_read::digits_value;
 
-/// What digits are worth. The greatest number of the type stands for all greater ones.
+/// Returns the value of the digits, or the greatest number of the type if the value is greater.
 pub(crate) fn number64(digits: &[u8]) -> u64
     ensures { result ≡ number64 digits.now }
 {
@@ -25,7 +25,7 @@ pub(crate) fn number8(digits: &[u8]) -> u8
     u8::try_from(number64(digits)).unwrap_or(u8::MAX)
 }
 
-/// The place that is written so: two numbers with a point between them.
+/// Returns the place that the word spells: two numbers with a point between them.
 pub(crate) fn place_of(word: &[u8]) -> Place
     ensures { result ≡ place_of word.now }
 {

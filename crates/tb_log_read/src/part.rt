@@ -1,19 +1,20 @@
-//! The search for the next part of a list, which ends at a comma outside brackets and strings.
+//! Finds the next part of a list of terms. A part ends at a comma outside brackets and strings.
 ghost use Rattle.std.specs.Prelude.{◌≡◌, ◌≤◌, ◌<◌, ◌+◌, ◌∷◌, length, IfSome};
 ghost use Rattle.std.specs.Option.{option_copied};
 ghost use Rattle.tb_log_read.specs.Helpers.Parts.{depth_of, after, plain_after, is_cut, part_len, parts, more_parts};
 
-/// Where a reader of terms stands, within so many brackets.
+/// The state of a reader of terms, with the number of open brackets.
 #[derive(Clone, Copy, PartialEq, Eq)]
 pub(crate) enum Standing {
+    /// Outside strings.
     Plain(usize),
     /// Within a string.
     Quoted(usize),
-    /// Within a string, behind a backslash.
+    /// Within a string, after a backslash.
     Escaped(usize),
 }
 
-/// The bytes up to the first comma that stands in no brackets and no string, and what is behind it.
+/// Returns the bytes before the first comma outside brackets and strings, and the bytes after that comma.
 pub(crate) fn next_part(bytes: &[u8]) -> (&[u8], Option<&[u8]>)
     ensures parts { parts bytes.now ≡ result.0.now ∷ more_parts (option_copied result.1) }
     ensures shorter { IfSome result.1 (λ more. length more.now < length bytes.now) }
@@ -39,7 +40,7 @@ fn part_len(bytes: &[u8]) -> usize
     bytes.len()
 }
 
-/// Whether a part ends with this byte.
+/// Returns whether a part ends before this byte.
 fn is_cut(standing: Standing, byte: u8) -> bool
     ensures { result ≡ is_cut standing byte }
 {

@@ -1,4 +1,4 @@
-//! The terms in a line.
+//! Reads the terms in a line.
 ghost use Rattle.std.specs.Prelude.{◌≡◌, ◌↔◌, [], IsTrue, IfOk};
 ghost use Rattle.tb_read.specs.declared.fault.TermFault.{TermFault};
 ghost use Rattle.tb_log_read.specs.Helpers.Terms.{term_of, terms_of, label_terms};
@@ -9,7 +9,7 @@ use std::alloc::Global;
 use tb_read::{TermFault, read_term};
 use tb_terms::{Items, NoMemory, Term, Terms};
 
-/// The terms of a step: none where nothing is written.
+/// Returns the terms of a step. If there are no bytes, there are no terms.
 pub(crate) fn read_label_terms(
     alloc: Global,
     bytes: &[u8],
@@ -24,14 +24,14 @@ pub(crate) fn read_label_terms(
     read_terms_into(alloc, bytes, terms)
 }
 
-/// The terms whose texts are parted by commas; none where one is no term within the limits.
+/// Returns the terms whose texts the bytes are, split on commas. Returns `None` if a part isn't a term within the limits.
 pub(crate) fn read_terms(alloc: Global, bytes: &[u8]) -> Result<Option<Terms>, NoMemory>
     ensures { IfOk result (λ found. found ≡ terms_of bytes.now) }
 {
     read_terms_into(alloc, bytes, Items::new(alloc))
 }
 
-/// The same in an empty list.
+/// Adds the terms to an empty list and returns the list. Returns `None` if a part isn't a term within the limits.
 fn read_terms_into(alloc: Global, bytes: &[u8], mut terms: Terms) -> Result<Option<Terms>, NoMemory>
     requires { terms ≡ [] }
     ensures { IfOk result (λ found. found ≡ terms_of bytes.now) }
@@ -50,7 +50,7 @@ fn read_terms_into(alloc: Global, bytes: &[u8], mut terms: Terms) -> Result<Opti
     }
 }
 
-/// The term with this text, where it is one within the limits.
+/// Returns the term with this text, or `None` if there is no such term within the limits.
 pub(crate) fn read_one(alloc: Global, bytes: &[u8]) -> Result<Option<Term>, NoMemory>
     ensures { IfOk result (λ found. found ≡ term_of bytes.now) }
 {

@@ -1,11 +1,11 @@
-//! The bytes of a string whose escapes are decoded.
+//! Decodes the escapes of a string.
 ghost use Rattle.std.specs.Prelude.{◌≡◌, false, IfOk};
 ghost use Rattle.tb_log_read.specs.Helpers.Unescaping.{unescaped_from, letter_byte};
 
 use std::alloc::Global;
 use tb_terms::NoMemory;
 
-/// The bytes of a string that is written so, without its quotes.
+/// Returns the bytes of a string, of which `bytes` is the text without its quotes.
 pub(crate) fn unescape(alloc: Global, bytes: &[u8]) -> Result<Vec<u8>, NoMemory>
     ensures { IfOk result (λ text. text.items ≡ unescaped_from false bytes.now) }
 {
@@ -24,7 +24,7 @@ pub(crate) fn unescape(alloc: Global, bytes: &[u8]) -> Result<Vec<u8>, NoMemory>
     Ok(text)
 }
 
-/// The byte for which this letter stands behind a backslash.
+/// Returns the byte that this letter represents after a backslash.
 fn letter_byte(letter: u8) -> u8
     ensures { result ≡ letter_byte letter }
 {

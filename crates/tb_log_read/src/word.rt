@@ -1,4 +1,4 @@
-//! The words that name kinds of steps and reasons of dropped inputs.
+//! Reads the words of kinds of steps and of reasons why inputs are dropped.
 ghost use Rattle.std.specs.Prelude.{◌≡◌};
 ghost use Rattle.std.specs.Str.{bytes_eq};
 ghost use Rattle.tb_log_read.specs.Helpers.Words.{kind_of, plain_kind, tool_or_down_kind, why_of};
@@ -11,7 +11,7 @@ pub(crate) fn is_word(bytes: &[u8], word: &[u8]) -> bool
     bytes == word
 }
 
-/// The kind of step whose line begins with this word.
+/// Returns the kind of step whose line begins with this word.
 pub(crate) fn kind_of(word: &[u8]) -> Option<LabelKind>
     ensures { result ≡ kind_of word.now }
 {
@@ -21,7 +21,7 @@ pub(crate) fn kind_of(word: &[u8]) -> Option<LabelKind>
     }
 }
 
-/// The same, for a step that neither speaks with a tool nor takes the bus down.
+/// Returns the kind of step with this word, if the step neither concerns a tool nor shuts down the bus.
 fn plain_kind(word: &[u8]) -> Option<LabelKind>
     ensures { result ≡ plain_kind word.now }
 {
@@ -58,7 +58,7 @@ fn plain_kind(word: &[u8]) -> Option<LabelKind>
     None
 }
 
-/// The same, for one that speaks with a tool or takes the bus down.
+/// Returns the kind of step with this word, if the step concerns a tool or shuts down the bus.
 fn tool_or_down_kind(word: &[u8]) -> Option<LabelKind>
     ensures { result ≡ tool_or_down_kind word.now }
 {
@@ -101,7 +101,7 @@ fn tool_or_down_kind(word: &[u8]) -> Option<LabelKind>
     None
 }
 
-/// Why an input was dropped, where this word says it.
+/// Returns the reason for dropping an input that this word names.
 pub(crate) fn why_of(word: &[u8]) -> Option<Why>
     ensures { result ≡ why_of word.now }
 {

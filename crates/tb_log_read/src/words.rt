@@ -1,4 +1,4 @@
-//! The entry of a line, by its words.
+//! Reads an entry from the words of its line.
 ghost use Rattle.std.specs.Prelude.{◌≡◌, false, IfOk};
 ghost use Rattle.tb_log_read.specs.Helpers.Cutting.{behind, without_last};
 ghost use Rattle.tb_log_read.specs.Helpers.Unescaping.{unescaped_from};
@@ -17,7 +17,8 @@ use tb_terms::{Items, Name, NoMemory, Term, Terms, Text};
 /// No atom.
 const NOWHERE: Place = Place { proc: 0, atom: 0 };
 
-/// The entry whose line has these words. Words that are no entry's may give one too: its line is another.
+/// Returns the entry whose line has these words. If no entry has these words, the call can also return an entry, which has another
+/// line.
 pub(crate) fn read_words(
     alloc: Global,
     bytes: &[u8],

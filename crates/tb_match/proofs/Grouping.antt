@@ -13,7 +13,7 @@ Binds = List Bind
 abbrev Found : Type 0
 Found = Option Binds
 
--- steps that may fail, one after another
+-- steps that can fail, in order
 chain : (f g : Binds → Found) (o : Found) → option_and_then g (option_and_then f o) ≡ option_and_then (λ (a : Binds). option_and_then g (f a)) o
 chain f g None = refl
 chain f g (Some a) = refl
@@ -66,7 +66,7 @@ bound-here x b =
     let e : (x.slot == x.slot) ≡ true = search rules in
     rw e refl
 
--- where the term is the one that is bound, nothing is added
+-- if there is a result, the slot is bound to the same term, and no bind is added
 pub agreed_same : (t : Bool) (a all : Binds) → ◌≡◌ {A = Found} (if t then Some a else None) (Some all) → (t ≡ true) × (a ≡ all)
 agreed_same true a all e = (refl, cc)
 agreed_same false a all e = absurd (cc)
@@ -105,7 +105,7 @@ last_or_before a b ab y s w here before (inl q) =
     sym (ap (λ (n : ℕ). bound n ab) at) ∙ here ∙ ap (λ (v : Term). Some v) q.1
 last_or_before a b ab y s w here before (inr e) = before e
 
--- what is joined stays bound
+-- a slot remains bound after binds are joined
 joined-bound : (a b ab : Binds) → joined a b ≡ Some ab → (s : ℕ) (w : Term) → bound s b ≡ Some w → bound s ab ≡ Some w
 joined-bound a [] ab e s w h = cc
 joined-bound a (y ∷ b) ab e s w h =
@@ -146,7 +146,7 @@ grouped a b (x ∷ c) =
     ∙ ap (λ (o : Found). option_and_then (λ (ab : Binds). joined ab c) o) (one_more a b x)
     ∙ chain (λ (ab : Binds). with_bind ab x) (λ (ab : Binds). joined ab c) (joined a b)
 
--- the first of two parts joins what is in front, and the second joins that
+-- the first of two parts is joined to the binds before it, and the second to the result
 pub with_prefix-both : (a : Binds) (m r : Found) → with_prefix a (both m r) ≡ option_and_then (λ (ab : Binds). with_prefix ab r) (with_prefix a m)
 with_prefix-both a None r = refl
 with_prefix-both a (Some b) None = no_step (joined a b)

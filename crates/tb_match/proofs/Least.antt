@@ -42,7 +42,7 @@ among-bound : (a o : Binds) → AreAmong a o → (s : ℕ) (w : Term) → bound 
 among-bound [] o h s w e = cc
 among-bound (x ∷ a) o h s w e = found_case (x.slot == s) x.slot s refl x.value w (bound s a) o h.0 (among-bound a o h.1 s w) e
 
--- binds that are bound once are among themselves
+-- binds among others remain among these with a further bind, if its slot is free
 among-more : (a o : Binds) (x : Bind) → bound x.slot a ≡ None → AreAmong a o → AreAmong a (x ∷ o)
 among-more [] o x free h = tt
 among-more (z ∷ a) o x free h =
@@ -100,7 +100,7 @@ joined-from a (x ∷ b) ab o e h =
     let here = agreed-from a x o p.0 (bound x.slot a) refl p.1 rest.0 in
     (here.0, (here.1, rest.1))
 
--- a match and an answer that say the same under these binds
+-- a match and a test that agree under these binds
 abbrev Covers : Binds → Option Binds → Bool → Type 0
 Covers o None t = t ≡ false
 Covers o (Some a) t = (t ≡ true → AreAmong a o) × (AreAmong a o → t ≡ true)
@@ -145,7 +145,7 @@ one-covers o n t true = (
   (λ h. ap (λ (f : Option Term). is_value f t) h.0 ∙ is_same-refl row.the_row.coded t),
 )
 
--- a pattern's match and its agreement say the same
+-- the match of a pattern and the test `agrees` agree
 abbrev Claim : Binds → Pattern → Type 0
 Claim o p = (t : Term) → Covers o (match_term p t) (agrees o p t)
 

@@ -1,4 +1,4 @@
--- A match binds each slot once.
+-- A match binds each slot at most once.
 use Rattle.std.proofs.Common.{◌≡◌, ℕ, ◌==◌, Bool, true, false, List, [], ◌∷◌, ◌++◌, map, Option, Some, None, IfSome, option_and_then, if◌then◌else◌, refl, ap, sym, ◌∙◌, subst, append_assoc, append-nil, rules}
 use Rattle.std.specs.List.{AllByRecursion}
 use Rattle.std.specs.Str.{bytes_eq}
@@ -119,7 +119,7 @@ taken_case : (t : Bool) (u : Term) (o : Option Term) → (t ≡ true → ⊥) �
 taken_case true u o h e = absurd (h refl)
 taken_case false u o h e = e
 
--- a slot that is bound behind isn't bound in front
+-- if each slot is bound once, a slot isn't bound before its bind
 once-free : (a : Binds) (y : Bind) (b : Binds) → IsBoundOnce (a ++ y ∷ b) → bound y.slot a ≡ None
 once-free [] y b h = refl
 once-free (z ∷ a) y b h =
@@ -140,7 +140,7 @@ joined-alone a (y ∷ b) h =
     ∙ joined-alone (a ++ y ∷ []) b (subst IsBoundOnce (sym whole) h)
     ∙ ap (λ (l : Binds). Some l) whole
 
--- where nothing is bound in front, a match stands as it is
+-- a match joined to no binds remains the same
 prefix_nothing : (o : Option Binds) → Once o → with_prefix [] o ≡ o
 prefix_nothing None h = refl
 prefix_nothing (Some b) h = joined-alone [] b h

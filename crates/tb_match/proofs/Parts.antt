@@ -15,7 +15,7 @@ both-none : (m : Option Binds) → both m None ≡ None
 both-none None = refl
 both-none (Some a) = refl
 
--- as many terms as patterns, or no match
+-- no match if there aren't as many terms as patterns
 pub uneven : (ps : List Pattern) (ts : List Term) → (length ps ≡ length ts → ⊥) → match_list ps ts ≡ None
 uneven [] [] h = absurd (h refl)
 uneven [] (t ∷ ts) h = refl
@@ -29,7 +29,7 @@ turn ps ts i p t below even at_p at_t =
     let second : drop i ts ≡ t ∷ drop (suc i) ts = drop-cons ts i t below_t ∙ ap (λ (u : Term). u ∷ drop (suc i) ts) (sym at_t) in
     rw (add-one, first, second) refl
 
--- the next part joins what is bound so far
+-- the next part is joined to the binds so far
 pub prefix_turn : (a : Binds) (m : Option Binds) (ps : List Pattern) (ts : List Term) (i : ℕ) (p : Pattern) (t : Term) → i < length ps → length ps ≡ length ts → p ≡ get_or ps i p → t ≡ get_or ts i t → m ≡ with_prefix a (match_term p t) → with_prefix a (match_list (drop i ps) (drop i ts)) ≡ option_and_then (λ (b : Binds). with_prefix b (match_list (drop (i + 1) ps) (drop (i + 1) ts))) m
 prefix_turn a m ps ts i p t below even at_p at_t e =
     let rest = match_list (drop (i + 1) ps) (drop (i + 1) ts) in
@@ -37,22 +37,22 @@ prefix_turn a m ps ts i p t below even at_p at_t e =
     ∙ with_prefix-both a (match_term p t) rest
     ∙ ap (λ (o : Option Binds). option_and_then (λ (b : Binds). with_prefix b rest) o) (sym e)
 
--- where the next part matches, those behind it join what is bound then,
+-- if the next part matches, the later parts are joined to the binds after it
 pub matched_turn : (a b : Binds) (r : Bool) (ps : List Pattern) (ts : List Term) (i : ℕ) (p : Pattern) (t : Term) → i < length ps → length ps ≡ length ts → p ≡ get_or ps i p → t ≡ get_or ts i t → binds_if r b ≡ with_prefix a (match_term p t) → r ≡ true → with_prefix a (match_list (drop i ps) (drop i ts)) ≡ with_prefix b (match_list (drop (i + 1) ps) (drop (i + 1) ts))
 matched_turn a b r ps ts i p t below even at_p at_t e is =
     prefix_turn a (Some b) ps ts i p t below even at_p at_t (ap (λ (m : Bool). binds_if m b) (sym is) ∙ e)
 
--- and where it doesn't, nothing does
+-- if the next part doesn't match, there is no match
 pub unmatched_turn : (a b : Binds) (r : Bool) (ps : List Pattern) (ts : List Term) (i : ℕ) (p : Pattern) (t : Term) → i < length ps → length ps ≡ length ts → p ≡ get_or ps i p → t ≡ get_or ts i t → binds_if r b ≡ with_prefix a (match_term p t) → r ≡ false → with_prefix a (match_list (drop i ps) (drop i ts)) ≡ None
 unmatched_turn a b r ps ts i p t below even at_p at_t e is =
     prefix_turn a None ps ts i p t below even at_p at_t (ap (λ (m : Bool). binds_if m b) (sym is) ∙ e)
 
--- behind nothing the parts bind what they bind
+-- joined to no binds, the binds of the parts remain the same
 pub alone_found : (a b : Binds) (r : Bool) (ps qs : List Pattern) (ts us : List Term) → a ≡ [] → ps ≡ qs → ts ≡ us → binds_if r b ≡ with_prefix a (match_list ps ts) → binds_if r b ≡ match_list qs us
 alone_found a b r ps qs ts us none same also e =
     e ∙ ap (λ (l : Binds). with_prefix l (match_list ps ts)) none ∙ alone-list ps ts ∙ ap (λ (l : List Pattern). match_list l ts) same ∙ ap (match_list qs) also
 
--- a part that binds nothing leaves what is bound so far
+-- a part that binds nothing keeps the binds so far
 pub kept_if : (a : Binds) (m : Bool) → binds_if m a ≡ with_prefix a (binds_if m [])
 kept_if a true = refl
 kept_if a false = refl
@@ -74,7 +74,7 @@ plain_turn ps ts i p t below even at_p at_t e =
     ∙ ap (λ (o : Option Binds). both o rest) (sym e)
     ∙ alone-list (drop (i + 1) ps) (drop (i + 1) ts)
 
--- where all are plain, those behind the next are
+-- if all parts are plain, the parts after the next are plain
 pub plain_rest : (ps : List Pattern) (i : ℕ) (p : Pattern) → i < length ps → IsTrue (are_plain (drop i ps)) → IsTrue (are_plain (drop (i + 1) ps))
 plain_rest ps i p below h =
     let first = get_or ps i p in

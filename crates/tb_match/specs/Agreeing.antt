@@ -1,4 +1,4 @@
--- Which terms agree with a pattern under given binds, and when binds are among others.
+-- Which terms agree with a pattern under given binds, and which binds are among others.
 use Rattle.std.specs.Prelude.{◌≡◌, ℕ, Bool, true, false, ◌&&◌, List, [], ◌∷◌, map, Option, Some, None}
 use Rattle.std.specs.Str.{bytes_eq}
 use Rattle.tb_terms.specs.declared.term.Term.{Term, out-Term}
@@ -14,6 +14,7 @@ use Rattle.tb_match.specs.Joining.{bound}
 abbrev pub Agreeing : Type 0
 Agreeing = Term → Bool
 
+-- as many terms as parts, each of which agrees with its part
 abbrev pub all_agree : List Agreeing → List Term → Bool
 all_agree [] [] = true
 all_agree [] (term ∷ terms) = false
@@ -36,7 +37,7 @@ abbrev pub is_value : Option Term → Term → Bool
 is_value None term = false
 is_value (Some value) term = is_same_term value term
 
--- a variable stands for the term that its slot is bound to, which has its sort
+-- a variable represents the term that its slot is bound to; this term has the type of the variable
 abbrev pub agree_step : List Bind → pattern.Pattern-F Agreeing → Agreeing
 agree_step binds (pattern.Fixed fixed) term = is_same_term fixed term
 agree_step binds (pattern.Hole sort) term = has_sort term sort
@@ -50,7 +51,7 @@ agrees binds = fold-Pattern Agreeing (agree_step binds)
 abbrev pub list_agrees : List Bind → List Pattern → List Term → Bool
 list_agrees binds patterns terms = all_agree (map (agrees binds) patterns) terms
 
--- the others bind these slots to the same terms
+-- the others bind the slot of each of these binds to the same term
 abbrev pub AreAmong : List Bind → List Bind → Type 0
 AreAmong [] others = Unit {0}
 AreAmong (bind ∷ binds) others = (bound bind.slot others ≡ Some bind.value) × AreAmong binds others

@@ -1,4 +1,4 @@
--- Which terms match a pattern, and what the match binds.
+-- Which terms match a pattern, and the binds of a match.
 use Rattle.std.specs.Prelude.{ℕ, Bool, true, false, List, [], ◌∷◌, map, Option, Some, None, if◌then◌else◌}
 use Rattle.std.specs.List.{list_all}
 use Rattle.std.specs.Str.{bytes_eq}
@@ -12,11 +12,11 @@ use Rattle.tb_terms.specs.Sorts.{has_sort}
 use Rattle.tb_match.specs.declared.bind.Bind.{Bind}
 use Rattle.tb_match.specs.Joining.{both}
 
--- what a term binds, none where it doesn't match
+-- the binds of a term, or none if it doesn't match
 abbrev pub Matching : Type 0
 Matching = Term → Option (List Bind)
 
--- as many terms, each of which matches, with their binds joined from left to right
+-- as many terms as parts, each of which matches its part, with their binds joined from left to right
 abbrev pub match_all : List Matching → List Term → Option (List Bind)
 match_all [] [] = Some []
 match_all [] (term ∷ terms) = None
@@ -35,7 +35,7 @@ match_members parts (term.Str bytes) = None
 match_members parts (term.Appl name terms) = None
 match_members parts (term.List terms) = match_all parts terms
 
--- a match that binds these
+-- a match with these binds, or no match
 abbrev pub binds_if : Bool → List Bind → Option (List Bind)
 binds_if true binds = Some binds
 binds_if false binds = None
@@ -47,13 +47,15 @@ match_step (pattern.Result slot sort) term = binds_if (has_sort term sort) (reco
 match_step (pattern.Appl name parts) term = match_appl name parts (out-Term term)
 match_step (pattern.List parts) term = match_members parts (out-Term term)
 
+-- the binds of a term that matches the pattern
 abbrev pub match_term : Pattern → Term → Option (List Bind)
 match_term = fold-Pattern Matching match_step
 
+-- the binds of terms that match the patterns one by one
 abbrev pub match_list : List Pattern → List Term → Option (List Bind)
 match_list patterns terms = match_all (map match_term patterns) terms
 
--- no variable takes a term
+-- a pattern without result variables
 abbrev pub plain_step : pattern.Pattern-F Bool → Bool
 plain_step (pattern.Fixed fixed) = true
 plain_step (pattern.Hole sort) = true

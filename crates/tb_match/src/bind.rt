@@ -1,4 +1,4 @@
-//! Values that variables take in a match.
+//! The terms that variables take in a match.
 ghost use Rattle.std.specs.Prelude.{◌≡◌, [], ◌∷◌, ◌++◌, IfOk, OnOk};
 ghost use Rattle.std.specs.Option.{option_copied};
 ghost use Rattle.tb_terms.specs.Same.{is_same_term};
@@ -9,16 +9,20 @@ use std::alloc::Global;
 use std::mem::replace;
 use tb_terms::{Items, NoMemory, Term, same};
 
-/// What a match gives to the variable with this slot.
+/// A bind: the term that a variable takes in a match.
 #[derive(Drop)]
 pub struct Bind {
+    /// The slot of the variable.
     pub slot: u32,
+    /// The term that the variable takes.
     pub value: Term,
 }
 
+/// A list of binds.
 pub type Binds = Items<Bind>;
 
 impl Bind {
+    /// Returns the same bind in memory of its own.
     pub fn copy(&self, alloc: Global) -> Result<Bind, NoMemory>
         ensures { IfOk result (λ copy. copy ≡ self.now) }
     {
@@ -30,7 +34,7 @@ impl Bind {
     }
 }
 
-/// A copy of these binds, in their order.
+/// Returns a copy of these binds, in the same order.
 pub fn copy_binds(alloc: Global, binds: &Binds) -> Result<Binds, NoMemory>
     ensures { IfOk result (λ copies. copies ≡ binds.now) }
 {
@@ -41,7 +45,7 @@ pub fn copy_binds(alloc: Global, binds: &Binds) -> Result<Binds, NoMemory>
     Ok(copies)
 }
 
-/// Binds one more slot; false where it is bound to another term.
+/// Binds the slot to the term, unless the slot is bound. Returns `false` if the slot is bound to another term.
 pub(crate) fn with_bind(
     alloc: Global,
     binds: &mut Binds,
@@ -86,7 +90,7 @@ pub(crate) fn is_same(term: &Term, other: &Term) -> bool
     same(term, other)
 }
 
-/// Drops all binds, and keeps their memory.
+/// Drops all binds. The list keeps its memory.
 pub(crate) fn empty(binds: &mut Binds)
     ensures { binds.new ≡ [] }
 {
@@ -95,7 +99,7 @@ pub(crate) fn empty(binds: &mut Binds)
     }
 }
 
-/// Takes the binds out, where there was a match.
+/// Takes the binds out and returns them if there is a match. Returns `None` otherwise.
 pub(crate) fn taken_if(alloc: Global, matches: bool, binds: &mut Binds) -> Option<Binds>
     ensures { result ≡ binds_if matches binds.old }
 {

@@ -1,4 +1,4 @@
-//! Matches of patterns that bind nothing.
+//! Matches of patterns without result variables, which bind nothing.
 ghost use Rattle.std.specs.Prelude.{◌≡◌, ◌↔◌, [], map, is_some, IsTrue};
 ghost use Rattle.tb_terms.specs.declared.term.Term.{out-Term};
 ghost use Rattle.tb_match.specs.Matches.{match_term, match_list, match_all, match_appl, match_members, binds_if, is_plain, are_plain};
@@ -6,7 +6,7 @@ ghost use Rattle.tb_match.specs.Matches.{match_term, match_list, match_all, matc
 use crate::bind::is_same;
 use tb_terms::{Name, Pattern, Patterns, Term, Terms, has_sort, same_pattern_lists};
 
-/// Whether the terms match the patterns one by one, which bind nothing.
+/// Returns whether the terms match the patterns one by one. The patterns have no result variables, so that a match binds nothing.
 pub fn fits_list(ps: &Patterns, ts: &Terms) -> bool
     requires { IsTrue (are_plain ps.now) }
     ensures { result ≡ is_some (match_list ps.now ts.now) }
@@ -14,7 +14,7 @@ pub fn fits_list(ps: &Patterns, ts: &Terms) -> bool
     fits_parts(ps.as_slice(), ts.as_slice())
 }
 
-/// Whether two lists of patterns are the same list.
+/// Returns whether two lists of patterns are equal.
 pub fn same_patterns(a: &Patterns, b: &Patterns) -> bool
     ensures { IsTrue result ↔ (a.now ≡ b.now) }
 {

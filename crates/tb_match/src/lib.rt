@@ -1,4 +1,4 @@
-//! Terms are matched against patterns, and what the variables take is bound to their slots.
+//! The matching of terms against patterns. A match binds the terms that variables take to their slots.
 #![tactic(auto)]
 
 mod bind;

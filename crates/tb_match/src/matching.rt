@@ -1,4 +1,4 @@
-//! Matches, with the values that variables take.
+//! Matches, with the terms that variables take.
 ghost use Rattle.std.specs.Prelude.{◌≡◌, [], ◌∷◌, map, IfOk};
 ghost use Rattle.tb_terms.specs.declared.term.Term.{out-Term};
 ghost use Rattle.tb_terms.specs.Sorts.{has_sort};
@@ -9,7 +9,7 @@ use crate::bind::{Binds, empty, is_same, taken_if, with_bind};
 use std::alloc::Global;
 use tb_terms::{Items, Name, NoMemory, Pattern, Patterns, Sort, Term, Terms, has_sort};
 
-/// What the term binds by first occurrence, or None where it doesn't match the pattern.
+/// Returns the binds of the match in the order of their first occurrences, or `None` if the term doesn't match the pattern.
 pub fn match_term(alloc: Global, p: &Pattern, t: &Term) -> Result<Option<Binds>, NoMemory>
     ensures { IfOk result (λ m. m ≡ match_term p.now t.now) }
 {
@@ -18,7 +18,7 @@ pub fn match_term(alloc: Global, p: &Pattern, t: &Term) -> Result<Option<Binds>,
     Ok(taken_if(alloc, matches, &mut binds))
 }
 
-/// What the terms bind by first occurrence, or None where they don't match the patterns one by one.
+/// Returns the binds of the match in the order of their first occurrences, or `None` if the terms don't match the patterns one by one.
 pub fn match_list(alloc: Global, ps: &Patterns, ts: &Terms) -> Result<Option<Binds>, NoMemory>
     ensures { IfOk result (λ m. m ≡ match_list ps.now ts.now) }
 {
@@ -26,7 +26,8 @@ pub fn match_list(alloc: Global, ps: &Patterns, ts: &Terms) -> Result<Option<Bin
     match_list_in(alloc, ps, ts, &mut room)
 }
 
-/// The same, in the memory of a list, whatever that held. It is taken only where there is a match.
+/// Does the same as `match_list`, but collects the binds in `room`, whose old content it drops. If there is a match, the result takes the
+/// memory of `room`. Otherwise, `room` keeps its memory.
 pub fn match_list_in(
     alloc: Global,
     ps: &Patterns,
@@ -40,7 +41,7 @@ pub fn match_list_in(
     Ok(taken_if(alloc, matches, room))
 }
 
-/// As `match_parts`, but outside of its cycle, so that simple patterns cost little.
+/// Does the same as `match_parts`. Isn't in the cycle of `match_parts`, so that simple patterns cost little.
 fn match_each(
     alloc: Global,
     patterns: &[Pattern],
@@ -61,7 +62,7 @@ fn match_each(
     Ok(true)
 }
 
-/// Likewise `match_behind`.
+/// Does the same as `match_behind`. Isn't in the cycle of `match_behind`, so that simple patterns cost little.
 fn match_one(
     alloc: Global,
     pattern: &Pattern,

@@ -1,4 +1,4 @@
--- The text of a message: its words and what stands behind them.
+-- The text of a message: its words, followed by the text of its suffix.
 use Rattle.std.specs.Prelude.{ℕ, List, [], ◌++◌}
 use Rattle.std.specs.Fmt.{decimal}
 use Rattle.std.specs.List.{join_with_byte}

@@ -1,4 +1,4 @@
-//! A message of a fault or an end, as a value: its words, and what stands behind them.
+//! The text of a line that reports an error or an end, as a value: fixed words and a suffix.
 #![tactic(auto)]
 
 mod message;

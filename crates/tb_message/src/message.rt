@@ -1,4 +1,4 @@
-//! The words of a message, and the ways to make one.
+//! Messages, and the calls that make them.
 ghost use Rattle.std.specs.Prelude.{◌≡◌, ◌++◌, decimal};
 ghost use Rattle.std.specs.List.{join_with_byte};
 ghost use Rattle.tb_message.specs.Messages.{message_text};
@@ -6,27 +6,28 @@ ghost use Rattle.tb_message.specs.Messages.{message_text};
 use std::slice::from_ref;
 use tb_terms::Ident;
 
-/// The words of a line, without what the program puts in front of them and without the newline.
+/// The text of a line, without the prefix that the program writes first and without the newline.
 #[derive(Clone, Copy)]
 pub struct Message<'a> {
-    /// Words that are the same each time, with the blank that parts them from the rest.
+    /// The fixed words, with the space that separates them from the suffix.
     pub words: &'a [u8],
-    /// What stands behind them.
+    /// The suffix, which follows the words.
     pub rest: Rest<'a>,
 }
 
-/// What stands behind the words of a line.
+/// The suffix of a message.
 #[derive(Clone, Copy)]
 pub enum Rest<'a> {
+    /// No suffix.
     Nothing,
     /// A number in decimal.
     Number(usize),
-    /// Names with a comma between each two.
+    /// Names, joined by commas.
     Names(&'a [Ident]),
 }
 
 impl<'a> Message<'a> {
-    /// The words alone.
+    /// Returns a message of the words alone.
     pub fn plain(words: &'a [u8]) -> Message<'a>
         ensures { message_text result ≡ words.now }
     {
@@ -36,7 +37,7 @@ impl<'a> Message<'a> {
         }
     }
 
-    /// The words and a number.
+    /// Returns a message of the words and a number.
     pub fn numbered(words: &'a [u8], number: usize) -> Message<'a>
         ensures { message_text result ≡ words.now ++ decimal number }
     {
@@ -46,7 +47,7 @@ impl<'a> Message<'a> {
         }
     }
 
-    /// The words and names.
+    /// Returns a message of the words and names.
     pub fn of_names(words: &'a [u8], names: &'a [Ident]) -> Message<'a>
         ensures { message_text result ≡ words.now ++ join_with_byte 44 names.now }
     {
@@ -56,7 +57,7 @@ impl<'a> Message<'a> {
         }
     }
 
-    /// The words and one name.
+    /// Returns a message of the words and one name.
     pub fn of_name(words: &'a [u8], name: &'a Ident) -> Message<'a>
         ensures { message_text result ≡ words.now ++ name.now }
     {

@@ -1,4 +1,4 @@
--- What is found is the first note that matches.
+-- The found note is the first one that matches.
 use Rattle.std.proofs.Common.{◌≡◌, ℕ, zero, suc, ◌+◌, ◌<◌, List, [], ◌∷◌, Option, Some, None, MatchOption, refl, subst, arith}
 use Rattle.tb_terms.specs.declared.term.Term.{Term}
 use Rattle.tb_terms.specs.declared.pattern.Pattern.{Pattern}
@@ -11,7 +11,7 @@ use Rattle.tb_notes.specs.Oldest.{binds_at, NoneMatches, IsOldest}
 abbrev Notes : Type 0
 Notes = List (List Term)
 
--- it stands at the offset j of a queue whose first note stands at the position p
+-- the found note is at the offset j of a queue whose first note has the position p, and no earlier note matches
 abbrev IsFound : ℕ → List Pattern → Notes → Found → Type 0
 IsFound p ps notes found = (j : ℕ) × (found.place ≡ p + j) × (binds_at ps notes j ≡ Some found.binds) × ((k : ℕ) → k < j → binds_at ps notes k ≡ None)
 

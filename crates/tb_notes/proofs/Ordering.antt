@@ -29,7 +29,7 @@ both-ways false false h k = refl
 flipped : (x y : List Pattern) → is_same_patterns x y ≡ true → is_same_patterns y x ≡ true
 flipped x y h = ap (λ (z : List Pattern). is_same_patterns z x) (sym (is_same-sound patterns_code x y h)) ∙ is_same-refl patterns_code x
 
--- equal patterns stand for each other
+-- equality of patterns is an equivalence
 pub same_patterns-equiv : IsEquivalence is_same_patterns
 same_patterns-equiv = record {
   refl = λ x. is_same-refl patterns_code x;

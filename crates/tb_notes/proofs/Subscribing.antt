@@ -1,4 +1,4 @@
--- What a subscription changes, and what is left after it.
+-- The effect of a subscription on the wanted notes, and of its removal.
 use Rattle.std.proofs.Common.{◌≡◌, Bool, true, false, ◌||◌, if◌then◌else◌, List, [], ◌∷◌, ◌++◌, refl, ap, sym, ◌∙◌}
 use Rattle.std.specs.List.{list_any, IsDistinct, AllByRecursion}
 use Rattle.std.proofs.lemmas.List.Folds.{list_any-append}
@@ -36,7 +36,7 @@ wanted-in : (note : List Term) (ps x : List Pattern) (xs : Subscriptions) (b : B
 wanted-in note ps x xs true e f h left = wanted-here note ps x xs e f
 wanted-in note ps x xs false e f h left = ap (λ (a : Bool). fits note x || a) (left h) ∙ or-true (fits note x)
 
--- what a subscription fits is wanted
+-- a note that a subscription matches is wanted
 among-wants : (note : List Term) (ps : List Pattern) (xs : Subscriptions) → is_among ps xs ≡ true → fits note ps ≡ true → list_any (fits note) xs ≡ true
 among-wants note ps [] h f = cc
 among-wants note ps (x ∷ xs) h f =
@@ -86,7 +86,7 @@ unsubscribed-back ps held h =
     ap (λ (ys : Subscriptions). record { subscriptions = ys; notes = held.notes })
     (ap (without ps) (added ps xs h) ∙ without-added ps xs h)
 
--- whom none of these equals isn't among them
+-- if no subscription equals a list of patterns, equal patterns aren't among the subscriptions
 apart : (ps x : List Pattern) (xs : Subscriptions) → is_same_patterns ps x ≡ true → AllByRecursion (λ y. is_same_patterns x y ≡ false) xs → is_among ps xs ≡ false
 apart ps x [] e h = refl
 apart ps x (y ∷ ys) e h =

@@ -38,7 +38,7 @@ found_at ps xs i x b below at holds decided among rest =
       sym rest ∙ ap (λ (l : List (List Pattern)). take i xs ++ l) (ap (without ps) d ∙ without-here ps x (drop (suc i) xs) same),
     )
 
--- it isn't
+-- the subscription at i isn't equal to the patterns
 pub passed_at : (ps : List Pattern) (xs : List (List Pattern)) (i : ℕ) (x : List Pattern) (b : Bool) → i < length xs → x ≡ get_or xs i x → b ≡ false → (IsTrue b ↔ (ps ≡ x))
     → is_among ps (drop i xs) ≡ is_among ps xs → take i xs ++ without ps (drop i xs) ≡ without ps xs
     → (is_among ps (drop (i + 1) xs) ≡ is_among ps xs) × (take (i + 1) xs ++ without ps (drop (i + 1) xs) ≡ without ps xs)

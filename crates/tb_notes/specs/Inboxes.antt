@@ -1,4 +1,4 @@
--- What a process has subscribed to and the notes that wait for it, and what each call does to them.
+-- The subscriptions of a process and its queue of notes, and the effect of each call on them.
 use Rattle.std.specs.Prelude.{◌<◌, ◌≤◌, ◌+◌, ℕ, Bool, List, [], ◌∷◌, ◌++◌, length, remove, Option, Some, None, is_some, IsTrue, if◌then◌else◌}
 use Rattle.std.specs.List.{list_any, list_all, IsDistinct}
 use Rattle.std.specs.Coded.{coded_list}
@@ -10,31 +10,34 @@ use Rattle.tb_match.specs.declared.bind.Bind.{Bind}
 use Rattle.tb_match.specs.Matches.{match_list, are_plain}
 use Rattle.tb_notes.specs.declared.queue.Found.{Found}
 
--- a subscription is a list of patterns, a note a list of terms; the oldest note stands first
+-- a subscription is a list of patterns, and a note is a list of terms; the oldest note is the first one
 pub record Held : Type 0 where
   pub subscriptions : List (List Pattern)
   pub notes : List (List Term)
 
--- what an inbox holds, and for how many more notes it has memory
+-- the content of an inbox, and the number of further notes for which it has memory
 pub record Contents : Type 0 where
   pub held : Held
   pub spare : ℕ
 
+-- no subscription and no note
 abbrev pub nothing : Held
 nothing = record { subscriptions = []; notes = [] }
 
+-- whether two lists of patterns are equal
 abbrev pub is_same_patterns : List Pattern → List Pattern → Bool
 is_same_patterns = is_same (coded_list pattern.the_row.coded)
 
+-- whether a subscription is equal to these patterns
 abbrev pub is_among : List Pattern → List (List Pattern) → Bool
 is_among patterns subscriptions = list_any (is_same_patterns patterns) subscriptions
 
--- a subscription is added at the end where no equal one is there
+-- a subscription is added at the end if no equal one exists
 abbrev pub with_subscription : List Pattern → List (List Pattern) → List (List Pattern)
 with_subscription patterns subscriptions =
     if is_among patterns subscriptions then subscriptions else subscriptions ++ patterns ∷ []
 
--- an equal one is removed where there is one
+-- the first equal subscription is removed if there is one
 abbrev pub without : List Pattern → List (List Pattern) → List (List Pattern)
 without patterns [] = []
 without patterns (subscription ∷ others) =
@@ -43,24 +46,27 @@ without patterns (subscription ∷ others) =
 abbrev pub subscribed : List Pattern → Held → Held
 subscribed patterns held = record held { subscriptions = with_subscription patterns held.subscriptions }
 
--- the notes stay
+-- only the subscriptions change; the notes remain in the queue
 abbrev pub unsubscribed : List Pattern → Held → Held
 unsubscribed patterns held = record held { subscriptions = without patterns held.subscriptions }
 
+-- whether the patterns match the note
 abbrev pub fits : List Term → List Pattern → Bool
 fits note patterns = is_some (match_list patterns note)
 
--- a note is wanted where a subscription matches it
+-- whether some subscription matches the note
 abbrev pub wants : Held → List Term → Bool
 wants held note = list_any (fits note) held.subscriptions
 
--- how many notes may wait for one process
+-- the maximum number of notes in a queue
 abbrev pub most_notes : ℕ
 most_notes = 65536
 
+-- the queue has capacity for one more note
 abbrev pub HasRoom : Held → Type 0
 HasRoom held = length held.notes < most_notes
 
+-- the note is added as the last one
 abbrev pub with_note : List Term → Held → Held
 with_note note held = record held { notes = held.notes ++ note ∷ [] }
 
@@ -68,15 +74,17 @@ abbrev pub found_or : ℕ → Option (List Bind) → Option Found → Option Fou
 found_or place None later = later
 found_or place (Some binds) later = Some (record { place = place; binds = binds })
 
--- the first of these notes that matches, and what it binds; the first of them stands at this position
+-- the position of the first note that matches, and its binds, if the first of these notes is at the position `place`
 abbrev pub first_match : ℕ → List Pattern → List (List Term) → Option Found
 first_match place patterns [] = None
 first_match place patterns (note ∷ notes) =
     found_or place (match_list patterns note) (first_match (place + 1) patterns notes)
 
+-- the position of the oldest note that matches, and its binds, or none
 abbrev pub oldest_match : List Pattern → Held → Option Found
 oldest_match patterns held = first_match 0 patterns held.notes
 
+-- the note at this position is removed; the others keep their order
 abbrev pub without_note : ℕ → Held → Held
 without_note place held = record held { notes = remove held.notes place }
 

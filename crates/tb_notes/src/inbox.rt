@@ -1,4 +1,4 @@
-//! The inbox of a process: its subscriptions, and the notes that wait for it.
+//! The inbox of a process: its subscriptions and its queue of notes.
 ghost use Rattle.std.specs.Prelude.{◌≡◌, ◌↔◌, ◌<◌, ◌≤◌, ◌+◌, length, slice_get, Some, IsTrue, IfOk, OnOk, OnErr};
 ghost use Rattle.std.specs.Option.{ForSome};
 ghost use Rattle.tb_match.specs.Matches.{are_plain};
@@ -11,11 +11,11 @@ use std::collections::VecDeque;
 use std::marker::Model;
 use tb_terms::{Items, NoMemory, Patterns, Terms};
 
-/// How many notes may wait for one process.
+/// The maximum number of notes in a queue.
 const MOST_NOTES: usize = 65_536;
 
-/// What a process has subscribed to, and the notes that wait for it. Contracts see the two lists,
-/// and apart from them for how many more notes there is memory.
+/// The subscriptions of a process and its queue of notes. Contracts see both lists as `held`. They see the number of further notes for
+/// which the inbox has memory as `spare`.
 #[derive(Drop)]
 pub struct Inbox {
     subscriptions: Items<Patterns>,
@@ -44,7 +44,7 @@ impl Model for Inbox {
 }
 
 impl Inbox {
-    /// Takes no memory.
+    /// Makes an inbox without subscriptions and notes. The call takes no memory.
     pub fn new(alloc: Global) -> Inbox
         ensures { result.held ≡ nothing }
     {
@@ -54,6 +54,7 @@ impl Inbox {
         }
     }
 
+    /// Adds a subscription, unless an equal one exists.
     pub fn subscribe(&mut self, ps: Patterns) -> Result<(), NoMemory>
         requires { IsTrue (are_plain ps) }
         ensures ok { OnOk result (self.new.held ≡ subscribed ps self.old.held) }
@@ -66,6 +67,7 @@ impl Inbox {
         Ok(())
     }
 
+    /// Removes the subscription that is equal to these patterns, if there is one. The notes remain in the queue.
     pub fn unsubscribe(&mut self, ps: &Patterns)
         ensures held { self.new.held ≡ unsubscribed ps.now self.old.held }
         ensures spare { self.new.spare ≡ self.old.spare }
@@ -75,21 +77,21 @@ impl Inbox {
         }
     }
 
-    /// Whether some subscription matches the note.
+    /// Returns whether some subscription matches the note.
     pub fn wants(&self, note: &Terms) -> bool
         ensures { result ≡ wants self.now.held note.now }
     {
         any_fits(self.subscriptions.as_slice(), note)
     }
 
-    /// Whether it holds fewer notes than it may.
+    /// Returns whether the queue has capacity for one more note.
     pub fn room(&self) -> bool
         ensures { IsTrue result ↔ HasRoom self.now.held }
     {
         self.queue.len() < MOST_NOTES
     }
 
-    /// The note stands last.
+    /// Appends a note to the queue, and takes memory if there is none to spare. If out of memory, the call drops the note.
     pub fn offer_note(&mut self, note: Terms) -> Result<(), NoMemory>
         requires { HasRoom self.old.held }
         ensures ok { OnOk result (self.new.held ≡ with_note note self.old.held) }
@@ -100,7 +102,7 @@ impl Inbox {
         Ok(())
     }
 
-    /// Takes memory for one more note, where there is none.
+    /// Takes memory for one more note if there is none to spare.
     pub fn reserve(&mut self) -> Result<(), NoMemory>
         ensures held { self.new.held ≡ self.old.held }
         ensures ok { OnOk result (0 < self.new.spare) }
@@ -111,7 +113,7 @@ impl Inbox {
         Ok(())
     }
 
-    /// The note stands last, and no memory is taken.
+    /// Appends a note to the queue in memory that `reserve` took. So the call can't run out of memory.
     pub fn put(&mut self, note: Terms)
         requires room { HasRoom self.old.held }
         requires spare { 0 < self.old.spare }
@@ -121,7 +123,7 @@ impl Inbox {
         self.queue.push_back_reserved(note);
     }
 
-    /// The oldest note that matches.
+    /// Returns the position of the oldest note that matches, and its binds.
     pub fn find(&self, ps: &Patterns) -> Result<Option<Found>, NoMemory>
         ensures found { IfOk result (λ found. found ≡ oldest_match ps.now self.now.held) }
         ensures within { IfOk result
@@ -130,7 +132,7 @@ impl Inbox {
         first_match(*self.queue.allocator(), ps, &self.queue)
     }
 
-    /// The note at this position; the oldest stands at 0.
+    /// Returns the note at this position. The oldest note is at 0.
     pub fn note(&self, place: usize) -> &Terms
         requires { place < length self.now.held.notes }
         ensures { slice_get self.now.held.notes place ≡ Some result.now }
@@ -138,7 +140,7 @@ impl Inbox {
         &self.queue[place]
     }
 
-    /// The note at this position leaves the queue.
+    /// Removes the note at this position from the queue, and returns it. The other notes keep their order.
     pub fn take(&mut self, place: usize) -> Terms
         requires { place < length self.old.held.notes }
         ensures note { slice_get self.old.held.notes place ≡ Some result }
@@ -151,7 +153,7 @@ impl Inbox {
         }
     }
 
-    /// What holds of every inbox. The call changes nothing.
+    /// Shows what holds of every inbox. The call changes nothing.
     pub fn show_order(&self)
         ensures { IsInOrder self.now.held }
     {

@@ -1,4 +1,4 @@
-//! The notes of one process: what it has subscribed to, and the notes that wait for it.
+//! The notes of one process: its subscriptions and its queue of notes.
 #![tactic(auto)]
 
 mod inbox;

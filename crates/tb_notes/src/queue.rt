@@ -8,14 +8,16 @@ use std::collections::VecDeque;
 use tb_match::{Binds, match_list};
 use tb_terms::{NoMemory, Patterns, Terms};
 
-/// The note at this position in the queue matches, and this is what it binds.
+/// A note of a queue that matches: its position and its binds.
 #[derive(Drop)]
 pub struct Found {
+    /// The position in the queue; the oldest note is at 0.
     pub place: usize,
+    /// The binds of the note in the patterns.
     pub binds: Binds,
 }
 
-/// The first note that matches.
+/// Returns the position of the first note that matches, and its binds.
 pub(crate) fn first_match(
     alloc: Global,
     patterns: &Patterns,

@@ -7,7 +7,7 @@ ghost use Rattle.tb_notes.specs.Inboxes.{is_among, without, fits};
 use tb_match::{fits_list, same_patterns};
 use tb_terms::{Patterns, Terms};
 
-/// Where a subscription stands that is equal to these patterns.
+/// Returns the position of the first subscription that is equal to these patterns.
 pub(crate) fn position_of(subscriptions: &[Patterns], patterns: &Patterns) -> Option<usize>
     ensures { MatchOption result ((is_among patterns.now subscriptions.now ≡ false)
         × (without patterns.now subscriptions.now ≡ subscriptions.now))
@@ -23,14 +23,14 @@ pub(crate) fn position_of(subscriptions: &[Patterns], patterns: &Patterns) -> Op
     None
 }
 
-/// Whether a subscription is equal to these patterns.
+/// Returns whether a subscription is equal to these patterns.
 pub(crate) fn contains(subscriptions: &[Patterns], patterns: &Patterns) -> bool
     ensures { result ≡ is_among patterns.now subscriptions.now }
 {
     position_of(subscriptions, patterns).is_some()
 }
 
-/// Whether some subscription matches the note.
+/// Returns whether some subscription matches the note.
 pub(crate) fn any_fits(subscriptions: &[Patterns], note: &Terms) -> bool
     requires { IsTrue (list_all are_plain subscriptions.now) }
     ensures { result ≡ list_any (fits note.now) subscriptions.now }

@@ -23,7 +23,7 @@ not-one : (held : List ℕ → Option (List ℕ)) (first second : List ℕ) (old
 not-one held first second old new fault one other (inl h) = not-bad one.bytes one.program fault one.few one.found (subst (λ (told : Option (List ℕ)). IsBadScript told fault) one.is h.0)
 not-one held first second old new fault one other (inr h) = not-bad other.bytes other.program fault other.few other.found (subst (λ (told : Option (List ℕ)). IsBadScript told fault) other.is h.1)
 
--- what is answered where nothing of the outside fails
+-- the answers if no part of the environment fails
 abbrev pub EndsWell : {A : Type 0} → PairCommand → Seen → Seen → Result A PairFault → Type 0
 EndsWell command old new (Ok done) = Unit {0}
 EndsWell command old new (Err NoMemory) = Unit {0}

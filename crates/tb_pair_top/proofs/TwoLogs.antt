@@ -35,7 +35,7 @@ no-entry : (number : ℕ) (entry : Entry) (rest : List ℕ) → IsLine number en
 no-entry number entry rest line = no-number (decimal number) (entry_words entry ++ 10 ∷ []) (lacks-decimal 45 refl number line.fits)
     (line.text ∙ append_assoc (decimal number) (32 ∷ entry_words entry) (10 ∷ []))
 
--- the line `--` stands behind the first log
+-- the line `--` is after the first log
 not-longer : (one other : List Entry) (two others_two : List Entry) → IsLog one → IsLog other → pair_text one two ≡ pair_text other others_two → length one < length other → ⊥
 not-longer one other two others_two is other_is same less =
     let next = next_entry one other (codes "--\n" ++ log_text two) (codes "--\n" ++ log_text others_two) is other_is less same in

@@ -1,2 +1,2 @@
--- Definitions that proofs and private functions need, and that nobody has to believe.
+-- Definitions that proofs and private functions need. A reader who trusts the program's call needn't trust them.
 pub mod Parts

@@ -1,16 +1,17 @@
--- Of which of the two scripts something is said, and which names were asked for by then.
+-- A claim about one of the two scripts, and the requested files.
 use Rattle.std.specs.Prelude.{◌≡◌, ◌⊎◌, ℕ, List, [], ◌∷◌, ◌++◌, Option}
 use Rattle.tb_load.specs.Loading.{IsAccepted}
 
--- the first script's name was asked for, and nothing else
+-- only the first script's file was requested
 abbrev pub AsksFirst : List ℕ → List (List ℕ) → List (List ℕ) → Type 0
 AsksFirst first old new = new ≡ old ++ first ∷ []
 
--- the names of both scripts were asked for, in order, and nothing else
+-- only the files of both scripts were requested, in order
 abbrev pub AsksBoth : List ℕ → List ℕ → List (List ℕ) → List (List ℕ) → Type 0
 AsksBoth first second old new = new ≡ old ++ first ∷ second ∷ []
 
--- This holds of the file of the first script, whose name alone was asked for; or the first script is accepted, and this holds of the file of the second.
+-- `Is` holds for the file of the first script, and only this file was requested; or the first script is accepted, `Is` holds for the file
+-- of the second script, and both files were requested.
 abbrev pub IsOfOne : (Option (List ℕ) → Type 0) → (List ℕ → Option (List ℕ)) → List ℕ → List ℕ → List (List ℕ) → List (List ℕ) → Type 0
 IsOfOne Is held first second old new =
     (Is (held first) × AsksFirst first old new)

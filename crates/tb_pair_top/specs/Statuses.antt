@@ -1,4 +1,4 @@
--- The status that the program ends with at each fault, and the number with which it exits at each status.
+-- The status with which the program ends for each error, and the exit status for each status.
 use Rattle.std.specs.Prelude.{ℕ}
 use Rattle.tb_pair_top.specs.declared.status.PairStatus.{PairStatus}
 use Rattle.tb_pair_top.specs.declared.status.PairStatus.TheVariants as status

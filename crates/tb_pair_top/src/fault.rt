@@ -1,10 +1,10 @@
-//! The reasons why a pair didn't end well.
+//! The errors of a pair.
 use crate::status::{PairEdge, PairStatus};
 use tb_cli::WordFault;
 use tb_message::Message;
 use tb_script::ScriptFault;
 
-/// Why a pair didn't end well. If this couldn't be written, that is a `PairStatus` of its own.
+/// The error of a pair. If the error's line can't be written, the program ends with another `PairStatus`: `Outside(Err)`.
 #[derive(Drop)]
 pub enum PairFault {
     /// One of the two scripts was rejected. Out of memory is never a reason for this.
@@ -15,12 +15,13 @@ pub enum PairFault {
     File,
     /// The logs could not be written.
     Out,
-    /// The clock failed. All else went on to its end.
+    /// The clock failed. The rest of the run is complete.
     Clock,
     /// There are too few threads.
     Crew,
     /// One of the two logs had no capacity for the next entry.
     Limit,
+    /// Memory ran out.
     NoMemory,
 }
 
@@ -30,7 +31,7 @@ impl PairFault {
     ghost use Rattle.tb_pair_top.specs.Lines.{fault_words};
     ghost use Rattle.tb_pair_top.specs.Statuses.{status_of};
 
-    /// The status that the program ends with.
+    /// Returns the status with which the program ends.
     pub fn status(self) -> PairStatus
         ensures { result ≡ status_of self }
     {
@@ -46,7 +47,7 @@ impl PairFault {
         }
     }
 
-    /// The words of its line.
+    /// Returns the message of the error's line on standard error.
     pub fn message(&self) -> Message<'_>
         ensures { message_text result ≡ fault_words self.now }
     {

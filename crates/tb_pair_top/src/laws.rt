@@ -1,4 +1,4 @@
-//! What is known of all pairs. The call changes nothing: its contract is the law.
+//! Theorems about all pairs. The calls change nothing: their contracts are the theorems.
 
 ghost use Rattle.std.specs.Prelude.{◌≡◌, ◌<◌, ◌^◌, ◌⊎◌, ℕ, List, Option, Ok, Err};
 ghost use Rattle.tb_bus.specs.declared.origin.Origin.{Origin};
@@ -14,8 +14,8 @@ ghost use Rattle.tb_pair_top.specs.declared.fault.PairFault.TheVariants as fault
 
 use crate::status::{PairEdge, PairStatus};
 
-/// A pair of two accepted scripts ends well, unless some part of the environment fails, memory runs out, or a log is full: then the
-/// pair ended for that.
+/// States that a pair of two accepted scripts ends with `Ended`, unless a part of the environment fails, memory runs out, or a log is
+/// full. If it ends because a log is full, the outcome of such a pair holds.
 pub fn a_pair_of_accepted_scripts_ends()
     ensures { (words : List (List ℕ)) (command : PairCommand) (old new : Seen)
         (told more : Option (List ℕ)) (status : PairStatus)
@@ -28,8 +28,8 @@ pub fn a_pair_of_accepted_scripts_ends()
         × IsPair {A = Unit {0}} command old new (Err fault.Limit))) }
 {}
 
-/// The bytes of both logs are the text of these two logs alone: two pairs of runs with the same text have the same logs, whatever
-/// their scripts were.
+/// States that the text of a pair is the text of its two logs alone. If two pairs have the same text, they have the same logs, even if
+/// their scripts differ.
 pub fn a_pair_has_two_logs()
     ensures { (most other_most : ℕ) (one two other_one other_two : Origin)
         (old new other_old other_new : PairView) (it other_it : PairWhy)

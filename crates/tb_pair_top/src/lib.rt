@@ -1,4 +1,4 @@
-//! Two scripts as a pair, from the arguments of the command line on.
+//! The program `toolbus_pair`: reads the arguments of the command line, runs two scripts as a pair, and reports an error.
 #![tactic(auto)]
 
 mod fault;

@@ -1,4 +1,4 @@
-//! How the two scripts of a pair are loaded.
+//! Loads the two scripts of a pair.
 ghost use Rattle.std.specs.Prelude.{◌≡◌, ◌≤◌, [], ◌∷◌, ◌++◌, IfOk, IfErr, OnOk, Err};
 ghost use Rattle.tb_edge.specs.Faults.{Rose};
 ghost use Rattle.tb_load.specs.Loading.{HasProgram, IsUnloaded};
@@ -14,11 +14,13 @@ use tb_load::{LoadFault, load_script};
 /// The programs of the two scripts.
 #[derive(Drop)]
 pub struct Programs {
+    /// The program of the first script.
     pub first: Program,
+    /// The program of the second script.
     pub second: Program,
 }
 
-/// The programs of the scripts in the files of these names. The second file is requested once the first script is accepted.
+/// Loads the programs of the scripts in the files of these names. The second file is requested only after the first script is accepted.
 pub fn load_both<F: Files>(
     alloc: Global,
     first: &str,
@@ -38,7 +40,7 @@ pub fn load_both<F: Files>(
     }
 }
 
-/// The same once the first program was read.
+/// Loads the program of the second script, and returns it with the first program.
 fn load_second<F: Files>(
     alloc: Global,
     first: Program,

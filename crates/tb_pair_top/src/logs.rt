@@ -1,4 +1,4 @@
-//! How the two logs of a pair are written.
+//! Writes the two logs of a pair.
 ghost use Rattle.std.specs.Prelude.{◌≡◌, ◌++◌, OnOk, OnErr, IsErrOf, codes};
 ghost use Rattle.tb_edge.specs.Faults.{Rose};
 ghost use Rattle.tb_edge.specs.Sinks.{Writes, WritesPrefix};
@@ -13,7 +13,7 @@ use tb_log::Log;
 use tb_pair_run::PairWhy;
 use tb_write::{LogFault, put_log};
 
-/// Writes both logs of a pair that ended so, unless there was no crew or no memory.
+/// Writes both logs of a pair that ended for this reason, unless the crew failed or memory ran out. Returns the answer of the program.
 pub fn put_logs<O: Sink>(
     alloc: Global,
     why: PairWhy,
@@ -31,7 +31,7 @@ pub fn put_logs<O: Sink>(
     }
 }
 
-/// The same for a pair whose logs are written.
+/// Writes both logs of a pair that ended for a reason for which the logs are written. Returns the answer of the program.
 fn put_all<O: Sink>(
     alloc: Global,
     why: PairWhy,
@@ -50,7 +50,7 @@ fn put_all<O: Sink>(
     }
 }
 
-/// The result of a pair whose logs were written.
+/// Returns the answer of the program after both logs were written.
 fn after_run(why: PairWhy) -> Result<(), PairFault>
     requires { ArePut why }
     ensures { EndsAs why result }
@@ -64,7 +64,7 @@ fn after_run(why: PairWhy) -> Result<(), PairFault>
     }
 }
 
-/// Writes two logs, with the line `--` between.
+/// Writes two logs, with the line `--` between them.
 fn put_both<O: Sink>(alloc: Global, one: &Log, other: &Log, out: &mut O) -> Result<(), LogFault>
     ensures ok { OnOk result (Writes (O.taken out.old) (O.taken out.new)
         (pair_text one.now.entries other.now.entries)) }
@@ -79,7 +79,7 @@ fn put_both<O: Sink>(alloc: Global, one: &Log, other: &Log, out: &mut O) -> Resu
     }
 }
 
-/// Writes the line `--`, and a log after it.
+/// Writes the line `--`, and then a log.
 fn put_second<O: Sink>(alloc: Global, log: &Log, out: &mut O) -> Result<(), LogFault>
     ensures ok { OnOk result (Writes (O.taken out.old) (O.taken out.new)
         (codes "--\n" ++ log_text log.now.entries)) }

@@ -1,4 +1,4 @@
-//! What is said of an answer on standard error.
+//! Writes the line of an error to standard error.
 ghost use Rattle.std.specs.Prelude.{◌≡◌};
 ghost use Rattle.tb_edge.specs.Faults.{Rose};
 ghost use Rattle.tb_pair_top.specs.Reporting.{Reports};
@@ -8,7 +8,7 @@ use crate::status::{PairEdge, PairStatus};
 use tb_edge::{Failed, Sink};
 use tb_write::put_line;
 
-/// Writes the line of an error, if there is one.
+/// Writes the line of an error, if there is one. Returns the status with which the program ends.
 pub fn report<E: Sink>(answer: Result<(), PairFault>, err: &mut E) -> PairStatus
     ensures reports { Reports answer (E.taken err.old) (E.taken err.new) result }
     ensures rose { result ≡ PairStatus.Outside PairEdge.Err

@@ -1,4 +1,4 @@
-//! How two programs run as a pair.
+//! Runs two programs as a pair.
 ghost use Rattle.std.specs.Prelude.{◌≡◌, ◌≤◌, [], ◌∷◌, IfErr, IfOk, false, codes, vec_len};
 ghost use Rattle.tb_core.specs.Cores.{Stays, started};
 ghost use Rattle.tb_pair_top.specs.Outcomes.{RunOutcome, TellsFirst, pair_origin};
@@ -18,8 +18,8 @@ use tb_pair_run::run_pair;
 use tb_terms::{Items, NoMemory, Text, Texts};
 use tb_walk::Walk;
 
-/// Runs two programs concurrently, with a pipe between them, and writes both logs. The clock gives at most so many ticks, and each
-/// log has at most so many entries.
+/// Runs two programs concurrently, with a pipe between them, and writes both logs. The clock gives at most `ticks` ticks, and each log has
+/// at most `events` entries.
 pub fn run_programs<R: Threads + Wait + Sync, O: Sink, C: Clock + Send, P: Crew>(
     rt: &R,
     alloc: Global,
@@ -57,11 +57,13 @@ pub fn run_programs<R: Threads + Wait + Sync, O: Sink, C: Clock + Send, P: Crew>
 /// The cores of two buses.
 #[derive(Drop)]
 pub struct Cores {
+    /// The core of the first bus.
     pub first: Core<Walk>,
+    /// The core of the second bus.
     pub second: Core<Walk>,
 }
 
-/// Two buses that begin with these programs. The tool `pipe` is on lane 1 of each.
+/// Makes two buses that start with these programs. The tool `pipe` is on lane 1 of each.
 fn start_both(alloc: Global, programs: Programs, events: u32) -> Result<Cores, NoMemory>
     requires { events ≤ 4000000 }
     ensures { IfOk result (AreStarted programs events) }
@@ -72,7 +74,7 @@ fn start_both(alloc: Global, programs: Programs, events: u32) -> Result<Cores, N
     start_second(alloc, first, second, &connects, events)
 }
 
-/// The same once the first bus was made.
+/// Makes the second bus, and returns it with the first.
 fn start_second(
     alloc: Global,
     first: Core<Walk>,
@@ -89,7 +91,7 @@ fn start_second(
     Ok(Cores { first, second })
 }
 
-/// The one command that is connected.
+/// Returns the list of connected commands, which has only `pipe`.
 fn pipe_alone(alloc: Global) -> Result<Texts, NoMemory>
     ensures { IfOk result (λ connects. connects ≡ codes "pipe" ∷ []) }
 {
@@ -108,7 +110,7 @@ fn pipe_text(alloc: Global) -> Result<Text, NoMemory>
     }
 }
 
-/// The same over two cores.
+/// Runs two cores concurrently, with a pipe between them, and writes both logs.
 fn run_cores<R: Threads + Wait + Sync, O: Sink, C: Clock + Send, P: Crew>(
     rt: &R,
     alloc: Global,

@@ -23,8 +23,8 @@ use tb_load::LoadFault;
 
 /// Runs two scripts as a pair: `FIRST SECOND [--ticks N] [--events N]`. Both run at the same time, each over lanes 2 to 16 of its own.
 /// The terms that the tool `pipe` of the first bus receives in `rec-do` lines are the events of the tool `pipe` of the second. Once
-/// both have ended, the call writes the log of the first to `out`, then the line `--`, then the log of the second.
-/// Each status except `Ended` writes its one line to `err`. If `err` fails at that, the status is `Outside(Err)`.
+/// both have ended, the call writes the log of the first to `out`, then the line `--`, then the log of the second. For each status except
+/// `Ended`, the call writes one line to `err`. If `err` fails at this line, the status is `Outside(Err)`.
 pub fn pair<R: Threads + Wait + Sync, F: Files, O: Sink, E: Sink, C: Clock + Send, P: Crew>(
     rt: &R,
     alloc: Global,
@@ -39,7 +39,7 @@ pub fn pair<R: Threads + Wait + Sync, F: Files, O: Sink, E: Sink, C: Clock + Sen
 ) -> PairStatus
     requires lanes { vec_len first.old ≡ 16 }
     requires others { vec_len second.old ≡ 16 }
-    // Which status comes when, and the files requested, the items given and taken, and the bytes written then.
+    // The statuses that may come, each with the requested files, the effects on the environment, and the written bytes.
     ensures outcome { let seen = all_seen F.Files ⟦<Box<dyn Inlet + Send> as Inlet>⟧
         ⟦<Box<dyn Outlet + Send> as Outlet>⟧ C.Clock P.Crew O.Sink in
         Reported {A = Unit {0}} (Comes (asked_pair (map string_bytes words.now.items))
@@ -47,11 +47,11 @@ pub fn pair<R: Threads + Wait + Sync, F: Files, O: Sink, E: Sink, C: Clock + Sen
         (seen files.new first.new.items second.new.items clock.new crew.new out.new))
         (E.taken err.old) (E.taken err.new) result }
 
-    // With any status, only the two scripts are requested, in their order.
+    // At any status, only the files of the two scripts are requested, in their order.
     ensures asks { AsksSome (files_of (asked_pair (map string_bytes words.now.items)))
         (F.asked files.old) (F.asked files.new) }
 
-    // A part of the environment is named only if it failed in this call.
+    // A status names a part of the environment only if this part failed in the call.
     ensures file_rose { result ≡ PairStatus.Outside PairEdge.File
         → Rose (F.faults files.old) (F.faults files.new) }
     ensures out_rose { result ≡ PairStatus.Outside PairEdge.Out
@@ -69,7 +69,7 @@ pub fn pair<R: Threads + Wait + Sync, F: Files, O: Sink, E: Sink, C: Clock + Sen
     report(answer, err)
 }
 
-/// Does what the arguments request, and reports what failed.
+/// Runs the pair that the arguments request, or returns the error.
 fn answer<R: Threads + Wait + Sync, F: Files, O: Sink, C: Clock + Send, P: Crew>(
     rt: &R,
     alloc: Global,
@@ -149,7 +149,7 @@ fn do_pair<R: Threads + Wait + Sync, F: Files, O: Sink, C: Clock + Send, P: Crew
     }
 }
 
-/// The error of a pair that an error of its files is.
+/// Returns the error of a pair, by the error of its files.
 fn of_load(fault: LoadFault) -> PairFault
     ensures { result ≡ of_load fault }
 {

@@ -1,9 +1,9 @@
--- Two runs of a parser on tokens that begin alike: what it finds depends on no token behind the one at which it stops.
+-- Two runs of a parser on tokens that begin alike: the result depends on no token after the one at which the parser stops.
 use Rattle.std.proofs.Common.{◌≡◌, ℕ, ◌+◌, ◌≤◌, Bool, true, false, List, [], ◌∷◌, ◌++◌, length, refl, arith, if◌then◌else◌}
 use Rattle.tb_lex.specs.declared.kind.TokenKind.{TokenKind}
 use Rattle.tb_parse.specs.Helpers.Parsing.{Outcome, Found, Stops, Parser, after, mapped, begins, tail, expect, skip}
 
--- the position behind what was found, or that at which the parser stops
+-- the position after the result, or that at which the parser stops
 abbrev pub end : {A : Type 0} → Outcome A → ℕ
 end (Found x position rest) = position
 end (Stops position) = position

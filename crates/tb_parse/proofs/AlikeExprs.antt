@@ -1,4 +1,4 @@
--- Expressions and calls are read alike where tokens begin alike.
+-- Expressions and calls are read alike if tokens begin alike.
 use Rattle.std.proofs.Common.{◌≡◌, ℕ, zero, suc, ◌+◌, ◌-◌, ◌≤◌, List, [], ◌∷◌, ◌++◌, length, Option, Some, None, refl, subst, arith, if◌then◌else◌}
 use Rattle.tb_terms.specs.declared.sort.Sort.{Sort}
 use Rattle.tb_lex.specs.declared.kind.TokenKind.{TokenKind}

@@ -1,4 +1,4 @@
--- Names, lists and sorts are read alike where tokens begin alike.
+-- Names, lists, and types are read alike if tokens begin alike.
 use Rattle.std.proofs.Common.{ℕ, zero, suc, ◌+◌, ◌-◌, ◌≤◌, Bool, true, false, List, [], ◌∷◌, ◌++◌, length, refl, arith, codes, if◌then◌else◌}
 use Rattle.std.specs.Str.{bytes_eq}
 use Rattle.tb_terms.specs.declared.sort.Sort.{Sort}
@@ -73,7 +73,7 @@ in_parens_alike {item = item} {same = same} room more count h i s =
     (behind _ _ count (parted_alike room more count h i s) (λ xs. expected (is_sign RightParen) xs count))
     (finding count [])
 
--- Sorts.
+-- Types.
 
 inside : Parser (Sort × ℕ) → Parser (Sort × ℕ)
 inside item at ks = after (mapped (λ found. (sorts.List found.0, found.1)) (item at ks)) (expect (is_sign RightParen))

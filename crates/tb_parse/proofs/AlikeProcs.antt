@@ -1,4 +1,4 @@
--- Atoms and processes are read alike where tokens begin alike.
+-- Atoms and processes are read alike if tokens begin alike.
 use Rattle.std.proofs.Common.{ℕ, zero, suc, ◌+◌, ◌-◌, ◌≤◌, List, [], ◌∷◌, ◌++◌, length, Some, None, refl, arith, codes}
 use Rattle.std.specs.Str.{bytes_eq}
 use Rattle.tb_lex.specs.declared.kind.TokenKind.{TokenKind}
@@ -66,7 +66,7 @@ times_alike inner outer (suc room) (suc more) count h i j k =
     by_token (count - 1) count (omega arith) (λ at. omega arith)
     (times_by inner outer room more (count - 1) (omega arith) i (times_alike inner outer room more (count - 1) (omega arith) i (omega arith) (omega arith)))
 
--- Processes with a sign between them.
+-- Processes with an operator between them.
 
 rightward_alike : {item same : Parser Proc} (sign : Symbol) (join : Proc → Proc → Proc) (room more count : ℕ) → count ≤ room → room ≤ more → Same count item same → Same count (rightward sign join item room) (rightward sign join same more)
 unfolding rightward
@@ -107,7 +107,7 @@ module _ {item same : Parser Proc} (room more count : ℕ) (h : count ≤ room) 
   unfolding transfer
   transfer_alike = rightward_alike Angles tree.Disrupt room more count h i merge_alike
 
--- What stands by itself.
+-- Constructs of level `Prim`.
 
 module _ (room more count : ℕ) (h : count ≤ room) (i : room ≤ more) where
   timed_alike : (position : ℕ) (what : ActDef) → Same count (timed room position what) (timed more position what)

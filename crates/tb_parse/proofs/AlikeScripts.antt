@@ -1,4 +1,4 @@
--- Scripts are read alike where tokens begin alike: with the token of a fault, no script's spelling begins.
+-- Scripts are read alike if tokens begin alike: no script's spelling begins with the tokens through that of an error.
 use Rattle.std.proofs.Common.{◌≡◌, ℕ, zero, suc, ◌+◌, ◌-◌, ◌<◌, ◌≤◌, Bool, true, false, List, [], ◌∷◌, ◌++◌, length, take, drop, Some, None, refl, ap, sym, ◌∙◌, arith, codes}
 use Rattle.std.proofs.lemmas.List.{length-append, length-take-le, take-append-drop}
 use Rattle.tb_lex.specs.declared.kind.TokenKind.{TokenKind}
@@ -85,11 +85,11 @@ stays (Alike.beyond h i) e j = absurd (let f = ap end e in omega arith)
 stays (Alike.found us h i) e j = absurd (cc)
 stays (Alike.stops h) e j = cc
 
--- A fault stays where it is, whatever stands behind its token.
+-- An error's position doesn't depend on the tokens after it.
 pub stopped_so : (room : ℕ) (us vs ws : List TokenKind) (position : ℕ) → length us ≤ room → script room 0 (us ++ vs) ≡ Stops position → position < length us → script (room + length ws) 0 (us ++ ws) ≡ Stops position
 stopped_so room us vs ws position h e i = stays ((script_alike room (room + length ws) (length us) h (omega arith)).alike 0 us vs ws (omega arith)) e (omega arith)
 
--- with the token at which reading stops, no script's spelling begins
+-- no script's spelling begins with the tokens through the one at which reading stops
 pub wrong : (room : ℕ) (ks : List TokenKind) (position : ℕ) → length ks ≤ room → script room 0 ks ≡ Stops position → position < length ks → Begins (take (position + 1) ks) → ⊥
 wrong room ks position h e i b =
     let us : List TokenKind = take (position + 1) ks in

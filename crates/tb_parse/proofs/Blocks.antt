@@ -1,4 +1,4 @@
--- Processes within words, of which only what is built is known.
+-- Processes between words, of which only the built form is known.
 use Rattle.std.proofs.Common.{◌≡◌, ℕ, ◌+◌, Bool, true, false, List, Some, None, codes, refl, sym, ap, ◌∙◌, if◌then◌else◌}
 use Rattle.tb_syntax.specs.declared.ast.Ast.{Ast}
 use Rattle.tb_syntax.specs.declared.proc.Proc.{Proc}

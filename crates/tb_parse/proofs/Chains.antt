@@ -1,4 +1,4 @@
--- A loop that collects the members of a chain, beside the recursion that says what the chain is.
+-- The loop that collects the members of a chain agrees with the recursion that defines the chain.
 use Rattle.std.proofs.Common.{◌≡◌, ℕ, ◌+◌, ◌-◌, ◌<◌, ◌≤◌, Bool, true, false, List, [], ◌∷◌, ◌++◌, refl, sym, ap, subst, ◌∙◌, arith, if◌then◌else◌}
 use Rattle.tb_syntax.specs.declared.proc.Proc.{Proc}
 use Rattle.tb_parse.specs.declared.built.Built.{Built}

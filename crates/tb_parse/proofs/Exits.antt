@@ -1,4 +1,4 @@
--- What a function answers that passes a fault on.
+-- The result of a function that passes an error on.
 use Rattle.std.proofs.Common.{◌≡◌, ℕ, Result, sym, subst}
 use Rattle.std.specs.Result.{IsErrAnd}
 use Rattle.std.proofs.lemmas.Result.{err_from_is_err_and}

@@ -1,4 +1,4 @@
--- What an outcome says of the tokens, carried through each way in which parsers are put together.
+-- What an outcome implies for the tokens, for each way to combine parsers.
 use Rattle.std.proofs.Common.{◌≡◌, ℕ, ◌+◌, Bool, true, false, List, [], ◌∷◌, ◌++◌, length, refl, ap, sym, ◌∙◌, subst, arith, append_assoc, append-nil, if◌then◌else◌}
 use Rattle.std.proofs.lemmas.List.{length-append}
 use Rattle.tb_lex.specs.declared.kind.TokenKind.{TokenKind}
@@ -7,19 +7,19 @@ use Rattle.tb_lex.specs.declared.symbol.Symbol.{Symbol}
 use Rattle.tb_parse.specs.Helpers.Parsing.{Outcome, Found, Stops, Parser, after, mapped, is_sign, is_word, begins, tail, expect, skip}
 use Rattle.tb_parse.proofs.Signs.{is_that_sign, is_that_word}
 
--- what may be said of a thing and the tokens that spell it
+-- a relation between a construct and the tokens that spell it
 abbrev pub Spelt : Type 0 → Type 1
 Spelt A = A → List TokenKind → Type 0
 
--- some thing's spelling begins so
+-- the spelling of some construct begins with these tokens
 abbrev pub Opens : {A : Type 0} → Spelt A → List TokenKind → Type 0
 Opens {A = A} S xs = (more : List TokenKind) × (x : A) × S x (xs ++ more)
 
--- the position is that of the first token that can't go on, or of the end: some thing's spelling begins with the tokens in front of it
+-- some construct's spelling begins with the tokens before this position
 abbrev pub StopsAt : {A : Type 0} → Spelt A → ℕ → List TokenKind → ℕ → Type 0
 StopsAt S at ks position = (xs rest : List TokenKind) × (ks ≡ xs ++ rest) × (position ≡ at + length xs) × Opens S xs
 
--- what was found is spelt by tokens at the front, and the others are left; or the parser stops
+-- tokens at the start spell the result, and the others are left; or the parser stops
 abbrev pub FitsAt : {A : Type 0} → Spelt A → ℕ → List TokenKind → Outcome A → Type 0
 FitsAt S at ks (Found x end rest) = (xs : List TokenKind) × (ks ≡ xs ++ rest) × (end ≡ at + length xs) × S x xs
 FitsAt S at ks (Stops position) = StopsAt S at ks position
@@ -33,7 +33,7 @@ found s = record { fits = ([], refl, omega arith, s) }
 pub stops : {A : Type 0} {S : Spelt A} {at : ℕ} {ks : List TokenKind} → Opens S [] → Fits S at ks (Stops at)
 stops {ks = ks} o = record { fits = ([], ks, refl, omega arith, o) }
 
--- Where a parser is given no tokens, what it says is that some spelling goes on there.
+-- If a parser is given no tokens, it claims that some spelling continues there.
 
 no_tokens : (xs rest : List TokenKind) → [] ≡ xs ++ rest → xs ≡ []
 no_tokens [] rest e = refl

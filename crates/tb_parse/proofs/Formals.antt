@@ -1,4 +1,4 @@
--- A formal, which may be a result.
+-- A parameter, which can be a result parameter.
 use Rattle.std.proofs.Common.{◌≡◌, ℕ, ◌+◌, Bool, true, false, refl, sym, ap, ◌∙◌, if◌then◌else◌}
 use Rattle.tb_lex.specs.declared.symbol.Symbol.TheVariants.{Question}
 use Rattle.tb_syntax.specs.declared.proc.Var.{Var}

@@ -1,4 +1,4 @@
--- What is kept of definitions, one after another.
+-- The definitions that the parser keeps, one after another.
 use Rattle.std.proofs.Common.{◌≡◌, ℕ, suc, ◌+◌, ◌-◌, ◌<◌, ◌≤◌, Bool, true, false, not, nat_lt, List, [], ◌∷◌, ◌++◌, Option, Some, None, codes, refl, sym, ap, subst, ◌∙◌, arith, append_assoc, append-nil, Result, Ok, Err, if◌then◌else◌}
 use Rattle.std.specs.Prelude.{filter, find, option_map}
 use Rattle.std.specs.Result.{IsErrAnd}

@@ -1,4 +1,4 @@
--- How many brackets are open behind one token more.
+-- The number of open brackets after one more token.
 use Rattle.std.proofs.Common.{◌≡◌, ℕ, ◌+◌, ◌<◌, ◌≤◌, List, length, take, get_or, refl, sym, ap, ◌∙◌, arith, below_more}
 use Rattle.std.proofs.lemmas.List.{get_or-map, length-map}
 use Rattle.std.proofs.lemmas.List.Sums.{fold_more}
@@ -18,7 +18,7 @@ open_more tokens i t h e =
     fold_more open_step 0 (kinds_of tokens) i t.kind inside
     ∙ ap (λ (k : TokenKind). open_step (open_brackets (take i (kinds_of tokens))) k) (get_or-map (λ (token : Token). token.kind) tokens i t t.kind h ∙ ap (λ (t : Token). t.kind) (sym e))
 
--- what is known in front of a position
+-- what is known before a position
 pub record Counted (tokens : List Token) (position count : ℕ) : Type 0 where
   pub same : count ≡ open_brackets (take position (kinds_of tokens))
   pub few : count ≤ 128

@@ -1,4 +1,4 @@
--- Each row of tokens is a script within the limits or has a fault, and no two of them.
+-- Each sequence of tokens is a script within the limits or has an error, and has only one of these.
 use Rattle.std.proofs.Common.{◌≡◌, ◌≢◌, ℕ, zero, suc, ◌+◌, ◌-◌, ◌≤◌, ◌<◌, ◌⊎◌, List, [], ◌++◌, length, take, drop, Option, Some, None, refl, ap, sym, ◌∙◌, subst, inl, inr, arith, append_assoc}
 use Rattle.std.proofs.lemmas.Bool.{cases_lt}
 use Rattle.std.proofs.lemmas.List.{length-take-le, take-append-drop}
@@ -15,7 +15,7 @@ use Rattle.tb_parse.proofs.ReadScripts.{complete, unique}
 use Rattle.tb_parse.proofs.SoundScripts.{sound, begun}
 use Rattle.tb_parse.proofs.AlikeScripts.{wrong}
 
--- Faults and scripts exclude each other.
+-- Errors and scripts exclude each other.
 
 deep_apart : (kinds : List TokenKind) (p : ℕ) → IsTooDeep kinds p → NoneTooDeep kinds → ⊥
 deep_apart kinds p d shallow = let low = shallow p d.is_position in let over = d.is_over in absurd (omega arith)
@@ -50,7 +50,7 @@ take_more kinds n q h i =
     let count : q ≡ length (take n kinds) + (q - n) = omega arith in
     ap (take q) (sym (take-append-drop n kinds)) ∙ ap (λ m. take m (take n kinds ++ drop n kinds)) count ∙ take-append-add (take n kinds) (drop n kinds) (q - n)
 
--- where tokens begin a spelling, fewer of them do too
+-- if tokens begin a spelling, each prefix of them does too
 fewer_begin : (kinds : List TokenKind) (n q : ℕ) → n ≤ q → n ≤ length kinds → Begins (take q kinds) → Begins (take n kinds)
 fewer_begin kinds n q h i b =
     let more : List TokenKind = take (q - n) (drop n kinds) in
@@ -120,7 +120,7 @@ spelt_has_one : (kinds : List TokenKind) → NoneTooDeep kinds → (s : Script) 
 spelt_has_one kinds shallow s d None e = inl (s, record { shallow = shallow; spells = d; low = e })
 spelt_has_one kinds shallow s d (Some p) e = inr (fault.TooDeep p, inr (record { shallow = shallow; script = s; spells = d; first = e }), deep_is_other p)
 
--- with room for all tokens, what can't be read is no script, and this is the position of its fault
+-- with room for all tokens, tokens that can't be read are no script, and this is the position of their error
 pub stopped : (kinds : List TokenKind) (room p : ℕ) → length kinds ≤ room → NoneTooDeep kinds → script room 0 kinds ≡ Stops p → IsSyntaxFault kinds p
 stopped kinds room p h shallow e = record { shallow = shallow; unspelt = none; is_position = first.0; begun = first.1; stops = wrong room kinds p h e } where
   first : (p ≤ length kinds) × Begins (take p kinds)

@@ -1,4 +1,4 @@
--- What is answered of a list of tokens, from what is read of it.
+-- The result for a sequence of tokens, from the outcome of reading it.
 use Rattle.std.proofs.Common.{◌≡◌, ◌≢◌, ℕ, ◌≤◌, ◌⊎◌, List, [], length, Result, Ok, Err, refl, ap, ◌∙◌, inl, inr}
 use Rattle.std.specs.Prelude.{IfOk, IfErr}
 use Rattle.tb_lex.specs.declared.kind.TokenKind.{TokenKind}

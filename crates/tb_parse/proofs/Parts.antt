@@ -1,11 +1,11 @@
--- A loop that collects parts between commas, beside the recursion that says what they are.
+-- The loop that collects parts between commas agrees with the recursion that defines them.
 use Rattle.std.proofs.Common.{◌≡◌, ℕ, ◌+◌, ◌-◌, ◌<◌, ◌≤◌, Bool, true, false, List, [], ◌∷◌, ◌++◌, refl, sym, ap, subst, ◌∙◌, arith, append_assoc, if◌then◌else◌}
 use Rattle.tb_lex.specs.declared.symbol.Symbol.TheVariants.{Comma}
 use Rattle.tb_parse.specs.Helpers.Parsing.{Outcome, Found, Stops, Parser, after, mapped, begins, is_sign, tail, parted}
 use Rattle.tb_parse.specs.Helpers.Reading.{Ahead, runs, next, eaten}
 use Rattle.tb_parse.proofs.Turns.{one_more, no_more}
 
--- the parts so far, in front of what comes in the turns that are left
+-- the parts so far, before those of the remaining turns
 abbrev pub PartsSoFar : {A : Type 0} → Parser A → ℕ → Ahead → List A → ℕ → Ahead → Type 0
 PartsSoFar item room start found turn ahead =
     runs (parted item room) start ≡ mapped (λ xs. found ++ xs) (runs (parted item (room - turn)) ahead)

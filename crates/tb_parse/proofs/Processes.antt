@@ -1,4 +1,4 @@
--- The definition of a process, of whose body only what is built is known.
+-- The definition of a process, of whose body only the built form is known.
 use Rattle.std.proofs.Common.{◌≡◌, ℕ, List, codes, sym, ap, ◌∙◌}
 use Rattle.tb_syntax.specs.declared.proc.Proc.{Proc}
 use Rattle.tb_syntax.specs.declared.script.Formal.{Formal}

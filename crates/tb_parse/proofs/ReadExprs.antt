@@ -1,4 +1,4 @@
--- An expression and a call are read as they are spelt.
+-- The parser reads each spelling of an expression or of a call as this construct.
 use Rattle.std.proofs.Common.{◌≡◌, ℕ, zero, suc, ◌+◌, ◌≤◌, Bool, true, false, List, [], ◌∷◌, ◌++◌, length, refl, ap, sym, ◌∙◌, subst, arith, append_assoc}
 use Rattle.std.proofs.lemmas.List.{length-append}
 use Rattle.tb_lex.specs.declared.kind.TokenKind.{TokenKind}
@@ -14,7 +14,7 @@ use Rattle.tb_parse.specs.Helpers.Parsing.{Parser, Found, mapped, begins, is_sig
 use Rattle.tb_parse.proofs.ReadParts.{either, neither, arrives, read, read_mapped, ReadsIn, Reads, parted_reads, in_parens_reads}
 use Rattle.tb_parse.proofs.ReadSorts.{hole_reads}
 
--- what goes on with an expression
+-- the tokens that can continue an expression
 abbrev pub on_expr : TokenKind → Bool
 on_expr = either (is_sign LeftParen) (is_sign Question)
 
@@ -107,7 +107,7 @@ actuals_read d room h more e = parts_read (arguments_read d) room h more e
 
 -- Calls.
 
--- behind the name
+-- after the name
 pub call_of_reads : (c : Call) (at : ℕ) (ks : List TokenKind) → c.token ≡ at → SpellsArguments (at + 1) c.actuals ks → (room : ℕ) → length ks ≤ room → (more : List TokenKind) → begins (is_sign LeftParen) more ≡ false
     → call_of room c.name at (at + 1) (ks ++ more) ≡ Found c (at + length (Upper c.name ∷ ks)) more
 unfolding call_of

@@ -1,4 +1,4 @@
--- How what is put together reads its tokens, whatever stands behind them.
+-- How combined parsers read their tokens, whatever follows them.
 use Rattle.std.proofs.Common.{◌≡◌, ℕ, zero, suc, ◌+◌, ◌≤◌, Bool, false, ◌||◌, List, [], ◌∷◌, ◌++◌, length, refl, ap, ◌∙◌, arith, append_assoc}
 use Rattle.std.proofs.lemmas.List.{length-append}
 use Rattle.std.proofs.lemmas.Bool.{or_parts}
@@ -8,7 +8,7 @@ use Rattle.tb_lex.specs.declared.symbol.Symbol.TheVariants.{LeftParen, RightPare
 use Rattle.tb_syntax.specs.Spelling.{Parted, InParens}
 use Rattle.tb_parse.specs.Helpers.Parsing.{Parser, Outcome, Found, after, mapped, begins, is_sign, parted, in_parens}
 
--- The first token behind a construct may be one that goes on with it.
+-- The first token after a construct can be one that continues it.
 
 abbrev pub either : (TokenKind → Bool) → (TokenKind → Bool) → TokenKind → Bool
 either f g k = f k || g k
@@ -20,7 +20,7 @@ neither f g (k ∷ ks) e = or_parts (f k) (g k) e
 pub arrives : {A : Type 0} {x : A} {a b : ℕ} {more : List TokenKind} → a ≡ b → ◌≡◌ {A = Outcome A} (Found x a more) (Found x b more)
 arrives {x = x} {more = more} e = ap (λ n. Found x n more) e
 
--- Parts that are read one behind the other.
+-- Parts that are read one after the other.
 
 pub read : {A B : Type 0} (p : Parser A) (next : A → Parser B) {here at : ℕ} {x : A} {r : Outcome B} (xs rest more : List TokenKind) → here ≡ at → p at (xs ++ (rest ++ more)) ≡ Found x (at + length xs) (rest ++ more)
     → next x (at + length xs) (rest ++ more) ≡ r → after (p here ((xs ++ rest) ++ more)) next ≡ r
@@ -34,11 +34,11 @@ pub read_mapped : {A B : Type 0} (p : Parser A) (f : A → B) {here at end : ℕ
     → mapped f (p here (xs ++ more)) ≡ Found (f x) end more
 read_mapped p f xs more h e g = ap (λ n. mapped f (p n (xs ++ more))) h ∙ ap (λ o. mapped f o) e ∙ arrives g
 
--- with room enough, and nothing behind that goes on with it, it is read
+-- with enough room, and no token after it that can continue it, the construct is read
 abbrev pub ReadsIn : {A : Type 0} → (ℕ → Parser A) → (TokenKind → Bool) → ℕ → A → List TokenKind → Type 0
 ReadsIn p goes at x ks = (room : ℕ) → length ks ≤ room → (more : List TokenKind) → begins goes more ≡ false → p room at (ks ++ more) ≡ Found x (at + length ks) more
 
--- the same of something that has a token
+-- the same claim for a construct that has a token
 pub record Reads {A : Type 0} (p : ℕ → Parser A) (goes : TokenKind → Bool) (at : ℕ) (x : A) (ks : List TokenKind) : Type 0 where
   pub some : 1 ≤ length ks
   pub reads : ReadsIn p goes at x ks

@@ -1,4 +1,4 @@
--- A process is read as it is spelt, however tightly it is bound.
+-- The parser reads each spelling of a process, at each level, as this process.
 use Rattle.std.proofs.Common.{◌≡◌, ℕ, zero, suc, ◌+◌, ◌≤◌, ◌<◌, Bool, false, List, [], ◌∷◌, ◌++◌, length, Some, None, refl, ap, sym, ◌∙◌, subst, arith, append_assoc, codes}
 use Rattle.std.proofs.lemmas.List.{length-append}
 use Rattle.tb_lex.specs.declared.kind.TokenKind.{TokenKind}
@@ -20,7 +20,7 @@ use Rattle.tb_parse.proofs.ReadParts.{either, neither, arrives, read, read_last,
 use Rattle.tb_parse.proofs.ReadExprs.{on_expr, expr_reads, call_of_reads}
 use Rattle.tb_parse.proofs.ReadAtoms.{atom_reads, var_reads}
 
--- What goes on with a process, at each level.
+-- The tokens that can continue a process, at each level.
 
 abbrev on_prim : TokenKind → Bool
 on_prim = either on_expr (either (is_sign Assign) is_time)
@@ -40,7 +40,7 @@ on_par = either (is_sign Bars) on_alt
 abbrev pub on_proc : TokenKind → Bool
 on_proc = either (is_sign Angles) on_par
 
--- Processes with a sign between them.
+-- Processes with an operator between them.
 
 right_last : (sign : Symbol) (join : Proc → Proc → Proc) (item : Parser Proc) (at : ℕ) (x : Proc) (xs : List TokenKind) (room : ℕ) → length xs < room → (more : List TokenKind)
     → item at (xs ++ more) ≡ Found x (at + length xs) more → begins (is_sign sign) more ≡ false → rightward sign join item room at (xs ++ more) ≡ Found x (at + length xs) more
@@ -58,7 +58,8 @@ right_more sign join item at x y xs ys (suc room) h more e f =
     let sum = length-append xs (Sign sign ∷ ys) in
     read item _ xs (Sign sign ∷ ys) more refl e (rw (its_own sign) (ap (λ o. mapped (join x) o) (f room (omega arith)) ∙ arrives (omega arith)))
 
--- With room enough, and nothing behind that goes on with it, a process is read at its level; of one with stars it's said what is left to read.
+-- With enough room, and no token after it that can continue it, a process is read at its level. For one with stars, the claim says
+-- what is left to read.
 abbrev At : Level → ℕ → Proc → List TokenKind → Type 0
 At level.Prim at x xs = (room : ℕ) → length xs < room → (more : List TokenKind) → begins on_prim more ≡ false → prim room at (xs ++ more) ≡ Found x (at + length xs) more
 At level.Star at x xs = (inner room : ℕ) → length xs < inner → length xs < room → (more : List TokenKind) → begins on_prim more ≡ false
@@ -173,7 +174,7 @@ transfer_reads : (at : ℕ) (x : Proc) (xs : List TokenKind) → At level.Proc a
 unfolding transfer
 transfer_reads at x xs d inner wide h i more e = d inner wide wide h i i more e
 
--- What stands by itself.
+-- Constructs of level `Prim`.
 
 prim_by : (at : ℕ) (x : Proc) (xs : List TokenKind)
     → ((room : ℕ) → length xs ≤ room → (more : List TokenKind) → begins on_prim more ≡ false → prim_of (transfer (prim room) room) room at (xs ++ more) ≡ Found x (at + length xs) more) → At level.Prim at x xs

@@ -1,4 +1,4 @@
--- A script is read as it is spelt, so its tokens spell no other.
+-- The parser reads each spelling of a script as this script, so its tokens spell no other script.
 use Rattle.std.proofs.Common.{◌≡◌, ℕ, zero, suc, ◌+◌, ◌≤◌, ◌<◌, Bool, true, false, List, [], ◌∷◌, ◌++◌, length, Option, Some, None, refl, ap, sym, ◌∙◌, subst, arith, append_assoc, codes}
 use Rattle.std.proofs.lemmas.List.{length-append}
 use Rattle.tb_lex.specs.declared.kind.TokenKind.{TokenKind}
@@ -19,7 +19,7 @@ use Rattle.tb_parse.proofs.ReadExprs.{on_expr, call_reads}
 use Rattle.tb_parse.proofs.ReadAtoms.{var_reads}
 use Rattle.tb_parse.proofs.ReadProcs.{on_proc, proc_reads}
 
--- Formals.
+-- Parameters.
 
 abbrev formal_with : Formal → Bool → Formal
 formal_with f result = record { name = f.name; sort = f.sort; result = result; token = f.token; sort_token = f.sort_token }
@@ -44,7 +44,7 @@ formal_reads {at = at} {f = f} d =
 
 -- Definitions of processes.
 
--- behind the word
+-- after the word
 process_by : (d : ProcDef) (at : ℕ) (fs bs : List TokenKind) → d.token ≡ at → InParens (Reads formal on_expr) (at + 2) d.formals fs
     → ((room : ℕ) → length bs < room → (more : List TokenKind) → begins on_proc more ≡ false → proc room (at + length fs + 3) (bs ++ more) ≡ Found d.body (at + length fs + 3 + length bs) more)
     → (room : ℕ) → length fs + length bs < room → (more : List TokenKind) → begins on_proc more ≡ false
@@ -60,7 +60,7 @@ process_by d at fs bs position f b room h more e =
 
 -- Definitions of tools.
 
--- behind the word
+-- after the word
 tool_by : (at : ℕ) (name : List ℕ) (c : Option (List ℕ)) → is_free name ≡ true → (more : List TokenKind)
     → tool at (at + 1) (Lower name ∷ Lower (codes "is") ∷ Sign LeftBrace ∷ ((command_tokens c ++ Sign RightBrace ∷ []) ++ more))
     ≡ Found (record { name = name; command = c; token = at }) (at + 1 + length (Lower name ∷ Lower (codes "is") ∷ Sign LeftBrace ∷ (command_tokens c ++ Sign RightBrace ∷ []))) more
@@ -178,7 +178,7 @@ script_in : Script → Outcome Script → Script
 script_in other (Found s at rest) = s
 script_in other (Stops at) = other
 
--- tokens spell one script at most
+-- tokens spell at most one script
 pub unique : (ks : List TokenKind) (s t : Script) → Spells s ks → Spells t ks → s ≡ t
 unfolding script_in
 unique ks s t d e = ap (script_in s) (sym (complete s ks d (length ks) (omega arith)) ∙ complete t ks e (length ks) (omega arith))

@@ -1,4 +1,4 @@
--- A whole script, of whose definitions only what is kept is known.
+-- A whole script, of whose definitions only the kept part is known.
 use Rattle.std.proofs.Common.{◌≡◌, ℕ, Bool, true, false, not, List, [], ◌∷◌, Option, Some, None, Result, Err, codes, refl, sym, ap, subst, ◌∙◌, if◌then◌else◌}
 use Rattle.std.specs.Prelude.{filter, find, option_map}
 use Rattle.std.specs.Result.{IsErrAnd}

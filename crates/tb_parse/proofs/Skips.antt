@@ -1,4 +1,4 @@
--- One token that has to come, by itself and in front of the rest.
+-- One token that must come next, alone or before the rest.
 use Rattle.std.proofs.Common.{◌≡◌, ℕ, ◌+◌, Bool, true, false, List, if◌then◌else◌}
 use Rattle.tb_lex.specs.declared.kind.TokenKind.{TokenKind}
 use Rattle.tb_parse.specs.Helpers.Parsing.{Outcome, Found, Stops, Parser, begins, tail, expect, skip}

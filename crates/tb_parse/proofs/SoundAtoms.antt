@@ -1,4 +1,4 @@
--- What is read as an atom with its times, or as a variable, is spelt so.
+-- The tokens that are read as an atom with its time conditions, or as a variable, spell it.
 use Rattle.std.proofs.Common.{◌≡◌, ℕ, zero, suc, ◌+◌, Bool, true, false, List, [], ◌∷◌, ◌++◌, length, if◌then◌else◌, refl, subst, arith, codes}
 use Rattle.tb_lex.specs.declared.kind.TokenKind.{TokenKind}
 use Rattle.tb_lex.specs.declared.kind.TokenKind.TheVariants.{Int, Str, Lower, Upper, Symbol as Sign}
@@ -22,7 +22,7 @@ at_expr {x = x} {ks = ks} e d = subst (λ n. SpellsExpr n x ks) e d
 at_call : {at to : ℕ} {c : Call} {ks : List TokenKind} → at ≡ to → SpellsCall at c ks → SpellsCall to c ks
 at_call {c = c} {ks = ks} e d = subst (λ n. SpellsCall n c ks) e d
 
--- behind the word
+-- after the word
 pub create_sound : (room position : ℕ) (ks : List TokenKind) → Fits (λ a ns. SpellsAct position a (Lower (codes "create") ∷ ns)) (position + 1) ks (create room (position + 1) ks)
 unfolding create
 create_sound room position ks =
@@ -52,7 +52,7 @@ times_sound inner (suc room) at (Upper name ∷ ks) = found (InRow.none at)
 times_sound inner (suc room) at (Sign symbol ∷ ks) = found (InRow.none at)
 times_sound inner (suc room) at (Lower name ∷ ks) = times_by inner room at name ks (times_sound inner room) (is_time_word name) refl
 
--- behind what an atom does
+-- after the action of an atom
 pub timed_sound : (room position : ℕ) (what : ActDef) (bs : List TokenKind) → SpellsAct position what bs → (at : ℕ) → at ≡ position + length bs → (ks : List TokenKind)
     → Fits (λ p ns. SpellsProc level.Prim position p (bs ++ ns)) at ks (timed room position what at ks)
 unfolding timed

@@ -1,4 +1,4 @@
--- What is read as an expression is spelt so.
+-- The tokens that are read as an expression spell it.
 use Rattle.std.proofs.Common.{◌≡◌, ℕ, zero, suc, ◌+◌, Bool, true, false, List, [], ◌∷◌, ◌++◌, Option, Some, None, if◌then◌else◌, refl, subst, arith, codes}
 use Rattle.tb_terms.specs.declared.sort.Sort.{Sort}
 use Rattle.tb_terms.specs.declared.sort.Sort.TheVariants as sorts
@@ -25,12 +25,12 @@ arguments_of : {at : ℕ} {xs : List Ast} {ks : List TokenKind} → InParens Spe
 arguments_of (InParens.none at) = SpellsArguments.none at
 arguments_of (InParens.some ds) = SpellsArguments.some (exprs_of ds)
 
--- Holes.
+-- Placeholders.
 
 abbrev NamedHole : ℕ → AstKind → List TokenKind → Type 0
 NamedHole at k ks = SpellsKind at k (Sign Less ∷ (ks ++ Sign Greater ∷ []))
 
--- some hole may stand there
+-- a placeholder can be there
 no_hole : (at : ℕ) → Opens (λ k ns. SpellsKind at k (Sign Less ∷ ns)) []
 no_hole at = (Lower (codes "int") ∷ Sign Greater ∷ [], ast.Hole sorts.Int, SpellsKind.hole at IsSortWord.int)
 
@@ -50,7 +50,7 @@ hole_sound at (Lower name ∷ ks) = hole_by at name ks (word_sort name) refl (wo
 
 -- Expressions.
 
--- a variable may stand there
+-- a variable can be there
 no_kind : (at : ℕ) → Opens (SpellsKind at) []
 no_kind at = (Upper (codes "A") ∷ [], ast.Var (codes "A"), SpellsKind.variable at (codes "A"))
 
@@ -101,7 +101,7 @@ arguments_sound room at ks = weaker (in_parens_sound SpellsExpr (expr room) (exp
 call_made : (at : ℕ) (name : List ℕ) (actuals : List Ast) (ks : List TokenKind) → SpellsArguments (at + 1) actuals ks → SpellsCall at (record { name = name; actuals = actuals; token = at }) (Upper name ∷ ks)
 call_made at name actuals ks d = record { position = refl; actuals = ks; are_actuals = d; is = refl }
 
--- behind the name
+-- after the name
 pub call_of_sound : (room at : ℕ) (name : List ℕ) (ks : List TokenKind) → Fits (λ c ns. SpellsCall at c (Upper name ∷ ns)) (at + 1) ks (call_of room name at (at + 1) ks)
 unfolding call_of
 call_of_sound room at name ks = mapping _ (arguments_sound room (at + 1) ks) (λ xs ns d. call_made at name xs ns d)

@@ -1,4 +1,4 @@
--- What is read with commas, in parentheses or in a row is spelt so.
+-- The tokens that are read as a list, with commas, in parentheses, or one after another, spell it.
 use Rattle.std.proofs.Common.{ℕ, zero, suc, ◌+◌, List, [], ◌∷◌, ◌++◌, length, sym, subst, append-nil}
 use Rattle.tb_lex.specs.declared.kind.TokenKind.{TokenKind}
 use Rattle.tb_lex.specs.declared.symbol.Symbol.TheVariants.{LeftParen, RightParen, Comma}
@@ -6,7 +6,7 @@ use Rattle.tb_syntax.specs.Spelling.{Parted, InParens}
 use Rattle.tb_parse.specs.Helpers.Parsing.{Parser, parted, in_parens, expect, is_sign, after, mapped}
 use Rattle.tb_parse.proofs.Fits.{Fits, found, stops, opens, behind, mapping, with_sign, expect_sign}
 
--- a parser of things that are spelt so
+-- a parser whose results are spelled by the tokens that it reads
 abbrev pub Sound : {A : Type 0} → (ℕ → A → List TokenKind → Type 0) → Parser A → Type 0
 Sound S item = (at : ℕ) (ks : List TokenKind) → Fits (S at) at ks (item at ks)
 

@@ -1,4 +1,4 @@
--- What is read as a process is spelt so.
+-- The tokens that are read as a process spell it.
 use Rattle.std.proofs.Common.{◌≡◌, ℕ, zero, suc, ◌+◌, Bool, true, false, List, [], ◌∷◌, ◌++◌, length, Some, if◌then◌else◌, refl, sym, subst, arith, codes, append_assoc}
 use Rattle.std.proofs.lemmas.List.{length-append}
 use Rattle.std.specs.Str.{bytes_eq}
@@ -23,7 +23,7 @@ use Rattle.tb_parse.proofs.SoundAtoms.{at_expr, create_sound, timed_sound, var_s
 pub at_proc : {l : Level} {at to : ℕ} {p : Proc} {ks : List TokenKind} → at ≡ to → SpellsProc l at p ks → SpellsProc l to p ks
 at_proc {l = l} {p = p} {ks = ks} e d = subst (λ n. SpellsProc l n p ks) e d
 
--- Processes with a sign between them.
+-- Processes with an operator between them.
 
 rightward_sound : (sign : Symbol) (join : Proc → Proc → Proc) (S R : ℕ → Proc → List TokenKind → Type 0)
     → ((at : ℕ) (x : Proc) (xs : List TokenKind) → S at x xs → R at x xs)
@@ -73,7 +73,7 @@ unfolding transfer
 transfer_sound item h room =
     rightward_sound Angles tree.Disrupt (SpellsProc level.Par) (SpellsProc level.Proc) (λ at x xs d. SpellsProc.one_par d) (λ at x y xs ys d e. SpellsProc.disrupt d e) (merge item room) (merge_sound item h room) room
 
--- What stands by itself.
+-- Constructs of level `Prim`.
 
 upper_proc_sound : (room : ℕ) (name : List ℕ) (position : ℕ) (ks : List TokenKind) → Fits (λ p ns. SpellsProc level.Prim position p (Upper name ∷ ns)) (position + 1) ks (upper_proc room name position (position + 1) ks)
 unfolding upper_proc
@@ -100,7 +100,7 @@ test_sound whole h room position ks = behind _ (expr_sound room (position + 1) k
     expect_word (codes "fi") _ (SpellsProc.test_else d (at_proc (omega arith) e) (at_proc (omega arith) f))))
     (expect_word (codes "fi") _ (SpellsProc.test d (at_proc (omega arith) e))))))
 
--- some call may stand there
+-- a call can be there
 no_prim : (at : ℕ) → Opens (SpellsProc level.Prim at) []
 no_prim at = (
   Upper (codes "A") ∷ [],

@@ -1,4 +1,4 @@
--- What is read as a script is spelt so, and what stands in front of a fault begins a script's spelling.
+-- The tokens that are read as a script spell it, and the tokens before an error begin some script's spelling.
 use Rattle.std.proofs.Common.{◌≡◌, ℕ, zero, suc, ◌+◌, ◌≤◌, Bool, true, false, List, [], ◌∷◌, ◌++◌, length, take, Option, Some, if◌then◌else◌, refl, ap, sym, ◌∙◌, subst, arith, codes, append-nil}
 use Rattle.std.proofs.lemmas.List.{length-append}
 use Rattle.std.proofs.Math.Seq.{take-append_seam}
@@ -33,7 +33,7 @@ unfolding formal
 formal_sound room at ks = behind _ (var_sound room at ks) (λ v xs rest d.
     with_sign Question (λ at ks. Found (formal_of v true) at ks) (λ rest. found (formal_made at v xs true d)) (found (formal_made at v xs false d)))
 
--- behind the word
+-- after the word
 process_sound : (room position : ℕ) (ks : List TokenKind) → Fits (λ d ns. SpellsProcDef position d (Lower (codes "process") ∷ ns)) (position + 1) ks (process room position (position + 1) ks)
 unfolding process
 process_sound room position ks = behind _ (upper_sound (position + 1) ks) (λ name xs rest f. rw f
@@ -49,7 +49,7 @@ process_sound room position ks = behind _ (upper_sound (position + 1) ks) (λ na
 abbrev IsText : List ℕ → List TokenKind → Type 0
 IsText bytes ks = ks ≡ Str bytes ∷ []
 
--- some text may stand there
+-- a string can be there
 no_text : Opens IsText []
 no_text = (Str [] ∷ [], [], refl)
 
@@ -71,7 +71,7 @@ command_sound at ks =
     (λ rest. skip_sign Equals (λ at ks. mapped Some (text at ks)) (λ rest. mapping _ (text_sound (at + 1 + 1) rest) (λ bytes ns e. ap (λ l. Lower (codes "command") ∷ Sign Equals ∷ l) e)))
     (found refl)
 
--- behind the word
+-- after the word
 tool_sound : (position : ℕ) (ks : List TokenKind) → Fits (λ d ns. SpellsToolDef position d (Lower (codes "tool") ∷ ns)) (position + 1) ks (tool position (position + 1) ks)
 unfolding tool
 tool_sound position ks = behind _ (free_name_sound (position + 1) ks) (λ name xs rest f. rw f.1
@@ -101,7 +101,7 @@ definitions_sound inner (suc room) at ks =
     mapping _ (definitions_sound inner room (at + 1 + length ds) rest) (λ x ns e. SpellsDefinitions.tool p (at_defined {d = x} (omega arith) e))))
     (found (SpellsDefinitions.none at)))
 
--- the roots with the parenthesis behind them
+-- the roots, with the parenthesis after them
 abbrev ClosedRoots : ℕ → List Call → List TokenKind → Type 0
 ClosedRoots at calls ks = (rs : List TokenKind) × (ks ≡ rs ++ Sign RightParen ∷ []) × SpellsRoots at calls rs
 
@@ -132,7 +132,7 @@ script_fits room ks = behind _ (definitions_sound room room 0 ks) (λ defined ds
       behind_paren : Defined → Parser Script
       behind_paren defined at ks = after (roots room at ks) (λ calls. at_end (record { procs = defined.procs; tools = defined.tools; roots = calls }))
 
--- Nothing is left behind a script.
+-- No token is left after a script.
 
 abbrev Ends : {A : Type 0} → Outcome A → Type 0
 Ends (Found x at rest) = rest ≡ []
@@ -155,7 +155,7 @@ unfolding script
 script_ends room at ks = after_ends _ (λ defined at ks. if_ends (begins (is_word (codes "toolbus")) ks) at _
     (if_ends (begins (is_sign LeftParen) (tail ks)) (at + 1) _ (after_ends _ (λ calls at ks. at_end_ends _ at ks) (roots room (at + 1 + 1) (tail (tail ks)))))) (definitions room room at ks)
 
--- what is read as a script is spelt by the tokens, and none are left
+-- the tokens spell the script that is read, and none are left
 pub sound : (room : ℕ) (ks : List TokenKind) (s : Script) (at : ℕ) (rest : List TokenKind) → script room 0 ks ≡ Found s at rest → Spells s ks
 sound room ks s at rest e =
     let f : Fits Spells 0 ks (Found s at rest) = subst (Fits Spells 0 ks) e (script_fits room ks) in
@@ -163,7 +163,7 @@ sound room ks s at rest e =
     let all : ks ≡ f.fits.0 = f.fits.1 ∙ ap (λ l. f.fits.0 ++ l) none ∙ append-nil f.fits.0 in
     subst (Spells s) (sym all) f.fits.3
 
--- the position of a fault is one of the tokens', or their end, and the tokens in front of it begin some script's spelling
+-- an error's position is that of a token or the end, and the tokens before it begin some script's spelling
 pub begun : (room : ℕ) (ks : List TokenKind) (position : ℕ) → script room 0 ks ≡ Stops position → (position ≤ length ks) × Begins (take position ks)
 begun room ks position e =
     let f = stops_begun (script_fits room ks) e in

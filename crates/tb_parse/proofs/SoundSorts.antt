@@ -1,4 +1,4 @@
--- What is read as a sort or as a hole is spelt so.
+-- The tokens that are read as a type or as a placeholder spell it.
 use Rattle.std.proofs.Common.{◌≡◌, ℕ, zero, suc, ◌+◌, Bool, true, false, List, [], ◌∷◌, ◌++◌, Option, Some, None, if◌then◌else◌, refl, sym, subst, arith, codes}
 use Rattle.std.specs.Str.{bytes_eq}
 use Rattle.tb_terms.specs.declared.sort.Sort.{Sort}
@@ -19,7 +19,7 @@ IsLower name ks = ks ≡ Lower name ∷ []
 abbrev pub IsUpper : List ℕ → List TokenKind → Type 0
 IsUpper name ks = ks ≡ Upper name ∷ []
 
--- some name may stand there
+-- a name can be there
 no_lower : Opens IsLower []
 no_lower = (Lower (codes "a") ∷ [], codes "a", refl)
 
@@ -112,7 +112,7 @@ pub word_sort_named : (name : List ℕ) → NamedAs name (word_sort name)
 unfolding word_sort
 word_sort_named name = bool_named name (bytes_eq name (codes "bool")) refl
 
--- Sorts.
+-- Types.
 
 -- the sort with the position of its innermost name
 abbrev pub SpellsPositioned : ℕ → (Sort × ℕ) → List TokenKind → Type 0

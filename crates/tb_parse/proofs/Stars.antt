@@ -1,4 +1,4 @@
--- A loop that joins turns from the left, beside the recursion that says what they are.
+-- The loop that joins the elements of `*` from the left agrees with the recursion that defines them.
 use Rattle.std.proofs.Common.{◌≡◌, ℕ, ◌+◌, ◌-◌, ◌<◌, ◌≤◌, Bool, true, false, sym, ap, ◌∙◌, arith, if◌then◌else◌}
 use Rattle.tb_lex.specs.declared.symbol.Symbol.TheVariants.{Star}
 use Rattle.tb_syntax.specs.declared.proc.Proc.{Proc}
@@ -10,7 +10,7 @@ use Rattle.tb_parse.specs.Helpers.Reading.{Ahead, runs, next, eaten}
 use Rattle.tb_parse.proofs.Trees.{built_turn, seen, unseen}
 use Rattle.tb_parse.proofs.Turns.{one_more, no_more}
 
--- what was read so far, with the turns that are left
+-- the process so far, with the remaining turns
 pub record StarsSoFar (room : ℕ) (start : Ahead) (whole : Built) (turn : ℕ) (ahead : Ahead) : Type 0 where
   pub tree : Proc
   pub is_built : whole ≡ built tree

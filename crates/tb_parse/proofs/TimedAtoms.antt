@@ -1,4 +1,4 @@
--- An atom with its times, of which only what is built is known.
+-- An atom with its time conditions, of which only the built form is known.
 use Rattle.std.proofs.Common.{◌≡◌, ℕ, List, sym, ap, ◌∙◌}
 use Rattle.tb_syntax.specs.declared.proc.ActDef.{ActDef}
 use Rattle.tb_syntax.specs.declared.proc.AtomDef.{AtomDef}

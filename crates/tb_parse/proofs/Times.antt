@@ -1,11 +1,11 @@
--- A loop that collects times, beside the recursion that says what they are.
+-- The loop that collects time conditions agrees with the recursion that defines them.
 use Rattle.std.proofs.Common.{◌≡◌, ℕ, ◌+◌, ◌-◌, ◌<◌, ◌≤◌, Bool, true, false, List, [], ◌∷◌, ◌++◌, refl, sym, ap, subst, ◌∙◌, arith, append_assoc, append-nil, if◌then◌else◌}
 use Rattle.tb_syntax.specs.declared.proc.TimeDef.{TimeDef}
 use Rattle.tb_parse.specs.Helpers.Parsing.{Outcome, Found, Stops, after, mapped, begins, is_time, time, times}
 use Rattle.tb_parse.specs.Helpers.Reading.{Ahead, runs}
 use Rattle.tb_parse.proofs.Turns.{one_more, no_more}
 
--- the times so far, in front of what comes in the turns that are left
+-- the time conditions so far, before those of the remaining turns
 abbrev pub TimesSoFar : ℕ → ℕ → Ahead → List TimeDef → ℕ → Ahead → Type 0
 TimesSoFar inner room start found turn ahead =
     runs (times inner room) start ≡ mapped (λ xs. found ++ xs) (runs (times inner (room - turn)) ahead)

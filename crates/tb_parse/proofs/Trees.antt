@@ -1,4 +1,4 @@
--- What is built of a process, by how it is made of its parts; and what was found where what is built was found.
+-- The built form of a process, from its parts; and the process that was found, if its built form was found.
 use Rattle.std.proofs.Common.{◌≡◌, ℕ, ◌+◌, ◌<◌, ◌≤◌, Bool, ◌||◌, nat_lt, nat_le, max, List, Some, None, sym, ap, ◌∙◌, ⊎_elim, arith, if◌then◌else◌}
 use Rattle.std.proofs.lemmas.Bool.{cases_lt, lt-ltb, le-ltb, le-leb, lt-leb, or_left, or_right}
 use Rattle.tb_lex.specs.declared.kind.TokenKind.{TokenKind}

@@ -1,4 +1,5 @@
--- When tokens are a script within the limits, and which fault others have: brackets first, then the grammar, then heights.
+-- The tokens that are a script within the limits, and the error of all others. Brackets are checked first, then the grammar, then
+-- heights.
 use Rattle.std.specs.Prelude.{◌≡◌, ℕ, ◌+◌, ◌<◌, ◌≤◌, List, ◌++◌, length, take, Some, None, ◌⊎◌}
 use Rattle.tb_lex.specs.declared.kind.TokenKind.{TokenKind}
 use Rattle.tb_syntax.specs.declared.script.Script.{Script}
@@ -7,25 +8,26 @@ use Rattle.tb_syntax.specs.Spelling.{Spells}
 use Rattle.tb_parse.specs.declared.fault.ParseFault.{ParseFault}
 use Rattle.tb_parse.specs.declared.fault.ParseFault.TheVariants as fault
 
--- no more brackets are open behind each token than may be
+-- after each token, the number of open brackets is within the limit
 abbrev pub NoneTooDeep : List TokenKind → Type 0
 NoneTooDeep kinds = (position : ℕ) → position < length kinds → open_brackets (take (position + 1) kinds) ≤ most_open
 
--- the tokens spell the script, and no limit is passed
+-- the tokens spell the script, which is within the limits
 pub record IsScriptOf (kinds : List TokenKind) (script : Script) : Type 0 where
   pub shallow : NoneTooDeep kinds
   pub spells : Spells script kinds
   pub low : first_too_high script.procs ≡ None
 
--- no script is spelt by the tokens
+-- the tokens spell no script
 abbrev pub IsUnspelt : List TokenKind → Type 0
 IsUnspelt kinds = (script : Script) → Spells script kinds → ⊥
 
--- the spelling of some script begins with the tokens, whether it is within the limits or not
+-- the spelling of some script begins with the tokens, even if that script isn't within the limits
 abbrev pub Begins : List TokenKind → Type 0
 Begins prefix = (more : List TokenKind) × (script : Script) × Spells script (prefix ++ more)
 
--- the tokens in front of the position begin some script's spelling, and with the one at the position they begin none, unless the position is their end
+-- the tokens before the position begin the spelling of some script. With the token at the position, if there is one, they begin no
+-- spelling.
 pub record IsSyntaxFault (kinds : List TokenKind) (position : ℕ) : Type 0 where
   pub shallow : NoneTooDeep kinds
   pub unspelt : IsUnspelt kinds
@@ -33,14 +35,14 @@ pub record IsSyntaxFault (kinds : List TokenKind) (position : ℕ) : Type 0 wher
   pub begun : Begins (take position kinds)
   pub stops : position < length kinds → Begins (take (position + 1) kinds) → ⊥
 
--- a script is spelt, and this is the position of its first definition whose body is too high
+-- the tokens spell a script, and this is the position of its first definition whose body is too high
 pub record IsTooHigh (kinds : List TokenKind) (position : ℕ) : Type 0 where
   pub shallow : NoneTooDeep kinds
   pub script : Script
   pub spells : Spells script kinds
   pub first : first_too_high script.procs ≡ Some position
 
--- Memory may run out at any time.
+-- `NoMemory` can come at any time.
 abbrev pub HasFault : List TokenKind → ParseFault → Type 0
 HasFault kinds (fault.TooDeep position) = IsTooDeep kinds position ⊎ IsTooHigh kinds position
 HasFault kinds (fault.Syntax position) = IsSyntaxFault kinds position

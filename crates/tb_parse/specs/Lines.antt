@@ -1,4 +1,4 @@
--- The text of the line of a fault of the grammar or of its limits, at its token.
+-- The message of each error, with the position of its token.
 use Rattle.std.specs.Prelude.{ℕ, List, ◌++◌, codes}
 use Rattle.std.specs.Fmt.{decimal}
 use Rattle.tb_parse.specs.declared.fault.ParseFault.{ParseFault}

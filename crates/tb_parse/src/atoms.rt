@@ -1,4 +1,4 @@
-//! Reads atoms with their times, calls and variables.
+//! Reads atoms with their time conditions, calls, and variables.
 
 ghost use Rattle.std.specs.Prelude.{◌≡◌};
 ghost use Rattle.tb_parse.specs.Helpers.Parsing.{call_of, call, create, time, times, var, parted};
@@ -13,7 +13,7 @@ use tb_lex::Symbol;
 use tb_syntax::{ActDef, Call, Calls, TimeDef, TimeDefs, Var, Vars};
 use tb_terms::{Ident, Items};
 
-/// The call whose name stands at this position, and is taken already.
+/// Reads the arguments of the call whose name is at the position `token`, and has been taken already.
 #[tactic(auto, unfolding(crate::specs::Helpers::Parsing::call_of))]
 pub(crate) fn call_of(
     alloc: Global,
@@ -45,7 +45,7 @@ pub(crate) fn call(
     call_of(alloc, reader, room, name, token)
 }
 
-/// Calls with a comma between each two.
+/// Reads one call or more, with a comma between each two.
 pub(crate) fn calls(
     alloc: Global,
     reader: &mut Reader<'_, '_>,
@@ -63,7 +63,7 @@ pub(crate) fn calls(
     Err(ParseFault::Syntax(reader.position()))
 }
 
-/// What stands behind the word `create`.
+/// Reads the rest of an atom after the word `create`.
 #[tactic(auto, unfolding(crate::specs::Helpers::Parsing::create))]
 pub(crate) fn create(
     alloc: Global,
@@ -92,7 +92,7 @@ fn time(alloc: Global, reader: &mut Reader<'_, '_>, room: usize) -> Result<TimeD
     Ok(TimeDef { name, value, token })
 }
 
-/// The times that stand behind an atom.
+/// Reads the time conditions after an atom, as many as there are.
 pub(crate) fn times(
     alloc: Global,
     reader: &mut Reader<'_, '_>,
@@ -110,7 +110,7 @@ pub(crate) fn times(
     Err(ParseFault::Syntax(reader.position()))
 }
 
-/// A variable with its sort.
+/// Reads a variable with its type.
 #[tactic(auto, unfolding(crate::specs::Helpers::Parsing::var))]
 pub(crate) fn var(
     alloc: Global,
@@ -131,7 +131,7 @@ pub(crate) fn var(
     })
 }
 
-/// Variables with a comma between each two.
+/// Reads one variable or more, with a comma between each two.
 pub(crate) fn vars(
     alloc: Global,
     reader: &mut Reader<'_, '_>,

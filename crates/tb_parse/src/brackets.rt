@@ -1,4 +1,4 @@
-//! Where too many brackets are open.
+//! The limit on open brackets.
 
 ghost use Rattle.std.specs.Prelude.{◌≡◌, ◌≤◌, MatchOption};
 ghost use Rattle.tb_syntax.specs.Limits.{most_open, open_step, opens, closes, IsTooDeep};
@@ -7,10 +7,10 @@ ghost use Rattle.tb_parse.specs.Faults.{NoneTooDeep};
 
 use tb_lex::{Symbol, Token, TokenKind};
 
-/// How many brackets may be open.
+/// The greatest number of open brackets.
 const MOST_OPEN: usize = 128;
 
-/// The position of the first token behind which too many brackets are open.
+/// Returns the position of the first token after which too many brackets are open.
 pub(crate) fn too_deep(tokens: &[Token]) -> Option<usize>
     ensures { MatchOption result (NoneTooDeep (kinds_of tokens.now))
         (IsTooDeep (kinds_of tokens.now)) }
@@ -25,7 +25,7 @@ pub(crate) fn too_deep(tokens: &[Token]) -> Option<usize>
     None
 }
 
-/// How many are open behind a token.
+/// Returns how many brackets are open after a token, if `count` are open before it.
 fn open_behind(count: usize, kind: &TokenKind) -> usize
     requires { count ≤ most_open }
     ensures { result ≡ open_step count kind.now }

@@ -9,19 +9,19 @@ use std::alloc::Global;
 use tb_syntax::{Ast, Proc, Vars};
 use tb_terms::{Boxed, Items, NoMemory};
 
-/// How high a process may be.
+/// The greatest height of a process.
 const MOST_LEVELS: usize = 400;
 
 /// A process that was read.
 #[derive(Drop)]
 pub(crate) enum Built {
-    /// Its tree, and how high it is: at most 400.
+    /// Its tree and its height, which is at most 400.
     Tree(Boxed<Proc>, usize),
-    /// It is higher than 400, so that no tree is made.
+    /// Its height is more than 400, so it has no tree.
     TooHigh,
 }
 
-/// An operator behind whose first side all the rest is its second.
+/// An operator that groups from the right: its right side is the whole rest of the chain.
 #[derive(Clone, Copy, PartialEq, Eq)]
 pub(crate) enum Chain {
     Disrupt,
@@ -30,7 +30,7 @@ pub(crate) enum Chain {
     Seq,
 }
 
-/// The sides of a process, and how high it is.
+/// The two sides of a process, and the height of the whole.
 #[derive(Drop)]
 struct Sides {
     x: Boxed<Proc>,
@@ -38,7 +38,7 @@ struct Sides {
     height: usize,
 }
 
-/// Two processes as the sides of one, which is not too high.
+/// Returns two processes as the sides of one, or none if that one would be higher than 400.
 fn sides_of(x: Built, y: Built) -> Option<Sides>
     ensures { result ≡ sides_of x y }
 {
@@ -58,7 +58,7 @@ fn fitting(x: Boxed<Proc>, first: usize, y: Boxed<Proc>, second: usize) -> Optio
     Some(Sides { x, y, height })
 }
 
-/// A process as the only side of one, which is not too high, and how high that one is.
+/// Returns a process as the only part of another, with the height of that one, or none if it would be higher than 400.
 fn side_of(x: Built) -> Option<(Boxed<Proc>, usize)>
     ensures { result ≡ side_of x }
 {
@@ -68,14 +68,14 @@ fn side_of(x: Built) -> Option<(Boxed<Proc>, usize)>
     }
 }
 
-/// A process that is as high as this.
+/// Returns the process as a tree of this height.
 fn tree(alloc: Global, proc: Proc, height: usize) -> Result<Built, NoMemory>
     ensures { IfOk result (λ made. made ≡ Built.Tree proc height) }
 {
     Ok(Built::Tree(Boxed::new(alloc, proc)?, height))
 }
 
-/// A process that has no processes in it.
+/// Returns a process that contains no other process: its height is 1.
 pub(crate) fn leaf(alloc: Global, proc: Proc) -> Result<Built, NoMemory>
     ensures { IfOk result (λ made. made ≡ Built.Tree proc 1) }
 {
@@ -102,7 +102,7 @@ fn join(chain: Chain, x: Boxed<Proc>, y: Boxed<Proc>) -> Proc
     }
 }
 
-/// All processes of a chain as one, joined from the right.
+/// Joins the members of a chain into one process, from the right.
 pub(crate) fn joined(
     alloc: Global,
     chain: Chain,
@@ -118,7 +118,7 @@ pub(crate) fn joined(
     Ok(whole)
 }
 
-/// The first any number of times, and then the second.
+/// Joins two processes with `*`: the first any number of times, and then the second.
 pub(crate) fn turn(alloc: Global, x: Built, y: Built) -> Result<Built, NoMemory>
     ensures { IfOk result (λ made. made ≡ both tree.Star x y) }
 {

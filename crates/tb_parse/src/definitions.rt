@@ -14,7 +14,7 @@ use tb_lex::Symbol;
 use tb_syntax::{Calls, Formal, Formals, Script, ToolDef, Var};
 use tb_terms::{Items, Text};
 
-/// The script that the reader has before it, with nothing behind it.
+/// Reads a whole script: after it, no tokens may follow.
 pub(crate) fn script(
     alloc: Global,
     reader: &mut Reader<'_, '_>,
@@ -44,7 +44,7 @@ fn definitions(alloc: Global, reader: &mut Reader<'_, '_>, room: usize) -> Resul
     Err(ParseFault::Syntax(reader.position()))
 }
 
-/// Takes one definition more, if one comes next.
+/// Reads one more definition, if one comes next. Returns whether it did.
 fn define(
     alloc: Global,
     reader: &mut Reader<'_, '_>,
@@ -67,7 +67,7 @@ fn define(
     Ok(false)
 }
 
-/// What stands behind the word `process`, which stands at this position.
+/// Reads the rest of a definition after the word `process`, which is at the position `token`.
 fn process(
     alloc: Global,
     reader: &mut Reader<'_, '_>,
@@ -83,7 +83,7 @@ fn process(
     Ok(definition(name, formals, body, token))
 }
 
-/// Formals in parentheses, which are left out where there are none.
+/// Reads parameters in parentheses, or none if no parenthesis comes next.
 #[tactic(auto, unfolding(crate::specs::Helpers::Parsing::in_parens))]
 fn formals(alloc: Global, reader: &mut Reader<'_, '_>, room: usize) -> Result<Formals, ParseFault>
     ensures { Meets (runs (in_parens (formal room) room) reader.old) result reader.new }
@@ -132,7 +132,7 @@ fn formal(alloc: Global, reader: &mut Reader<'_, '_>, room: usize) -> Result<For
     })
 }
 
-/// What stands behind the word `tool`, which stands at this position.
+/// Reads the rest of a declaration after the word `tool`, which is at the position `token`.
 #[tactic(auto, unfolding(crate::specs::Helpers::Parsing::tool))]
 fn tool(alloc: Global, reader: &mut Reader<'_, '_>, token: usize) -> Result<ToolDef, ParseFault>
     ensures { Meets (runs (tool token) reader.old) result reader.new }
@@ -160,7 +160,7 @@ fn command(alloc: Global, reader: &mut Reader<'_, '_>) -> Result<Option<Text>, P
     Ok(Some(reader.text(alloc)?))
 }
 
-/// The processes with which a script starts, behind the parenthesis.
+/// Reads the calls with which a script starts, after the opening parenthesis.
 #[tactic(auto, unfolding(crate::specs::Helpers::Parsing::roots))]
 fn roots(alloc: Global, reader: &mut Reader<'_, '_>, room: usize) -> Result<Calls, ParseFault>
     ensures { Meets (runs (roots room) reader.old) result reader.new }

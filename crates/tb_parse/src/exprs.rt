@@ -13,7 +13,7 @@ use tb_lex::{Symbol, TokenKind};
 use tb_syntax::{Ast, AstKind, Asts, is_reserved};
 use tb_terms::{Ident, Items};
 
-/// An expression. The room bounds how deep expressions stand in each other.
+/// Reads an expression. `room` bounds how deep expressions are nested, and how many are in one list.
 #[cycle(exprs)]
 #[tactic(auto, unfolding(crate::specs::Helpers::Parsing::expr))]
 pub(crate) fn expr(
@@ -67,7 +67,7 @@ fn variable(name: Ident, takes: bool) -> AstKind
     }
 }
 
-/// A placeholder behind its `<`.
+/// Reads a placeholder after its `<`.
 #[tactic(auto, unfolding(crate::specs::Helpers::Parsing::hole))]
 fn hole(alloc: Global, reader: &mut Reader<'_, '_>) -> Result<AstKind, ParseFault>
     ensures { Meets (runs hole reader.old) result reader.new }
@@ -81,7 +81,7 @@ fn hole(alloc: Global, reader: &mut Reader<'_, '_>) -> Result<AstKind, ParseFaul
     Ok(AstKind::Hole(sort))
 }
 
-/// A list behind its `[`.
+/// Reads a list after its `[`.
 #[cycle(exprs)]
 #[tactic(auto, unfolding(crate::specs::Helpers::Parsing::list))]
 fn list(alloc: Global, reader: &mut Reader<'_, '_>, room: usize) -> Result<AstKind, ParseFault>
@@ -95,7 +95,7 @@ fn list(alloc: Global, reader: &mut Reader<'_, '_>, room: usize) -> Result<AstKi
     Ok(AstKind::List(parts))
 }
 
-/// Expressions in parentheses, which are left out where there are none.
+/// Reads expressions in parentheses, or none if no parenthesis comes next.
 #[cycle(exprs)]
 #[tactic(auto, unfolding(crate::specs::Helpers::Parsing::in_parens))]
 pub(crate) fn arguments(
@@ -113,7 +113,7 @@ pub(crate) fn arguments(
     Ok(parts)
 }
 
-/// Expressions with a comma between each two.
+/// Reads one expression or more, with a comma between each two.
 #[cycle(exprs)]
 fn exprs(alloc: Global, reader: &mut Reader<'_, '_>, room: usize) -> Result<Asts, ParseFault>
     ensures { Meets (runs (parted (expr room) room) reader.old) result reader.new }

@@ -1,4 +1,4 @@
-//! Why tokens are no script.
+//! The errors of tokens that aren't a script within the limits.
 
 ghost use Rattle.std.specs.Prelude.{◌≡◌};
 ghost use Rattle.tb_message.specs.Messages.{message_text};
@@ -9,24 +9,24 @@ use tb_message::Message;
 use tb_terms::NoMemory;
 use thiserror::Error;
 
-/// Why tokens are no script. Positions count the tokens from 0.
+/// The error of tokens that aren't a script within the limits. Positions are tokens counted from 0.
 #[derive(Clone, Copy, Debug, Drop, Error, PartialEq, Eq)]
 pub enum ParseFault {
-    /// No script is spelt by the tokens; the first token with which no script goes on, or the number
-    /// of tokens where all of them begin one.
+    /// The tokens spell no script: the position of the first token that can't continue a script. If all tokens are the beginning of
+    /// a script, this is the number of tokens.
     #[error("syntax at token {0}")]
     Syntax(usize),
-    /// The first token behind which more than 128 of `(`, `[`, `let` and `if` are open; or, where a
-    /// script is spelt, the first token of the first definition whose body is higher than 400.
+    /// The position of the first token after which more than 128 of `(`, `[`, `let`, and `if` are open. If no such token exists and
+    /// the tokens spell a script, this is the first token of the first definition whose body is higher than 400.
     #[error("too deep at token {0}")]
     TooDeep(usize),
-    /// There wasn't memory enough; it says nothing of the tokens.
+    /// The call ran out of memory. This error makes no claim about the tokens.
     #[error("no memory")]
     NoMemory,
 }
 
 impl ParseFault {
-    /// The words of its line.
+    /// Returns the message of the error: one line without its end.
     pub fn message(&self) -> Message<'static>
         ensures { message_text result ≡ parse_line self.now }
     {

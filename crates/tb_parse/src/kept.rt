@@ -11,7 +11,7 @@ use std::alloc::Global;
 use tb_syntax::{Calls, Formals, ProcDef, ProcDefs, Script, ToolDefs};
 use tb_terms::{Ident, Items, NoMemory};
 
-/// What is defined so far: the processes that are not too high, and the position of the first that is.
+/// The definitions so far. `procs` has the processes that aren't too high; `too_high` is the position of the first process that is.
 #[derive(Drop)]
 pub(crate) struct Kept {
     pub(crate) procs: ProcDefs,
@@ -23,11 +23,11 @@ pub(crate) struct Kept {
 #[derive(Drop)]
 pub(crate) enum Made {
     Low(ProcDef),
-    /// The one at this position has a body that is too high.
+    /// The definition at this position has a body that is too high.
     TooHigh(usize),
 }
 
-/// The definition with these parts, at this position.
+/// Returns the definition with these parts at this position, or only the position if its body is too high.
 #[tactic(auto, using(crate::proofs::KeptRows::made_low, crate::proofs::KeptRows::made_high))]
 pub(crate) fn definition(name: Ident, formals: Formals, body: Built, token: usize) -> Made
     ensures { (p : Proc) → body ≡ built p
@@ -54,7 +54,7 @@ pub(crate) fn nothing(alloc: Global) -> Kept
     }
 }
 
-/// Keeps one definition more.
+/// Adds one more definition.
 pub(crate) fn add(found: &mut Kept, made: Made) -> Result<(), NoMemory>
     ensures { OnOk result (found.new ≡ added made found.old) }
 {
@@ -79,7 +79,7 @@ fn first_position(so_far: Option<usize>, position: usize) -> Option<usize>
     }
 }
 
-/// The script of these parts, where no body is too high.
+/// Returns the script of these parts. If a body is too high, the error is the first such definition's position.
 pub(crate) fn whole(found: Kept, roots: Calls) -> Result<Script, ParseFault>
     ensures { result ≡ whole_of found.too_high found roots }
 {

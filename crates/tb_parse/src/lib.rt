@@ -1,4 +1,4 @@
-//! The parser of scripts: which script a list of tokens spells, or its fault.
+//! The parser of scripts: the script that a sequence of tokens spells, or its error.
 #![tactic(auto)]
 
 mod atoms;

@@ -14,16 +14,16 @@ use std::alloc::Global;
 use tb_lex::{Token, Tokens};
 use tb_syntax::Script;
 
-/// The script that tokens spell.
+/// Returns the script that the tokens spell, if it is within the limits, or the error of the tokens.
 pub fn parse(alloc: Global, tokens: &Tokens) -> Result<Script, ParseFault>
     ensures found { IfOk result (IsScriptOf (kinds_of tokens.now)) }
 
-    // Nothing else keeps tokens from being read as their script.
+    // If the tokens are a script within the limits, the call fails only if it runs out of memory.
     ensures only { (script : Script) → IsScriptOf (kinds_of tokens.now) script
         → (result ≡ Ok script) ⊎ (result ≡ Err ParseFault.NoMemory) }
     ensures fault { IfErr result (HasFault (kinds_of tokens.now)) }
 
-    // Where the tokens have a fault, this is what comes.
+    // If the tokens have an error other than `NoMemory`, the call returns this error or `NoMemory`.
     ensures exact { (f : ParseFault) → HasFault (kinds_of tokens.now) f → f ≢ ParseFault.NoMemory
         → (result ≡ Err f) ⊎ (result ≡ Err ParseFault.NoMemory) }
 {

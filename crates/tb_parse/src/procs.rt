@@ -18,7 +18,7 @@ use tb_lex::{LowerWord, Symbol, TokenKind};
 use tb_syntax::{ActDef, Ast, AtomDef, Proc, TimeDefs, is_atom_word};
 use tb_terms::{Ident, Items, NoMemory};
 
-/// A whole process. The room bounds how deep processes stand in each other.
+/// Reads a whole process. `room` bounds how deep processes are nested, and how long a chain or a list in one is.
 #[tactic(auto, unfolding(crate::specs::Helpers::Parsing::proc))]
 pub(crate) fn proc(
     alloc: Global,
@@ -30,7 +30,7 @@ pub(crate) fn proc(
     chain(alloc, reader, room, Chain::Disrupt)
 }
 
-/// The members of a chain, with its operator between each two.
+/// Reads one member of a chain or more, with the operator of the chain between each two.
 #[cycle(procs)]
 fn chain(
     alloc: Global,
@@ -63,7 +63,7 @@ fn sign_of(link: Chain) -> Symbol
     }
 }
 
-/// What may stand between two operators of a chain: what binds tighter.
+/// Reads a member of a chain: its operators bind tighter than the operator of the chain.
 #[cycle(procs)]
 fn member(
     alloc: Global,
@@ -81,7 +81,7 @@ fn member(
     }
 }
 
-/// Processes with `*` between each two, joined from the left.
+/// Reads one process or more, with `*` between each two, joined from the left.
 #[cycle(procs)]
 fn turns(alloc: Global, reader: &mut Reader<'_, '_>, room: usize) -> Result<Built, ParseFault>
     ensures { Meets (runs (as_built (turns (prim room) room)) reader.old) result reader.new }
@@ -97,7 +97,7 @@ fn turns(alloc: Global, reader: &mut Reader<'_, '_>, room: usize) -> Result<Buil
     Err(ParseFault::Syntax(reader.position()))
 }
 
-/// What stands by itself.
+/// Reads an atom, a call, a `let`, an `if`, or a process in parentheses.
 #[tactic(auto, unfolding(crate::specs::Helpers::Parsing::prim))]
 #[cycle(procs)]
 fn prim(alloc: Global, reader: &mut Reader<'_, '_>, room: usize) -> Result<Built, ParseFault>
@@ -131,7 +131,7 @@ fn prim_of(alloc: Global, reader: &mut Reader<'_, '_>, room: usize) -> Result<Bu
     }
 }
 
-/// An assignment or a call whose name stands at this position, and is taken already.
+/// Reads the rest of an assignment or of a call. Its name is at the position `token`, and has been taken already.
 #[tactic(auto, using(crate::proofs::Trees::built_call), unfolding(crate::specs::Helpers::Parsing::upper_proc))]
 fn upper_proc(
     alloc: Global,
@@ -150,7 +150,7 @@ fn upper_proc(
     timed(alloc, reader, room, token, ActDef::Set(name, value))
 }
 
-/// The times of an atom that begins at this position.
+/// Reads the time conditions of an atom that begins at the position `token`. Returns the whole atom.
 fn timed(
     alloc: Global,
     reader: &mut Reader<'_, '_>,
@@ -171,7 +171,7 @@ fn atom(alloc: Global, act: ActDef, times: TimeDefs, token: usize) -> Result<Bui
     leaf(alloc, Proc::Atom(AtomDef { act, times, token }))
 }
 
-/// What stands behind the word `create`, which stands at this position.
+/// Reads the rest of an atom after the word `create`, which is at the position `token`, with its time conditions.
 fn creation(
     alloc: Global,
     reader: &mut Reader<'_, '_>,
@@ -184,7 +184,7 @@ fn creation(
     timed(alloc, reader, room, token, act)
 }
 
-/// What begins with a word that stands at this position, and is taken already.
+/// Reads the rest of a process that begins with this word. The word is at the position `token`, and has been taken already.
 #[tactic(auto, unfolding(crate::specs::Helpers::Parsing::lower_proc))]
 #[cycle(procs)]
 fn lower_proc(
@@ -216,7 +216,7 @@ fn lower_proc(
     timed(alloc, reader, room, token, act)
 }
 
-/// What stands behind the word `let`.
+/// Reads the rest of a `let` after this word.
 #[tactic(auto, unfolding(crate::specs::Helpers::Parsing::block))]
 #[cycle(procs)]
 fn block(alloc: Global, reader: &mut Reader<'_, '_>, room: usize) -> Result<Built, ParseFault>
@@ -230,7 +230,7 @@ fn block(alloc: Global, reader: &mut Reader<'_, '_>, room: usize) -> Result<Buil
     Ok(within(alloc, vars, x)?)
 }
 
-/// What stands behind the word `if`.
+/// Reads the rest of an `if` after this word.
 #[tactic(auto, unfolding(crate::specs::Helpers::Parsing::conditional))]
 #[cycle(procs)]
 fn test(alloc: Global, reader: &mut Reader<'_, '_>, room: usize) -> Result<Built, ParseFault>
@@ -243,7 +243,7 @@ fn test(alloc: Global, reader: &mut Reader<'_, '_>, room: usize) -> Result<Built
     sides(alloc, reader, room, value, x)
 }
 
-/// What stands behind the first side of a test.
+/// Reads the rest of an `if` after its first process: `fi`, or `else`, a process, and `fi`.
 #[tactic(auto, unfolding(crate::specs::Helpers::Parsing::sides))]
 #[cycle(procs)]
 fn sides(

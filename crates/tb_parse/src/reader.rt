@@ -1,4 +1,4 @@
-//! Tokens that are read from the left.
+//! A reader of tokens from the left.
 
 ghost use Rattle.std.specs.Prelude.{◌≡◌, ◌∷◌, [], MatchOption};
 ghost use Rattle.std.specs.Bool.{MatchBool};
@@ -13,8 +13,7 @@ use tb_lex::{Symbol, Token, TokenKind};
 use tb_syntax::{is_reserved, is_time_word};
 use tb_terms::{Ident, Name, Text};
 
-/// Tokens that are read from the left. Contracts see the position of the next token and what the
-/// tokens are from there.
+/// A reader of tokens from the left. Contracts see the position of the next token, and the kinds of the tokens from there.
 #[derive(Drop)]
 pub(crate) struct Reader<'a, 't> {
     rest: &'a [Token<'t>],
@@ -44,21 +43,21 @@ impl<'a, 't> Reader<'a, 't> {
         }
     }
 
-    /// The position of the next token.
+    /// Returns the position of the next token, or the number of tokens at the end.
     pub(crate) fn position(&self) -> usize
         ensures { result ≡ self.now.at }
     {
         self.at
     }
 
-    /// Whether nothing is left.
+    /// Returns whether no token is left.
     pub(crate) fn is_done(&self) -> bool
         ensures { MatchBool result (self.now.kinds ≡ []) (self.now.kinds ≡ [] → ⊥) }
     {
         self.rest.is_empty()
     }
 
-    /// Takes the next token.
+    /// Takes the next token, or returns none at the end.
     pub(crate) fn take(&mut self) -> Option<&'a TokenKind<'t>>
         ensures { MatchOption result ((self.old.kinds ≡ []) × (self.new ≡ self.old))
             (λ kind. (self.old.kinds ≡ kind.now ∷ self.new.kinds) × (self.new ≡ next self.old)) }
@@ -91,7 +90,7 @@ impl<'a, 't> Reader<'a, 't> {
         }
     }
 
-    /// Whether a condition on a time begins here.
+    /// Returns whether a time condition comes next.
     pub(crate) fn is_time(&self) -> bool
         ensures { result ≡ begins is_time self.now.kinds }
     {
@@ -101,7 +100,7 @@ impl<'a, 't> Reader<'a, 't> {
         }
     }
 
-    /// Takes this sign, if it comes next.
+    /// Takes this symbol if it comes next. Returns whether it did.
     pub(crate) fn eat_sign(&mut self, sign: Symbol) -> bool
         ensures found { result ≡ begins (is_sign sign) self.old.kinds }
         ensures behind { self.new ≡ eaten (is_sign sign) self.old }
@@ -113,7 +112,7 @@ impl<'a, 't> Reader<'a, 't> {
         found
     }
 
-    /// Takes this word, if it comes next.
+    /// Takes this word if it comes next. Returns whether it did.
     pub(crate) fn eat_word(&mut self, word: &[u8]) -> bool
         ensures found { result ≡ begins (is_word word.now) self.old.kinds }
         ensures behind { self.new ≡ eaten (is_word word.now) self.old }
@@ -125,7 +124,7 @@ impl<'a, 't> Reader<'a, 't> {
         found
     }
 
-    /// Takes this sign, which has to come.
+    /// Takes this symbol. If another token or the end comes next, the error is `Syntax` there.
     pub(crate) fn skip_sign(&mut self, sign: Symbol) -> Result<(), ParseFault>
         ensures { Meets (runs (expect (is_sign sign) tt) self.old) result self.new }
     {
@@ -136,7 +135,7 @@ impl<'a, 't> Reader<'a, 't> {
         }
     }
 
-    /// Takes this word, which has to come.
+    /// Takes this word. If another token or the end comes next, the error is `Syntax` there.
     pub(crate) fn skip_word(&mut self, word: &[u8]) -> Result<(), ParseFault>
         ensures { Meets (runs (expect (is_word word.now) tt) self.old) result self.new }
     {
@@ -177,7 +176,7 @@ impl<'a, 't> Reader<'a, 't> {
         }
     }
 
-    /// A lower name that isn't reserved.
+    /// Takes a lower name that isn't reserved. Otherwise, the error is `Syntax` at its position.
     #[tactic(auto, unfolding(crate::specs::Helpers::Parsing::free_name))]
     pub(crate) fn free_name(&mut self, alloc: Global) -> Result<Name, ParseFault>
         ensures { Meets (runs free_name self.old) result self.new }

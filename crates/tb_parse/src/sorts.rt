@@ -1,4 +1,4 @@
-//! Reads sorts.
+//! Reads types.
 
 ghost use Rattle.std.specs.Prelude.{◌≡◌, IfOk, Some, None, if◌then◌else◌};
 ghost use Rattle.tb_parse.specs.Helpers.Parsing.{sort, word_sort, named_sort, is_list};
@@ -10,7 +10,7 @@ use std::alloc::Global;
 use tb_lex::Symbol;
 use tb_terms::{Boxed, Name, NoMemory, Sort};
 
-/// A sort, and the position of its innermost name. The room bounds how deep sorts stand in each other.
+/// Reads a type. Returns it with the position of its innermost name. `room` bounds how deep types are nested.
 #[tactic(auto, unfolding(crate::specs::Helpers::Parsing::sort))]
 pub(crate) fn sort(
     alloc: Global,
@@ -32,7 +32,7 @@ pub(crate) fn sort(
     Ok((Sort::List(Boxed::new(alloc, members)?), inner))
 }
 
-/// Takes the parenthesis behind `list`, if it is this name and one comes next.
+/// Takes the opening parenthesis if it comes next and the name is `list`. Returns whether it did.
 fn eat_list(name: &Name, reader: &mut Reader<'_, '_>) -> bool
     ensures found { result ≡ is_list name.now reader.old.kinds }
     ensures behind { reader.new
@@ -41,7 +41,7 @@ fn eat_list(name: &Name, reader: &mut Reader<'_, '_>) -> bool
     name.as_bytes() == b"list".as_slice() && reader.eat_sign(Symbol::LeftParen)
 }
 
-/// The sort that a name stands for: that of a tool, where it is no other's word.
+/// Returns the type that a name represents: if the name isn't the word of another type, that of a tool.
 fn named_sort(alloc: Global, name: Name) -> Result<Sort, NoMemory>
     ensures { IfOk result (λ made. made ≡ named_sort name (word_sort name)) }
 {
@@ -51,7 +51,7 @@ fn named_sort(alloc: Global, name: Name) -> Result<Sort, NoMemory>
     }
 }
 
-/// The sort that has this word.
+/// Returns the type that has this word, if there is one.
 #[tactic(auto, unfolding(crate::specs::Helpers::Parsing::word_sort))]
 pub(crate) fn word_sort(alloc: Global, word: &[u8]) -> Result<Option<Sort>, NoMemory>
     ensures { IfOk result (λ made. made ≡ word_sort word.now) }

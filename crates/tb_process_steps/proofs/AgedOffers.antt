@@ -1,4 +1,4 @@
--- The offers of an aged term are those of the term, one by one, each a tick older.
+-- The offers of an aged term are the offers of the term, one by one, each a tick older.
 use Rattle.std.proofs.Common.{◌≡◌, ℕ, zero, suc, ◌<◌, arith, Bool, true, false, List, [], ◌∷◌, ◌++◌, map, length, Option, Some, None, option_map, slice_get, refl, ap, sym, subst, ◌∙◌}
 use Rattle.tb_terms.specs.declared.term.Term.{Term}
 use Rattle.tb_func.specs.declared.slot.Slot.{Slot}
@@ -10,7 +10,7 @@ use Rattle.tb_process_steps.specs.Processes.{Process, At, Seq, Alt, Star, Par, D
 use Rattle.tb_process_steps.specs.Settings.{tested, with_settings}
 use Rattle.tb_process_steps.specs.Walks.{Walking, offers_of, offers_of_term, sent_by, patterns_by, accepted_by, ticked, is_end}
 
--- what is left
+-- the rest of an offer
 
 followed-later : (left later : Option Process) (next : Process) → LeavesLater left later → IsLeftLater (followed left next) (followed later next)
 followed-later None None next h = follows
@@ -101,7 +101,7 @@ pub offers_of-age : (walking : Walking) → AreAged (offers_of walking) (offers_
 unfolding offers_of
 offers_of-age walking = of_term-age walking.term walking.store
 
--- how many, and by their positions
+-- the number of offers, and each offer by its index
 
 pub length-aged : (os ls : List Offered) → AreAged os ls → length ls ≡ length os
 length-aged [] [] h = refl
@@ -112,7 +112,7 @@ length-aged (o ∷ os) (l ∷ ls) h = ap suc (length-aged os ls h.1)
 pub length-ticked : (walking : Walking) → length (offers_of (ticked walking)) ≡ length (offers_of walking)
 length-ticked walking = length-aged (offers_of walking) (offers_of (ticked walking)) (offers_of-age walking)
 
--- an index among the offers stays one
+-- an index among the offers is still an index among the offers after a tick
 pub within-ticked : (walking later : Walking) (k : ℕ) → later ≡ ticked walking → k < length (offers_of walking) → k < length (offers_of later)
 within-ticked walking later k e within =
     let same = length-ticked walking in
@@ -131,7 +131,7 @@ aged-at (o ∷ os) (l ∷ ls) (suc k) offered h e = aged-at os ls k offered h.1 
 pub ticked-at : (walking : Walking) (k : ℕ) (offered : Offered) → slice_get (offers_of walking) k ≡ Some offered → (later : Offered) × (slice_get (offers_of (ticked walking)) k ≡ Some later) × IsAged offered later
 ticked-at walking k offered e = aged-at (offers_of walking) (offers_of (ticked walking)) k offered (offers_of-age walking) e
 
--- what an atom sends and matches, and whether it is ready where it has no times
+-- a tick changes neither what an atom sends nor what it accepts, nor whether an atom without times is ready
 
 pub sent-aged : (atoms : List Atom) (offered later : Offered) → IsAged offered later → sent_by atoms later ≡ sent_by atoms offered
 sent-aged atoms offered later h =
@@ -156,7 +156,7 @@ ready-aged atoms now then_now offered later h e =
     ready-untimed later.store later.age then_now atoms later.atom (ap (times_of atoms) h.atom ∙ e)
     ∙ sym (ready-untimed offered.store offered.age now atoms offered.atom e)
 
--- the end stays the end
+-- a term that has ended stays ended
 end-stays : (term : Option Process) → is_end (option_map aged term) ≡ is_end term
 end-stays None = refl
 end-stays (Some term) = refl

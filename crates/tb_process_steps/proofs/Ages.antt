@@ -1,5 +1,4 @@
--- In each term that a body reaches no age is greater than the ticks, and those on the right of a sequence
--- and within a star are 0.
+-- In each term that a body reaches, no age is greater than the ticks, and the ages on the right of a sequence and within a star are 0.
 use Rattle.std.proofs.Common.{◌≡◌, ℕ, ◌+◌, ◌≤◌, List, [], map, Option, Some, None, IfSome, sym, subst, arith}
 use Rattle.std.proofs.lemmas.List.Elements.{All-nil, All-cons, All-append, All-weaker, All-map, All-contains}
 use Rattle.std.specs.List.{All}
@@ -12,7 +11,7 @@ use Rattle.tb_process_steps.specs.Offers.{until, in_wait, Offered, followed, lef
 use Rattle.tb_process_steps.specs.Reached.{Reaches, entered, went_on, grew_older, IsAgedUpTo, IsNew}
 use Rattle.tb_process_steps.proofs.Offering.{if-all, after-all}
 
--- a body that is entered is new
+-- a body that is just entered is new
 
 abbrev Shown : Type 0
 Shown = (t : Tree) × IsNew (fresh t)
@@ -59,7 +58,7 @@ up_to-aged ticks (If test x y) h = (up_to-aged ticks x h.0, up_to-aged ticks y h
 up_to-aged ticks (When test x) h = up_to-aged ticks x h
 up_to-aged ticks (Let settings x) h = up_to-aged ticks x h
 
--- an offer's age, and the ages in what it leaves
+-- the age of an offer, and the ages in its rest
 pub record OfferUpTo (ticks : ℕ) (offered : Offered) : Type 0 where
   pub age : offered.age ≤ ticks
   pub left : IfSome offered.residual (IsAgedUpTo ticks)

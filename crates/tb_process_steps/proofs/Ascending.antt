@@ -21,7 +21,7 @@ use Rattle.tb_process_steps.specs.Reached.{Reaches, entered, went_on, grew_older
 use Rattle.tb_process_steps.proofs.Ages.{left-is}
 use Rattle.tb_process_steps.proofs.Offering.{if-all, after-all}
 
--- The atoms at the front of a term, which alone it may offer, ascend within lo and hi.
+-- The first atoms of a term, the only ones that it can offer, ascend within lo and hi.
 abbrev Begins : ℕ → ℕ → Process → Type 0
 Begins lo hi (At atom age) = (lo ≤ atom) × (atom < hi)
 Begins lo hi (Seq x y) = Begins lo hi x
@@ -33,8 +33,8 @@ Begins lo hi (If test x y) = (mid : ℕ) × Begins lo mid x × Begins mid hi y
 Begins lo hi (When test x) = Begins lo hi x
 Begins lo hi (Let settings x) = Begins lo hi x
 
--- All atoms of a term lie within lo and hi, those of the parts of a merge in ranges beside each other; and
--- wherever the term may come to, the atoms at the front ascend.
+-- All atoms of a term are within lo and hi. The parts of a merge or a disrupt have separate, consecutive ranges. Then the first atoms
+-- ascend in each term that the term reaches.
 abbrev Within : ℕ → ℕ → Process → Type 0
 Within lo hi (At atom age) = (lo ≤ atom) × (atom < hi)
 Within lo hi (Seq x y) = Within lo hi x × Within lo hi y
@@ -117,7 +117,7 @@ within-aged lo hi (If test x y) h = (within-aged lo hi x h.0, within-aged lo hi 
 within-aged lo hi (When test x) h = within-aged lo hi x h
 within-aged lo hi (Let settings x) h = within-aged lo hi x h
 
--- what an offer leaves
+-- the rest of an offer
 
 abbrev LeavesWithin : ℕ → ℕ → Offered → Type 0
 LeavesWithin lo hi offered = IfSome offered.residual (Within lo hi)
@@ -171,7 +171,7 @@ leaves-within lo hi (Let settings x) store h = after-all (LeavesWithin lo hi) (w
   let-leaves None k = tt
   let-leaves (Some s) k = k s
 
--- offers that ascend from lo, below hi
+-- offers that ascend from lo, and are below hi
 
 abbrev Rises : ℕ → ℕ → List Offered → Type 0
 Rises lo hi [] = ⊤
@@ -254,7 +254,7 @@ rises-increasing lo hi os h k l =
     let next : get_or (atoms_of os) k 0 < get_or (atoms_of os) (suc k) 0 = rises-next lo hi os k h (omega arith) in
     rw add-one next
 
--- a body as it is entered
+-- a body that is just entered
 
 ascends-append : (from : ℕ) (xs ys : List ℕ) → ascends_by_one from (xs ++ ys) ≡ true → (ascends_by_one from xs ≡ true) × (ascends_by_one (from + length xs) ys ≡ true)
 ascends-append from [] ys h =
@@ -269,7 +269,7 @@ ascends-append from (x ∷ xs) ys h =
 abbrev Enters : List ℕ → Process → Type 0
 Enters atoms term = (from : ℕ) → ascends_by_one from atoms ≡ true → Within from (from + length atoms) term
 
--- the parts of a construct, in ranges beside each other
+-- the parts of an operator, in consecutive ranges
 both-enter : (xs ys : List ℕ) (x y : Process) → Enters xs x → Enters ys y → (from : ℕ) → ascends_by_one from (xs ++ ys) ≡ true → (mid : ℕ) × Within from mid x × Within mid (from + length (xs ++ ys)) y
 both-enter xs ys x y h k from e =
     let parts = ascends-append from xs ys e in
@@ -277,7 +277,7 @@ both-enter xs ys x y h k from e =
     let end : mid + length ys ≡ from + length (xs ++ ys) = omega (arith, length-append xs ys) in
     (mid, h from parts.0, subst (λ (n : ℕ). Within mid n y) end (k mid parts.1))
 
--- the same in one range
+-- the parts of an operator, in one common range
 together : (lo hi : ℕ) (x y : Process) → (mid : ℕ) × Within lo mid x × Within mid hi y → Within lo hi x × Within lo hi y × Begins lo hi (Alt x y)
 together lo hi x y h = (
   within-wider lo h.0 lo hi x (omega arith) (below h.0 hi y h.2) h.1,
@@ -327,7 +327,7 @@ reached-within hi f (went_on {term = term} {left = left} store offered r c e) =
     left-is (Within 1 hi) offered.residual left (All-contains (LeavesWithin 1 hi) (offers term store) offered (leaves-within 1 hi term store (reached-within hi f r)) c) e
 reached-within hi f (grew_older {term = term} r) = within-aged 1 hi term (reached-within hi f r)
 
--- the atoms of a body's tree are its atoms, in order
+-- the atoms of a body's tree are the body's atoms, in order
 pub record InOrder (tree : Tree) (atoms : List Atom) : Type 0 where
   pub ascend : ascends_by_one 1 (tree_atoms tree) ≡ true
   pub many : length (tree_atoms tree) ≡ length atoms
@@ -353,7 +353,7 @@ rise-reached body ticks term store r =
 pub offers-ascend : (body : Body) (ticks : ℕ) (term : Process) (store : List Slot) → Reaches body.tree ticks term → IsStrictlyIncreasing (map (λ (o : Offered). o.atom) (offers term store))
 offers-ascend body ticks term store r = rises-increasing 1 (1 + length body.atoms) (offers term store) (rise-reached body ticks term store r)
 
--- so an atom is offered once, and it is one of the body's
+-- each atom is offered at most once, and is an atom of the body
 
 contains-cases : (x y : Offered) (xs : List Offered) → Contains (x ∷ xs) y → (x ≡ y) ⊎ Contains xs y
 contains-cases x y xs (zero, l, e) = inl e

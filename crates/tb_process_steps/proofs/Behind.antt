@@ -1,4 +1,4 @@
--- In each term that a body reaches the ages on the right of a sequence and within a star are 0.
+-- In each term that a body reaches, the ages on the right of a sequence and within a star are 0.
 use Rattle.std.proofs.Common.{ℕ, List, [], map, Option, Some, None, IfSome}
 use Rattle.std.proofs.lemmas.List.Elements.{All-nil, All-cons, All-append, All-weaker, All-map, All-contains}
 use Rattle.std.specs.List.{All}
@@ -33,7 +33,7 @@ behind-aged (If test x y) h = (behind-aged x h.0, behind-aged y h.1)
 behind-aged (When test x) h = behind-aged x h
 behind-aged (Let settings x) h = behind-aged x h
 
--- what an offer leaves
+-- the rest of an offer
 
 abbrev LeavesNew : Offered → Type 0
 LeavesNew offered = IfSome offered.residual IsNewBehind

@@ -1,4 +1,4 @@
--- Setting binds: the sorts stay, and what settings give has the sorts of its slots.
+-- Setting binds keeps the types of the store. The values that settings give have the types of their slots.
 use Rattle.std.proofs.Common.{◌≡◌, ℕ, zero, suc, Bool, true, false, ◌&&◌, Option, Some, None, List, [], ◌∷◌, map, option_map, slice_get, remove, refl, ap, sym, ◌∙◌, subst, if◌then◌else◌}
 use Rattle.std.proofs.lemmas.Bool.{and_from, and_parts}
 use Rattle.tb_terms.specs.declared.term.Term.{Term}
@@ -26,7 +26,7 @@ takes_binds-with_value slots at term (bind ∷ binds) =
     ap (λ (o : Option Sort). has_slot_sort o bind.value && takes_binds (with_value slots at term) binds) (sort_at-with_value slots at term bind.slot)
     ∙ ap (λ (b : Bool). takes_bind slots bind && b) (takes_binds-with_value slots at term binds)
 
--- one bind is set, and the others are taken as before
+-- after one bind is set, the store still takes the other binds
 pub rest_taken : (slots : List Slot) (rest : List Bind) (bind : Bind) → slice_get rest 0 ≡ Some bind → takes_binds slots rest ≡ true → takes_binds (with_value slots bind.slot bind.value) (remove rest 0) ≡ true
 rest_taken slots [] bind e h = cc
 rest_taken slots (first ∷ rest) bind e h =

@@ -1,4 +1,4 @@
--- What an entered part of a plan stands for, by its own parts.
+-- The process that an entered part of a plan represents, by its own parts.
 use Rattle.std.proofs.Common.{◌≡◌, ℕ, zero, suc, ◌+◌, ◌-◌, Some, None, List, ◌++◌, map, slice_get, refl, ap, sym, ◌∙◌, arith}
 use Rattle.tb_terms.specs.declared.expr.Expr.{Expr}
 use Rattle.tb_func.specs.declared.slot.Slot.{Slot}
@@ -17,7 +17,7 @@ use Rattle.tb_process_steps.specs.declared.node.Node.TheVariants.{At, Seq, Alt, 
 use Rattle.tb_process_steps.specs.declared.running.Entry.{Entry}
 use Rattle.tb_process_steps.proofs.PlanLemmas.{tree_at-node}
 
--- a tree that is just entered
+-- a tree that was just entered
 
 opened : (t : Tree) (w : Tree-F Tree) → out-Tree t ≡ w → fresh t ≡ fresh_step (map-Tree Tree Process fresh w)
 opened t w e = fold_out-Tree Process fresh_step t ∙ ap (λ (v : Tree-F Tree). fresh_step (map-Tree Tree Process fresh v)) e
@@ -85,7 +85,7 @@ pub waited-Let : (n : ℕ) (settings : List Setting) (x : Process) → waited n 
 waited-Let zero settings x = refl
 waited-Let (suc n) settings x = ap aged (waited-Let n settings x)
 
--- a star that has waited stands for either side
+-- a star that has waited represents a choice between its two sides
 waited-Star : (n : ℕ) (x y : Process) → waited (suc n) (process.Star x y) ≡ process.Alt (process.Seq (waited (suc n) x) (process.Star x y)) (waited (suc n) y)
 waited-Star zero x y = refl
 waited-Star (suc n) x y = ap aged (waited-Star n x y)
@@ -94,7 +94,7 @@ pub star-offers : (n : ℕ) (x y : Process) (store : List Slot) → offers (wait
 star-offers zero x y store = refl
 star-offers (suc n) x y store = ap (λ (p : Process). offers p store) (waited-Star n x y)
 
--- an entered node, by the terms of its parts
+-- the term of an entered node (the offers of a star), by the terms of its parts
 
 abbrev pub part : Entry → ℕ → Entry
 part entry node = record { node = node; entered = entry.entered }
@@ -156,7 +156,7 @@ module _ (nodes : List Node) (ticks : ℕ) (entry : Entry) (all : AreBehind node
       ap (waited age) (node-built nodes entry.node (Let settings x) all e ∙ fresh-Let settings (tree_at nodes x))
       ∙ waited-Let age settings (fresh (tree_at nodes x))
 
-  -- a star's next turn is entered anew
+  -- the next turn of a star is entered again
   pub entered-Star : (x y : ℕ) (store : List Slot) → here (Star x y) → offers (entered_term nodes ticks entry) store ≡ map (before (process_at nodes entry.node)) (offers (entered_term nodes ticks (part entry x)) store) ++ offers (entered_term nodes ticks (part entry y)) store
   unfolding entered_term process_at
   entered-Star x y store e =
@@ -167,14 +167,14 @@ module _ (nodes : List Node) (ticks : ℕ) (entry : Entry) (all : AreBehind node
       ∙ star-offers age first second store
       ∙ ap (λ (p : Process). map (before p) (offers (waited age first) store) ++ offers (waited age second) store) (sym star)
 
--- what is entered now is new
+-- a part that is entered now has the term of its tree
 pub entered_now : (nodes : List Node) (ticks node : ℕ) → entered_term nodes ticks (record { node = node; entered = ticks }) ≡ process_at nodes node
 unfolding entered_term
 entered_now nodes ticks node =
     let z : ticks - ticks ≡ 0 = omega arith in
     ap (λ (n : ℕ). waited n (process_at nodes node)) z
 
--- a process that starts stands for its body
+-- a starting process represents its body
 pub entered_root : (nodes : List Node) (root : ℕ) (whole : Tree) → tree_at nodes root ≡ whole → entered_term nodes 0 (record { node = root; entered = 0 }) ≡ fresh whole
 unfolding entered_term process_at
 entered_root nodes root whole e = ap fresh e

@@ -1,4 +1,4 @@
--- A process on its way stays where its body may have led it, and what is seen of its offers ascends.
+-- A running process remains among the terms that its body can reach, and its offers ascend.
 use Rattle.std.proofs.Common.{◌≡◌, ℕ, ◌+◌, ◌≤◌, List, [], ◌∷◌, map, length, Option, Some, None, IfSome, option_map, slice_get, refl, ap, subst, Contains, arith}
 use Rattle.std.specs.List.Sorted.{IsStrictlyIncreasing}
 use Rattle.tb_func.specs.declared.slot.Slot.{Slot}
@@ -36,7 +36,7 @@ aged-reached tree ticks (Some term) h = grew_older h
 pub ticked-reached : (body : Body) (walking : Walking) → IsReached body walking → IsReached body (ticked walking)
 ticked-reached body walking h = aged-reached body.tree walking.ticks walking.term h
 
--- what is seen of the offers
+-- the visible part of the offers
 
 seen-atoms : (atoms : List Atom) (now : ℕ) (os : List Offered) → map (λ (o : Offered). o.atom) os ≡ map (λ (o : Offer). o.atom) (map (seen atoms now) os)
 seen-atoms atoms now [] = refl

@@ -1,4 +1,4 @@
--- What an entered part of a plan may do next, by its own parts.
+-- The visible offers of an entered part of a plan, by its own parts.
 use Rattle.std.proofs.Common.{◌≡◌, ℕ, ◌-◌, Bool, true, false, Option, Some, None, List, [], ◌∷◌, ◌++◌, map, slice_get, refl, ap, sym, ◌∙◌, append_assoc, inl, inr}
 use Rattle.std.proofs.lemmas.List.{append-nil}
 use Rattle.tb_terms.specs.declared.expr.Expr.{Expr}
@@ -23,7 +23,7 @@ module _ (atoms : List Atom) (now : ℕ) where
   abbrev seen : List Offered → List OfferView
   seen os = map (offer_view atoms now) os
 
-  -- what is left then isn't seen
+  -- the rest of an offer isn't visible
   seen-before : (y : Process) (os : List Offered) → seen (map (before y) os) ≡ seen os
   seen-before y [] = refl
   seen-before y (o ∷ os) = ap (λ rest. offer_view atoms now o ∷ rest) (seen-before y os)

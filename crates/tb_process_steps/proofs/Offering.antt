@@ -1,4 +1,4 @@
--- What holds of each offer of a test and of a let, and of an offer by its position.
+-- The facts about each offer of a test and of a `let`, and about an offer by its index.
 use Rattle.std.proofs.Common.{◌≡◌, ℕ, Bool, true, false, List, Option, Some, None, IfSome, slice_get, Contains}
 use Rattle.std.proofs.lemmas.List.Elements.{All-nil}
 use Rattle.std.proofs.lemmas.Option.{slice_get_within, get_or_from_slice_get}

@@ -1,4 +1,4 @@
--- The trees of a plan: each node's is built of those before it, and nodes that are added change none.
+-- The trees of a plan: the tree of each node is built of trees of earlier nodes, and added nodes change no tree.
 use Rattle.std.proofs.Common.{◌≡◌, ℕ, zero, suc, ◌+◌, ◌<◌, Bool, true, false, ◌&&◌, nat_lt, IsTrue, IfSome, Option, Some, None, List, [], ◌∷◌, ◌++◌, length, slice_get, refl, ap, sym, subst, ◌∙◌, arith, length-append, ◌⊎◌, inl, inr}
 use Rattle.std.specs.List.{fold}
 use Rattle.std.proofs.Math.ListN.{get_or-append}
@@ -42,7 +42,7 @@ tree_at-pushed nodes node =
     ∙ ap (λ (n : ℕ). made_at (trees nodes ++ built (trees nodes) node ∷ []) n) (sym (length-trees nodes))
     ∙ get_or-append_seam (trees nodes) (built (trees nodes) node) [] (tree.At 0)
 
--- what is read of a list with one more is of the list, or is the one
+-- an item of a list with one more item is an item of the list, or the added one
 read_pushed : {X P : Type 0} (xs : List X) (x : X) (at : ℕ) (y : X) → slice_get (xs ++ x ∷ []) at ≡ Some y → (slice_get xs at ≡ Some y → P) → (at ≡ length xs → x ≡ y → P) → P
 read_pushed [] x zero y e f g = g refl cc
 read_pushed [] x (suc at) y e f g = cc
@@ -105,7 +105,7 @@ stands_behind made (first ∷ nodes) (suc at) node e h =
     let z : length made + suc at ≡ length (with_node made first) + at = omega arith in
     rw z (stands_behind (with_node made first) nodes at node e (rw z at h))
 
--- a node's tree, by those of its parts
+-- the tree of a node, by the trees of its parts
 pub tree_at-node : (nodes : List Node) (at : ℕ) (node : Node) → AreBehind nodes → slice_get nodes at ≡ Some node → tree_at nodes at ≡ built (trees nodes) node
 unfolding trees
 tree_at-node nodes at node all e =
@@ -114,7 +114,7 @@ tree_at-node nodes at node all e =
     let h : made_at (fold with_node [] nodes) (0 + at) ≡ built (fold with_node [] nodes) node = stands_behind [] nodes at node e behind in
     rw z at h
 
--- the parts of a node stand before it
+-- the parts of a node have smaller indices than the node
 
 pub both_before : (x y at : ℕ) → (nat_lt x at && nat_lt y at) ≡ true → (x < at) × (y < at)
 both_before x y at h = let parts = and_parts (nat_lt x at) (nat_lt y at) h in (ltb-true x at parts.0, ltb-true y at parts.1)
@@ -126,7 +126,7 @@ pub if_before : (test : Expr) (x : ℕ) (y : Option ℕ) (at : ℕ) → is_behin
 if_before test x None at h = ltb-true x at h
 if_before test x (Some y) at h = (both_before x y at h).0
 
--- the part that a test chooses, whatever it says
+-- whichever part a test chooses, it has a smaller index than the node
 pub chosen_before : (says : Option Bool) (test : Expr) (x : ℕ) (y : Option ℕ) (at : ℕ) → is_behind at (If test x y) ≡ true → IfSome (chosen says x y) (λ part. part < at)
 chosen_before (Some true) test x y at h = if_before test x y at h
 chosen_before (Some false) test x None at h = tt

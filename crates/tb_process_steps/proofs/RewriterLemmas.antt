@@ -1,4 +1,4 @@
--- What a rewriter has found are its offers; and what becomes of it where one is taken.
+-- The candidates that a rewriter has found are its offers. The state of a rewriter after it takes one.
 use Rattle.std.proofs.Common.{◌≡◌, ℕ, zero, suc, ◌<◌, Bool, true, false, if◌then◌else◌, IsTrue, Option, Some, None, List, [], ◌∷◌, map, length, slice_get, option_map, option_and_then, is_some, refl, ap, sym, subst, ◌∙◌, arith}
 use Rattle.std.specs.Option.{ForSome}
 use Rattle.std.proofs.lemmas.Option.{slice_get-map}
@@ -27,13 +27,13 @@ use Rattle.tb_process_steps.specs.declared.running.Running.TheVariants.{Whole}
 use Rattle.tb_process_steps.proofs.EntryLemmas.{entered_root}
 use Rattle.tb_process_steps.proofs.TermLemmas.{term-Whole}
 
--- a process that starts
+-- a starting process
 
 pub starts : (nodes : List Node) (root : ℕ) (whole : Tree) (store : List Slot) → tree_at nodes root ≡ whole → ◌≡◌ {A = Walking} (record { term = Some (term_of nodes 0 (Whole (record { node = root; entered = 0 }))); store = store; ticks = 0 }) (record { term = Some (fresh whole); store = store; ticks = 0 })
 starts nodes root whole store e =
     ap (λ (p : Process). record { term = Some p; store = store; ticks = 0 }) (term-Whole nodes 0 (record { node = root; entered = 0 }) ∙ entered_root nodes root whole e)
 
--- looking
+-- a look
 
 pub offer_views_some : (atoms : List Atom) (now : ℕ) (plan : Plan) (rewriter : Rewriter) (term : Running) → rewriter.term ≡ Some term → map (offer_view atoms now) (offers_of (walking_of plan rewriter)) ≡ offer_views atoms now (term_of plan.nodes rewriter.ticks term) rewriter.store
 unfolding offers_of offer_views
@@ -63,7 +63,7 @@ found_kept atoms now base candidates os e = seen_less (shown base) (offer_view a
 pub found_seen : (atoms : List Atom) (now : ℕ) (base : List Slot) (candidates : List Found) (os : List Offered) → map (shown base) candidates ≡ map (offer_view atoms now) os → map offer_of candidates ≡ map (seen atoms now) os
 found_seen atoms now base candidates os e = seen_less (shown base) (offer_view atoms now) offer_in_view candidates os e
 
--- what is seen
+-- the visible offers
 
 pub is_fresh : (fresh : Bool) (candidates : List Found) → IsTrue (is_some (if fresh then Some (map offer_of candidates) else None)) → fresh ≡ true
 is_fresh true candidates h = refl
@@ -77,7 +77,7 @@ pub length-map : {A B : Type 0} (f : A → B) (xs : List A) → length (map f xs
 length-map f [] = refl
 length-map f (x ∷ xs) = ap suc (length-map f xs)
 
--- as many are seen as there are
+-- the number of visible offers is the number of offers
 pub seen_all : (plan : Plan) (rewriter : Rewriter) → IsOnPlan plan rewriter → ForSome (seen_of rewriter) (λ seen. length seen ≡ length (offers_of (walking_of plan rewriter)))
 seen_all plan rewriter on seen e =
     let os = offers_of (walking_of plan rewriter) in
@@ -89,7 +89,7 @@ seen_all plan rewriter on seen e =
     let five = ap length is.1 in
     omega arith
 
--- what was found at a position
+-- the candidate at an index
 
 pub kept_at : (base : List Slot) (candidates : List Found) (os : List Offered) (k : ℕ) → map (kept_found base) candidates ≡ map kept os → option_map (kept_found base) (slice_get candidates k) ≡ option_map kept (slice_get os k)
 kept_at base candidates os k e = sym (slice_get-map (kept_found base) candidates k) ∙ ap (λ (l : List Kept). slice_get l k) e ∙ slice_get-map kept os k
@@ -106,7 +106,7 @@ by_found g plan rewriter k found on fresh h =
     let same = kept_at rewriter.store rewriter.found os k (on.found (is_fresh rewriter.fresh rewriter.found fresh)) in
     by_kept g (slice_get os k) (kept_found rewriter.store found) (sym (ap (option_map (kept_found rewriter.store)) h) ∙ same)
 
--- taking
+-- taking an offer
 
 pub hit_inside : (k : ℕ) (os : List Offered) (rest : ℕ) → k < length os → selected_at k os ≡ Past rest → ⊥
 hit_inside k [] rest h e = omega arith

@@ -1,4 +1,4 @@
--- The offer of an entered part of a plan at a position, by its own parts.
+-- The offer of an entered part of a plan at an index, by the part's own parts.
 use Rattle.std.proofs.Common.{◌≡◌, ℕ, zero, suc, ◌-◌, Bool, true, false, Option, Some, None, List, [], ◌∷◌, ◌++◌, map, slice_get, refl, ap, ◌∙◌}
 use Rattle.tb_terms.specs.declared.expr.Expr.{Expr}
 use Rattle.tb_func.specs.declared.slot.Slot.{Slot}
@@ -28,7 +28,7 @@ at-map f k [] = refl
 at-map f zero (x ∷ xs) = refl
 at-map f (suc k) (x ∷ xs) = at-map f k xs
 
--- what is left, and then a term; or beside one
+-- the rest followed by a term, or merged with a term
 
 abbrev pub then : Process → Option Process → Option Process
 then y left = Some (followed left y)

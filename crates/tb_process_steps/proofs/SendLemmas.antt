@@ -1,4 +1,4 @@
--- What a rewriter and its plan hold may go to another thread, and what both share with other walkers.
+-- The data of a rewriter and of its plan can go to another thread, and so can the data that both share with other walkers.
 use denote.Param.Send.{IsSend, sendable}
 use denote.Param.SendFields.{as_row_send, declared_send, variants_send}
 use denote.Hole.{as_row}
@@ -83,7 +83,7 @@ pattern_send = as_row_send pattern.the_field pattern_row
 pub patterns_send : IsSend (items.the_row pattern.the_row)
 patterns_send = items_send pattern.the_row pattern_send
 
--- what is bound
+-- binds
 pub bind_send : IsSend bind.the_row
 bind_send = declared_send bind.the_type (number_send, (term_send, tt))
 

@@ -1,4 +1,4 @@
--- Binds, settings and offers keep the sorts of a store; and where its values have their sorts, they still do.
+-- Binds, settings, and offers keep the types of a store. If the values of the store have their types, they still do afterwards.
 use Rattle.std.proofs.Common.{◌≡◌, ℕ, zero, suc, Bool, true, false, ◌&&◌, List, [], ◌∷◌, map, Option, Some, None, IfSome, option_map, if◌then◌else◌, refl, ap, sym, ◌∙◌, slice_get, Contains}
 use Rattle.std.proofs.lemmas.Bool.{and_from, and_parts}
 use Rattle.std.proofs.lemmas.List.Elements.{All-nil, All-cons, All-append, All-weaker, All-map, All-contains}
@@ -63,7 +63,7 @@ well_sorted-with_binds slots (bind ∷ binds) k h =
     (takes-with_value slots bind.slot bind.value binds ∙ parts.1)
     (well_sorted-with_value slots bind.slot bind.value h parts.0)
 
--- settings: what each gives, the store takes
+-- settings: the store takes the bind that each setting gives
 
 abbrev GivesTaken : List Slot → Option Bind → Type 0
 GivesTaken slots found = IfSome found (λ bind. takes_bind slots bind ≡ true)
@@ -94,7 +94,7 @@ all_given-taken : (slots : List Slot) (settings : List Setting) → GivesAllTake
 all_given-taken slots [] = refl
 all_given-taken slots (setting ∷ settings) = cons-taken slots (given_by slots setting) (all_of (map (given_by slots) settings)) (given-taken slots setting) (all_given-taken slots settings)
 
--- a store goes on as another with the same sorts, and with values of these sorts where it had such
+-- a later store has the same types; if the values had their types, the values of the later store have them too
 
 pub record Keeps (old new : List Slot) : Type 0 where
   pub sorts : sorts_of new ≡ sorts_of old
@@ -146,7 +146,7 @@ offers-keep (Let settings x) store = after-all (KeepsIn store) (with_settings st
 pub offer-keeps : (term : Process) (store : List Slot) (offered : Offered) → Contains (offers term store) offered → Keeps store offered.store
 offer-keeps term store offered c = All-contains (KeepsIn store) (offers term store) offered (offers-keep term store) c
 
--- by its position among the offers
+-- an offer by its index
 
 term-keeps : (term : Option Process) (store : List Slot) (k : ℕ) (offered : Offered) → slice_get (offers_of_term term store) k ≡ Some offered → Keeps store offered.store
 term-keeps None store k offered e = absurd (let t : ◌≡◌ {A = Option Offered} None (Some offered) = e in cc)
@@ -156,12 +156,12 @@ pub offer_at-keeps : (walking : Walking) (k : ℕ) (offered : Offered) → slice
 unfolding offers_of
 offer_at-keeps walking k offered e = term-keeps walking.term walking.store k offered e
 
--- where the offer is taken
+-- a taken offer
 pub fired-keeps : (walking : Walking) (k : ℕ) (offered : Offered) (binds : List Bind) → slice_get (offers_of walking) k ≡ Some offered → takes_binds offered.store binds ≡ true → Keeps walking.store (fired binds walking.ticks offered).store
 fired-keeps walking k offered binds e h =
     keeps-both walking.store offered.store (with_binds offered.store binds) (offer_at-keeps walking k offered e) (binds-keep offered.store binds h)
 
--- what the sorts alone decide
+-- the facts that depend on the types alone
 
 pub sorts-fresh : (sorts : List Sort) → sorts_of (map fresh_slot sorts) ≡ sorts
 sorts-fresh [] = refl
@@ -182,7 +182,7 @@ takes-same_sorts one other [] e = refl
 takes-same_sorts one other (bind ∷ binds) e =
     ap (λ (b : Bool). b && takes_binds one binds) (takes_bind-same_sorts one other bind e) ∙ ap (λ (b : Bool). takes_bind other bind && b) (takes-same_sorts one other binds e)
 
--- a store takes a value of the sort that stands at the slot's position
+-- a store takes a value of the type at the slot's index
 pub takes-value : (store : List Slot) (sorts : List Sort) (slot : ℕ) (sort : Sort) (value : Term) → sorts_of store ≡ sorts → slice_get sorts slot ≡ Some sort → has_sort value sort ≡ true →
     takes_binds store (record { slot = slot; value = value } ∷ []) ≡ true
 takes-value store sorts slot sort value e at h =

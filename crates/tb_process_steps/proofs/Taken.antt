@@ -1,4 +1,4 @@
--- What the patterns of a store bind, the store takes: each slot is there, and its value has the slot's sort.
+-- A store takes the binds of its patterns: each slot exists, and each value has the type of its slot.
 use Rattle.std.proofs.Common.{◌≡◌, ℕ, Bool, true, false, List, [], ◌∷◌, ◌++◌, map, Option, Some, None, IfSome, option_map, option_and_then, if◌then◌else◌, refl, ap, sym, ◌∙◌, subst}
 use Rattle.std.proofs.lemmas.Bool.{and_from, and_parts}
 use Rattle.std.proofs.lemmas.List.Folds.{list_all-append}
@@ -37,7 +37,7 @@ Binds = List Bind
 abbrev Writes : List Slot → Binds → Type 0
 Writes store binds = takes_binds store binds ≡ true
 
--- binds that are found, the store takes
+-- if there are binds, the store takes them
 abbrev TakesFound : List Slot → Option Binds → Type 0
 TakesFound store found = IfSome found (Writes store)
 
@@ -228,6 +228,6 @@ found-taken : (store : List Slot) (o : Option Binds) (binds : Binds) → TakesFo
 found-taken store None binds h e = absurd (let t : ◌≡◌ {A = Option Binds} None (Some binds) = e in cc)
 found-taken store (Some b) binds h e = let is : b ≡ binds = cc in subst (Writes store) is h
 
--- the same, of binds that are known
+-- the store takes the binds of accepted terms
 pub binds-taken : (store : List Slot) (exprs : List Expr) (terms : List Term) (binds : Binds) → accepted store exprs terms ≡ Some binds → takes_binds store binds ≡ true
 binds-taken store exprs terms binds e = found-taken store (accepted store exprs terms) binds (accepted-taken store exprs terms) e

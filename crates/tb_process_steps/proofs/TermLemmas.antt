@@ -1,4 +1,4 @@
--- What a running term stands for, by its parts, and where these are in the plan.
+-- The process that a running term represents, by its parts, and the positions of these parts in the plan.
 use Rattle.std.proofs.Common.{◌≡◌, ℕ, ◌<◌, ◌≤◌, Bool, true, ◌&&◌, nat_lt, nat_le, List, ◌++◌, length, ap, sym, ◌∙◌}
 use Rattle.std.proofs.lemmas.Bool.{and_from, and_parts, ltb-true, lt-ltb, leb-true, le-leb}
 use Rattle.tb_func.specs.declared.slot.Slot.{Slot}

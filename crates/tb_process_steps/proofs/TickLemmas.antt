@@ -1,4 +1,4 @@
--- What a running term stands for a tick later.
+-- The process that a running term represents after one more tick.
 use Rattle.std.proofs.Common.{◌≡◌, ℕ, suc, ◌+◌, ◌-◌, ◌≤◌, Bool, true, nat_lt, nat_le, List, length, Option, Some, None, option_map, refl, ap, sym, subst, ◌∙◌, arith}
 use Rattle.std.proofs.lemmas.Bool.{and_from, and_parts, leb-true, le-leb}
 use Rattle.tb_process_steps.specs.Helpers.Selections.{is_left_on}
@@ -23,7 +23,7 @@ entered-aged nodes ticks entry h =
     ap (λ (n : ℕ). waited n (process_at nodes entry.node)) e
 
 module _ (nodes : List Node) (ticks later : ℕ) (le : ticks ≤ later) where
-  -- parts that are in the plan stay there
+  -- the parts that are in the plan remain in the plan
 
   abbrev StaysOn : Running → Type 0
   StaysOn r = is_on nodes ticks r ≡ true → is_on nodes later r ≡ true
@@ -64,7 +64,7 @@ module _ (nodes : List Node) (ticks later : ℕ) (le : ticks ≤ later) where
   left-later (Some r) h = on-later r h
 
 module _ (nodes : List Node) (ticks : ℕ) where
-  -- a term is one tick older, though nothing of it has changed
+  -- a term represents a term that is one tick older, although its own data is unchanged
 
   abbrev Ages : Running → Type 0
   Ages r = is_on nodes ticks r ≡ true → term_of nodes (ticks + 1) r ≡ aged (term_of nodes ticks r)
@@ -103,7 +103,7 @@ module _ (nodes : List Node) (ticks : ℕ) where
   left-aged None h = refl
   left-aged (Some r) h = ap Some (term-aged r h)
 
--- a rewriter stands for an aged process once it has counted a tick
+-- after a rewriter counts a tick, it represents the aged process
 pub walking-ticked : (plan : Plan) (rewriter : Rewriter) (fresh : Bool) → is_left_on plan.nodes rewriter.ticks rewriter.term ≡ true →
     walking_of plan (record rewriter { ticks = rewriter.ticks + 1; fresh = fresh }) ≡ ticked (walking_of plan rewriter)
 walking-ticked plan rewriter fresh h =

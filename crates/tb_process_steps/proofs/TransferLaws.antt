@@ -1,4 +1,4 @@
--- What comes of a disrupt while only its left side makes steps, and once its right side has made one.
+-- The terms that a disrupt reaches while only its left side makes steps, and after its right side has made one.
 use Rattle.std.proofs.Common.{◌≡◌, ℕ, zero, suc, ◌+◌, ◌<◌, ◌≤◌, ◌⊎◌, inl, inr, List, [], ◌∷◌, ◌++◌, map, length, slice_get, Option, Some, None, IfSome, Contains, refl, ap, sym, subst, ◌∙◌, arith, rules}
 use Rattle.std.proofs.lemmas.List.{length-map}
 use Rattle.std.proofs.lemmas.Option.{same_Some, slice_get_within}
@@ -13,13 +13,13 @@ use Rattle.tb_process_steps.specs.Helpers.Runnings.{waited}
 use Rattle.tb_process_steps.proofs.Ages.{left-is}
 use Rattle.tb_process_steps.proofs.Offering.{contains-at, if-all, after-all}
 
--- the right side has waited as long as the whole
+-- the right side has waited as long as the whole disrupt
 
 held : (y : Process) (o : Option Process) (left : Process) → until y o ≡ Some left → (x : Process) × (o ≡ Some x) × (left ≡ Disrupt x y)
 held y None left e = absurd (let t : ◌≡◌ {A = Option Process} None (Some left) = e in cc)
 held y (Some x) left e = (x, refl, sym (same_Some (Disrupt x y) left e))
 
--- what an offer leaves is a disrupt whose left side comes of x
+-- the rest of the offer is a disrupt whose left side is reached from x
 abbrev LeavesHeld : Process → ℕ → Process → Offered → Type 0
 LeavesHeld x ticks y offered = (left : Process) → offered.residual ≡ Some left → (r : Process) × Comes x ticks r × (left ≡ Disrupt r y)
 
@@ -32,7 +32,7 @@ steps-held x r y ticks store k =
           let h = held y o.residual left e in
           (h.0, goes_on store o k c h.1, h.2)
 
--- which side an offer of a disrupt is of
+-- the side of a disrupt to which an offer belongs
 
 split_offer : (xs ys : List Offered) (k : ℕ) (o : Offered) → slice_get (xs ++ ys) k ≡ Some o → (slice_get xs k ≡ Some o) ⊎ ((i : ℕ) × ((k ≡ length xs + i) × (slice_get ys i ≡ Some o)))
 split_offer [] ys k o e = inr (k, (omega arith, e))
@@ -81,7 +81,7 @@ only_left {y = y} (waits {ticks = ticks} {term = term} k) =
 pub right_waits : (x y term : Process) (ticks : ℕ) → OnlyLeft x y ticks term → (r : Process) × Comes x ticks r × (term ≡ Disrupt r (waited ticks y)) × ((store : List Slot) → offers term store ≡ map (in_wait (waited ticks y)) (offers r store) ++ offers (waited ticks y) store)
 right_waits x y term ticks k = (let h = only_left k in (h.0, h.1, h.2, λ store. ap (λ (p : Process). offers p store) h.2))
 
--- the atoms of what comes of a term are the term's
+-- the atoms of a reached term are atoms of the term
 
 module _ (own_atoms : List ℕ) where
   abbrev IsWithin : Process → Type 0
@@ -193,7 +193,7 @@ own (If test x y) = both-own x y (own x) (own y)
 own (When test x) = own x
 own (Let settings x) = own x
 
--- what comes after a step of the right side is what the right side alone comes to
+-- after a step of the right side, the disrupt reaches what the right side alone reaches
 
 waits-alone : (y : Process) (ticks : ℕ) → Comes y ticks (waited ticks y)
 waits-alone y zero = here

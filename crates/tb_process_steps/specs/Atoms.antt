@@ -1,4 +1,4 @@
--- What an atom sends, what it is matched against, and when it is ready.
+-- The values that an atom sends, the patterns of an atom, and when an atom is ready.
 use Rattle.std.specs.Prelude.{ℕ, ℤ, pos, negsuc, Bool, true, false, nat_le, List, [], ◌∷◌, map, sum, Option, Some, None, option_and_then, if◌then◌else◌, ◌-◌, slice_get}
 use Rattle.std.specs.List.{list_all}
 use Rattle.tb_terms.specs.declared.term.Term.{Term}
@@ -18,8 +18,8 @@ use Rattle.tb_body.specs.declared.atom.Time.{Time}
 use Rattle.tb_body.specs.declared.atom.TimeKind.{TimeKind}
 use Rattle.tb_body.specs.declared.atom.TimeKind.TheVariants.{Delay, Timeout, AbsDelay, AbsTimeout}
 
--- The expressions whose values an atom sends or looks at: the actuals of a new process, and the tool first
--- where there is one.
+-- The expressions whose values an atom sends or looks at. For a new process, these are its arguments. If the act has an expression for its
+-- tool, this expression is first.
 abbrev pub sent_exprs : Act → List Expr
 sent_exprs Delta = []
 sent_exprs Tau = []
@@ -45,7 +45,7 @@ sent_exprs (SndAckEvent tool exprs) = tool ∷ exprs
 sent_exprs (SndTerminate tool expr) = tool ∷ expr ∷ []
 sent_exprs (Shutdown reason) = reason ∷ []
 
--- the expressions that are patterns: of what is received, or of the notes that are looked at
+-- the expressions that are patterns: for received terms, or for notes
 abbrev pub matched_exprs : Act → List Expr
 matched_exprs Delta = []
 matched_exprs Tau = []
@@ -71,39 +71,40 @@ matched_exprs (SndAckEvent tool exprs) = []
 matched_exprs (SndTerminate tool expr) = []
 matched_exprs (Shutdown reason) = []
 
--- the terms, where they are together within the limit of size
+-- the terms, if their total size is within the limit of a term
 abbrev pub limited_together : List Term → Option (List Term)
 limited_together terms = if nat_le (sum (map term_size terms)) most_term_size then Some terms else None
 
--- the values, where each expression has one and they are together within the limit
+-- the values, if each expression has one and their total size is within the limit of a term
 abbrev pub values_together : List Slot → List Expr → Option (List Term)
 values_together store exprs = option_and_then limited_together (all_of (map (value_of store) exprs))
 
+-- the patterns, if each expression has one
 abbrev pub patterns_of : List Slot → List Expr → Option (List Pattern)
 patterns_of store exprs = all_of (map (pattern_of store) exprs)
 
--- what the terms bind, where there are patterns and they match
+-- the binds of matching the terms; nothing if an expression has no pattern or the terms don't match
 abbrev pub accepted : List Slot → List Expr → List Term → Option (List Bind)
 accepted store exprs terms = option_and_then (λ patterns. match_list patterns terms) (patterns_of store exprs)
 
--- a number is at most this one
+-- the number is at most this bound
 abbrev pub is_at_most : ℤ → ℕ → Bool
 is_at_most (pos n) most = nat_le n most
 is_at_most (negsuc n) most = true
 
--- a number is at least this one
+-- the number is at least this bound
 abbrev pub is_at_least : ℤ → ℕ → Bool
 is_at_least (pos n) least = nat_le least n
 is_at_least (negsuc n) least = false
 
--- an atom of this age, on a bus that has seen so many ticks
+-- whether a time of this kind and value holds for an atom of this age, at this number of ticks of the bus
 abbrev pub holds_for : TimeKind → ℤ → ℕ → ℕ → Bool
 holds_for Delay value age now = is_at_most value age
 holds_for Timeout value age now = is_at_least value age
 holds_for AbsDelay value age now = is_at_most value now
 holds_for AbsTimeout value age now = is_at_least value now
 
--- a time without a value, or with one that is no number, doesn't hold
+-- a time doesn't hold if it has no value or its value is no number
 abbrev pub holds_by : TimeKind → Option ℤ → ℕ → ℕ → Bool
 holds_by kind None age now = false
 holds_by kind (Some value) age now = holds_for kind value age now
@@ -111,11 +112,11 @@ holds_by kind (Some value) age now = holds_for kind value age now
 abbrev pub holds : List Slot → ℕ → ℕ → Time → Bool
 holds store age now time = holds_by time.kind (option_and_then int_of (value_of store time.value)) age now
 
--- all its times hold
+-- all times of the atom hold
 abbrev pub is_ready : List Slot → ℕ → ℕ → List Time → Bool
 is_ready store age now times = list_all (holds store age now) times
 
--- what an atom does, by its number; where there is none, nothing ever happens
+-- the act of an atom; without an atom, `delta`, which never happens
 abbrev pub act_in : Option Atom → Act
 act_in None = Delta
 act_in (Some atom) = atom.act
@@ -124,8 +125,10 @@ abbrev pub times_in : Option Atom → List Time
 times_in None = []
 times_in (Some atom) = atom.times
 
+-- the act of the atom with this number, from 1
 abbrev pub act_of : List Atom → ℕ → Act
 act_of atoms number = act_in (slice_get atoms (number - 1))
 
+-- the times of the atom with this number, from 1
 abbrev pub times_of : List Atom → ℕ → List Time
 times_of atoms number = times_in (slice_get atoms (number - 1))

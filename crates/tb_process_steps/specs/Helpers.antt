@@ -1,4 +1,5 @@
--- Definitions that proofs and private functions need, and that nobody has to believe who believes the program's call.
+-- Definitions for proofs and private functions, and `waited`, which the theorem `right_sides_wait` uses. A reader who trusts the program's
+-- call needn't trust them.
 pub mod Candidates
 pub mod Selections
 pub mod Plans

@@ -1,4 +1,4 @@
--- Process terms: the operators of the algebra with an age on each atom; a body as it is entered, and a term a tick later.
+-- Process terms: the operators of the algebra with an age on each atom. The term of a body that is entered, and a term one tick later.
 use Rattle.std.specs.Prelude.{ℕ, ◌+◌, List, Some, None}
 use Rattle.tb_terms.specs.declared.expr.Expr.{Expr}
 use Rattle.tb_body.specs.declared.tree.Tree.{Tree}
@@ -6,25 +6,25 @@ use Rattle.tb_body.specs.declared.tree.Tree.TheOpen as tree
 use Rattle.tb_body.specs.declared.tree.Tree.TheFolds.{fold-Tree}
 use Rattle.tb_body.specs.declared.tree.Setting.{Setting}
 
--- Where a process has ended it has no term: the end is `None`.
+-- A process that has ended has no term: the end is `None`.
 pub data Process : Type 0 where
-  -- the atom of this number, and how many ticks it has waited
+  -- the atom with this number, and its age: the number of ticks that it has waited
   At : ℕ → ℕ → Process
-  -- the one, and then the other
+  -- the first term, then the second
   Seq : Process → Process → Process
-  -- the one or the other
+  -- the first term or the second
   Alt : Process → Process → Process
-  -- the one any number of times, and then the other
+  -- the first term any number of times, then the second
   Star : Process → Process → Process
-  -- both, their atoms in any order
+  -- both terms, with their atoms in any order
   Par : Process → Process → Process
-  -- the left side, until the right side takes a step; where the left side has ended, the whole has
+  -- the left side, until the right side takes a step; if the left side ends, the whole ends
   Disrupt : Process → Process → Process
-  -- the one where the test is true, and the other where it is false
+  -- the first term if the test is true, the second if it is false
   If : Expr → Process → Process → Process
-  -- the one where the test is true
+  -- the term if the test is true
   When : Expr → Process → Process
-  -- the slots are set, and then comes the term
+  -- the term, in the store after the settings
   Let : List Setting → Process → Process
 
 abbrev pub fresh_step : tree.Tree-F Process → Process
@@ -38,12 +38,12 @@ fresh_step (tree.If test x None) = When test x
 fresh_step (tree.If test x (Some y)) = If test x y
 fresh_step (tree.Let settings x) = Let settings x
 
--- a body as it is entered: all ages are 0
+-- the term of a body that is entered: all ages are 0
 abbrev pub fresh : Tree → Process
 fresh = fold-Tree Process fresh_step
 
--- One tick. Time decides no choice: a star that waits may still take either side, and its next turn is
--- entered anew.
+-- The term one tick later. A tick decides no choice: a waiting star can still take either side. The right side of a sequence doesn't age,
+-- and neither do the later turns of a star.
 abbrev pub aged : Process → Process
 aged (At atom age) = At atom (age + 1)
 aged (Seq x y) = Seq (aged x) y

@@ -1,4 +1,4 @@
--- Which terms a body reaches, and after how many ticks; and the ages in a term.
+-- The terms that a body reaches with a number of ticks, and bounds for the ages in a term.
 use Rattle.std.specs.Prelude.{◌≡◌, ◌≤◌, ◌+◌, ℕ, List, Some, IfSome, Contains, ⊤}
 use Rattle.tb_func.specs.declared.slot.Slot.{Slot}
 use Rattle.tb_body.specs.declared.body.Body.{Body}
@@ -7,20 +7,20 @@ use Rattle.tb_process_steps.specs.Processes.{Process, At, Seq, Alt, Star, Par, D
 use Rattle.tb_process_steps.specs.Offers.{Offered, offers}
 use Rattle.tb_process_steps.specs.Walks.{Walking}
 
--- a tree reaches the term after so many ticks
+-- entering the tree, taking offers, and this number of ticks can lead to the term
 pub data Reaches (tree : Tree) : ℕ → Process → Type 0 where
-  -- as the tree is entered
+  -- the tree is entered
   entered : Reaches tree 0 (fresh tree)
-  -- by an offer that is taken, in whatever store
+  -- an offer is taken, in any store
   went_on : {ticks : ℕ} {term left : Process} (store : List Slot) (offered : Offered) → Reaches tree ticks term → Contains (offers term store) offered → offered.residual ≡ Some left → Reaches tree ticks left
-  -- by a tick
+  -- a tick passes
   grew_older : {ticks : ℕ} {term : Process} → Reaches tree ticks term → Reaches tree (ticks + 1) (aged term)
 
--- a process on its way is where its body may have led it
+-- the process has ended, or its body reaches its term with its number of ticks
 abbrev pub IsReached : Body → Walking → Type 0
 IsReached body walking = IfSome walking.term (Reaches body.tree walking.ticks)
 
--- no atom of the term has waited longer
+-- no age in the term is greater than this number of ticks
 abbrev pub IsAgedUpTo : ℕ → Process → Type 0
 IsAgedUpTo ticks (At atom age) = age ≤ ticks
 IsAgedUpTo ticks (Seq x y) = IsAgedUpTo ticks x × IsAgedUpTo ticks y

@@ -1,4 +1,4 @@
-//! What is left of a running term once one of its offers is taken.
+//! The rest of a running term after one of its offers is taken.
 ghost use Rattle.std.specs.Prelude.{◌≡◌, ℕ, ◌<◌, ◌≤◌, List, Some, IfOk, IsTrue, length, option_map};
 ghost use Rattle.tb_func.specs.declared.slot.Slot.{Slot};
 ghost use Rattle.tb_process_steps.specs.declared.node.Node.{Node as PlanNode};
@@ -22,7 +22,7 @@ use std::alloc::Global;
 use tb_func::Store;
 use tb_terms::{Boxed, Expr, NoMemory};
 
-/// When a part was entered, and how many ticks the process has seen.
+/// The tick at which a part was entered, and the number of ticks that the process has seen.
 #[derive(Clone, Copy)]
 struct Since {
     entered: u64,
@@ -30,7 +30,7 @@ struct Since {
 }
 
 impl Since {
-    /// A part that was entered then.
+    /// Returns the node as a term that was entered at this tick.
     fn whole(self, node: usize) -> Running
         ensures { result ≡ Whole (record { node = node; entered = self.entered }) }
     {
@@ -48,7 +48,7 @@ impl Since {
     }
 }
 
-/// Takes the offer of a running term at this position, from 0 in text order.
+/// Takes the offer of a running term at index `k`, from 0, in the order of the source.
 #[cycle(fire_term)]
 pub(crate) fn fire_term(
     alloc: Global,
@@ -91,7 +91,7 @@ pub(crate) fn fire_term(
     }
 }
 
-/// Takes the offer of a part of the plan at this position.
+/// Takes the offer at index `k` of a part of the plan. The part is evaluated in `own`, or in `base` without one.
 #[cycle(fire_node)]
 fn fire_node(
     alloc: Global,
@@ -148,7 +148,7 @@ fn fire_node(
     }
 }
 
-/// The part that a test chooses now, where it chooses one.
+/// Returns the part that the test selects, if it selects one.
 fn chosen(
     alloc: Global,
     store: &Store,
@@ -165,7 +165,7 @@ fn chosen(
     }
 }
 
-/// An atom has one offer, and then the term has ended.
+/// Takes the offer of an atom at index `k`. An atom has one offer, and its rest is the end.
 #[tactic(auto, unfolding(crate::specs::Helpers::Selections::selected))]
 fn fire_atom(alloc: Global, own: &Option<Store>, k: usize) -> Result<Fired, NoMemory>
     ensures selected { IfOk result (λ fired. (nodes : List PlanNode) → (ticks : ℕ)
@@ -181,7 +181,7 @@ fn fire_atom(alloc: Global, own: &Option<Store>, k: usize) -> Result<Fired, NoMe
     Ok(Fired::Taken(None, own))
 }
 
-/// What is left, and then the node of the plan.
+/// Puts the node after the rest, if an offer was taken.
 fn followed(alloc: Global, fired: Fired, node: usize, ticks: u64) -> Result<Fired, NoMemory>
     ensures selected { IfOk result (λ whole. (nodes : List PlanNode) → (base : List Slot)
         → selected_of nodes ticks base whole
@@ -196,7 +196,7 @@ fn followed(alloc: Global, fired: Fired, node: usize, ticks: u64) -> Result<Fire
     }
 }
 
-/// What is left of a part whose offer was taken, and then the node of the plan.
+/// Returns the result for a taken offer whose rest is followed by the node.
 fn taken_then(
     alloc: Global,
     left: Option<Running>,
@@ -215,6 +215,7 @@ fn taken_then(
     Ok(Fired::Taken(Some(whole), own))
 }
 
+/// Returns the rest in sequence with the node. If the rest is the end, the process enters the node now.
 fn left_then(
     alloc: Global,
     left: Option<Running>,
@@ -235,7 +236,7 @@ fn left_then(
     }
 }
 
-/// What is left, beside the other side.
+/// Returns the rest of a left side, merged with a copy of the right side.
 fn left_beside(alloc: Global, left: Option<Running>, right: &Running) -> Result<Running, NoMemory>
     ensures term { IfOk result (λ whole. (nodes : List PlanNode) → (ticks : ℕ)
         → term_of nodes ticks whole
@@ -251,7 +252,7 @@ fn left_beside(alloc: Global, left: Option<Running>, right: &Running) -> Result<
     }
 }
 
-/// What is left of a side whose offer was taken, beside the other side.
+/// Returns the result for a taken offer of a left side, whose rest is merged with a copy of the right side.
 fn taken_beside(
     alloc: Global,
     left: Option<Running>,
@@ -271,7 +272,7 @@ fn taken_beside(
     Ok(Fired::Taken(Some(whole), own))
 }
 
-/// What is left of a left side whose offer was taken, while its right side waits; nothing where it has ended.
+/// Returns the result for a taken offer of a disrupt's left side. The right side still waits, unless the left side has ended.
 fn taken_until(
     alloc: Global,
     left: Option<Running>,
@@ -296,7 +297,7 @@ fn taken_until(
     }
 }
 
-/// The other side, beside what is left.
+/// Merges a copy of the left side with the rest of the right side, if an offer was taken.
 fn on_the_right(alloc: Global, left: &Running, fired: Fired) -> Result<Fired, NoMemory>
     ensures selected { IfOk result
         (λ whole. (nodes : List PlanNode) → (ticks : ℕ) → (base : List Slot)
@@ -316,6 +317,7 @@ fn on_the_right(alloc: Global, left: &Running, fired: Fired) -> Result<Fired, No
     }
 }
 
+/// Returns a copy of the left side, merged with the rest of the right side.
 fn right_beside(alloc: Global, left: &Running, right: Option<Running>) -> Result<Running, NoMemory>
     ensures term { IfOk result (λ whole. (nodes : List PlanNode) → (ticks : ℕ)
         → term_of nodes ticks whole

@@ -1,17 +1,17 @@
-//! The result of the search for an offer, and what is left once it is taken.
+//! The result of the search for an offer, and the rest and store of a taken offer.
 use crate::running::Running;
 use tb_func::Store;
 
-/// What came of the search for an offer.
+/// The result of the search for the offer at an index.
 #[derive(Drop)]
 pub enum Fired {
-    /// There were fewer: so many more are to be counted.
+    /// The index is past the last offer of the part. The number is the index minus the number of its offers.
     Past(usize),
-    /// What is left once it is taken, and the store that a `let` made.
+    /// The rest of the offer or the end, and the store that a `let` made, if one did.
     Taken(Option<Running>, Option<Store>),
 }
 
-/// What is left once an offer is taken, and the store that a `let` made.
+/// The rest of a taken offer or the end, and the store that a `let` made, if one did.
 #[derive(Drop)]
 pub struct Left {
     pub(crate) term: Option<Running>,

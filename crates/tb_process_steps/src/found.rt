@@ -1,4 +1,4 @@
-//! An atom that may come next, with the store that a `let` made for it, and copies of such atoms.
+//! The offers that a look found, each with the store that a `let` made for it, and copies of these offers.
 ghost use Rattle.std.specs.Prelude.{◌≡◌, IfOk};
 ghost use Rattle.tb_process_steps.specs.Helpers.Candidates.{offer_of};
 
@@ -7,17 +7,21 @@ use std::alloc::Global;
 use tb_func::Store;
 use tb_terms::{Items, NoMemory};
 
-/// An atom that was found to be next. Its store is its own where a `let` made one.
+/// An offer that a look found.
 #[derive(Drop)]
 pub struct Found {
+    /// The number of the atom in the body, from 1.
     pub atom: u32,
+    /// The number of ticks that the atom has waited.
     pub age: u64,
+    /// Whether all times of the atom held at the look.
     pub ready: bool,
+    /// The store that a `let` made for the offer; without one, its store is that of the process.
     pub own: Option<Store>,
 }
 
 impl Found {
-    /// The same in memory of its own.
+    /// Returns a copy in its own memory.
     fn copy(&self, alloc: Global) -> Result<Found, NoMemory>
         ensures { IfOk result (λ copy. copy ≡ self.now) }
     {
@@ -30,7 +34,7 @@ impl Found {
         })
     }
 
-    /// What is seen of it.
+    /// Returns the offer without its store.
     pub fn offer(&self) -> Offer
         ensures { result ≡ offer_of self.now }
     {
@@ -42,7 +46,7 @@ impl Found {
     }
 }
 
-/// A copy of the store, where there is one.
+/// Returns a copy of the store, if there is one.
 pub fn copy_own(alloc: Global, own: &Option<Store>) -> Result<Option<Store>, NoMemory>
     ensures { IfOk result (λ copy. copy ≡ own.now) }
 {
@@ -52,7 +56,7 @@ pub fn copy_own(alloc: Global, own: &Option<Store>) -> Result<Option<Store>, NoM
     }
 }
 
-/// A copy of all that was found, in its order.
+/// Returns copies of the found offers, in the same order.
 pub fn copy_candidates(alloc: Global, candidates: &Items<Found>) -> Result<Items<Found>, NoMemory>
     ensures { IfOk result (λ copies. copies ≡ candidates.now) }
 {

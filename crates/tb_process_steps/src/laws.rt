@@ -1,5 +1,4 @@
-//! What holds of process terms, their offers and their stores. The calls change nothing: their
-//! contracts are the laws.
+//! Theorems about process terms, their offers, and their stores. The calls change nothing: their contracts are the theorems.
 
 ghost use Rattle.std.specs.Prelude.{◌≡◌, ◌≤◌, ◌++◌, ℕ, List, [], Some, IsTrue, Contains, map, length, slice_get};
 ghost use Rattle.std.specs.List.Sorted.{IsStrictlyIncreasing};
@@ -21,15 +20,15 @@ ghost use Rattle.tb_process_steps.specs.Transfers.{AreApart, Comes, OnlyLeft, Ri
 ghost use Rattle.tb_process_steps.specs.Helpers.Runnings.{waited};
 ghost use Rattle.tb_process_steps.specs.Walks.{Walking, entering, offers_of, sent_by, patterns_by, accepted_by, fired, ticked, sorts_of};
 
-/// What an atom binds where it is given terms, its store takes: each slot is there, and its value has
-/// the slot's sort.
+/// States that a store takes the binds of an atom that accepts terms: each slot exists, and each value has the type of its slot.
 pub fn accepted_binds_are_taken()
     ensures { (store : List Slot) (exprs : List Expr) (terms : List Term) (binds : List Bind) →
         accepted store exprs terms ≡ Some binds → IsTrue (takes_binds store binds) }
 {}
 
-/// An offer stands in a store with the sorts of the process's store, and so does what is left where
-/// the offer is taken. Where the values had their slots' sorts, they still do.
+/// States that the store of an offer, also after the offer is taken, has the slot types of the process's store. If the values have
+/// their slots' types in the process's store, they have them in the store of the offer. They keep them after the offer is taken, if
+/// this store takes the binds.
 pub fn offers_keep_sorts()
     ensures sorts { (term : Process) (store : List Slot) (offered : Offered)
         → Contains (offers term store) offered → sorts_of offered.store ≡ sorts_of store }
@@ -43,7 +42,7 @@ pub fn offers_keep_sorts()
         → IsTrue (are_well_sorted (fired binds ticks offered).store) }
 {}
 
-/// In a term that a body reaches, and so in its offers, no age is greater than the number of ticks.
+/// States that no age is greater than the number of ticks, in a term that a body reaches and in its offers.
 pub fn ages_are_within_the_ticks()
     ensures term { (tree : Tree) (ticks : ℕ) (term : Process)
         → Reaches tree ticks term → IsAgedUpTo ticks term }
@@ -52,14 +51,14 @@ pub fn ages_are_within_the_ticks()
         → Contains (offers term store) offered → offered.age ≤ ticks }
 {}
 
-/// In a term that a body reaches, what stands on the right of a sequence or within a star has not waited yet.
+/// States that in a term that a body reaches, all ages on the right of a sequence and within a star are 0.
 pub fn ages_behind_are_new()
     ensures { (tree : Tree) (ticks : ℕ) (term : Process)
         → Reaches tree ticks term → IsNewBehind term }
 {}
 
-/// In every store, the offers of a term that a body reaches ascend by the numbers of their atoms. So no
-/// two are of one atom, and each is of an atom of the body.
+/// States that in each store, the atom numbers of the offers of a term that a body reaches ascend strictly. So no two of these offers
+/// have the same atom. Each of these atoms is an atom of the body.
 pub fn offers_ascend()
     ensures ascend { (body : Body) (ticks : ℕ) (term : Process) (store : List Slot)
         → Reaches body.tree ticks term
@@ -72,8 +71,8 @@ pub fn offers_ascend()
         → (1 ≤ offered.atom) × (offered.atom ≤ length body.atoms) }
 {}
 
-/// A process that enters its body is where the body may have led it, and stays so where an offer is taken and where
-/// a tick passes.
+/// States that a body reaches the term of a process that enters it. If a body reaches a term, it also reaches the term after an offer is
+/// taken and after a tick.
 pub fn walks_stay_reached()
     ensures entering { (body : Body) (store : List Slot) → IsReached body (entering body store) }
     ensures fired { (body : Body) (walking : Walking) (k : ℕ) (offered : Offered)
@@ -84,8 +83,8 @@ pub fn walks_stay_reached()
         → IsReached body (ticked walking) }
 {}
 
-/// A tick takes no offer away and brings none: those of a term a tick later are the same, one by one, of the same atom
-/// in the same store, and a tick older. What an offer leaves then has aged, but for what is entered only as it is taken.
+/// States that a tick removes no offer and adds none. One by one, the offers after the tick have the same atoms and stores, and are one
+/// tick older. The rest of each offer has aged too, except the parts that the process enters by taking the offer.
 pub fn offers_age()
     ensures term { (term : Process) (store : List Slot)
         → AreAged (offers term store) (offers (aged term) store) }
@@ -99,8 +98,8 @@ pub fn offers_age()
         × IsAged offered later }
 {}
 
-/// A tick later an offered atom sends and matches what it did. Where it has no times, it is as ready as it was, whatever
-/// the ticks of the bus.
+/// States that a tick changes neither the values that an offered atom sends, nor its patterns, nor its binds for given terms. If the
+/// atom has no times, the tick doesn't change whether it is ready, at any ticks of the bus.
 pub fn ageing_keeps_terms()
     ensures sent { (atoms : List Atom) (offered later : Offered) → IsAged offered later
         → sent_by atoms later ≡ sent_by atoms offered }
@@ -114,8 +113,8 @@ pub fn ageing_keeps_terms()
         ≡ is_ready offered.store offered.age now (times_of atoms offered.atom) }
 {}
 
-/// While only the left side of a disrupt takes steps, its right side waits and ages with the whole. The whole offers
-/// what its left side has come to offers, and then what its right side offers, aged by all ticks of the whole.
+/// States that the right side of a disrupt waits and ages while only the left side takes steps. The disrupt has the offers of its
+/// current left side. After them come the offers of the right side, aged by all ticks that the disrupt has seen.
 pub fn right_sides_wait()
     ensures { (x y term : Process) (ticks : ℕ) → OnlyLeft x y ticks term
         → (r : Process) × Comes x ticks r × (term ≡ Disrupt r (waited ticks y))
@@ -123,8 +122,8 @@ pub fn right_sides_wait()
         ≡ map (in_wait (waited ticks y)) (offers r store) ++ offers (waited ticks y) store) }
 {}
 
-/// Once the right side of a disrupt has taken a step, the whole is what the right side alone comes to. So each offer is
-/// of an atom of the right side, and no offer of the left side comes again.
+/// States that after a step of a disrupt's right side, the term is one to which offers and ticks lead from the right side alone. So each
+/// offer has an atom of the right side. If the sides have no atom in common, no offer has an atom of the left side.
 pub fn right_sides_are_alone()
     ensures alone { (x y term : Process) (ticks : ℕ) → RightWent x y ticks term
         → Comes y ticks term }

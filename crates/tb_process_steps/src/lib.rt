@@ -1,4 +1,4 @@
-//! The algebra of processes: terms, what they may do next, and how they go on.
+//! The process algebra of scripts: process terms, their offers, and the terms after an offer is taken or a tick passes.
 #![tactic(auto)]
 
 mod fire;

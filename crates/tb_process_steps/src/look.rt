@@ -1,4 +1,4 @@
-//! The search for the atoms that a running term may do next.
+//! The search for the offers of a running term.
 ghost use Rattle.std.specs.Prelude.{◌≡◌, ◌∷◌, [], ◌++◌, ◌-◌, ◌<◌, IfOk, OnOk, IsTrue, length, map};
 ghost use Rattle.tb_process_steps.specs.Atoms.{is_ready, times_of};
 ghost use Rattle.tb_process_steps.specs.Helpers.Runnings.{entered_term, term_of, is_on};
@@ -14,7 +14,7 @@ use std::alloc::Global;
 use tb_func::Store;
 use tb_terms::{Items, NoMemory};
 
-/// When a part was entered, and how many ticks the process and the bus have seen.
+/// The tick at which a part was entered, and the numbers of ticks that the process (`ticks`) and the bus (`now`) have seen.
 #[derive(Clone, Copy)]
 pub(crate) struct Clock {
     pub entered: u64,
@@ -22,7 +22,7 @@ pub(crate) struct Clock {
     pub now: u64,
 }
 
-/// Adds what a running term may do next, in text order.
+/// Adds the offers of a running term, in the order of the source.
 #[cycle(look_term)]
 pub(crate) fn look_term(
     alloc: Global,
@@ -66,7 +66,7 @@ pub(crate) fn look_term(
     }
 }
 
-/// Adds what a part of the plan may do next.
+/// Adds the offers of a part of the plan. The part is evaluated in `own`, or in `base` without one.
 #[cycle(look_node)]
 fn look_node(
     alloc: Global,
@@ -108,7 +108,7 @@ fn look_node(
     }
 }
 
-/// The store that a `let` made, or that of the process.
+/// Returns the store that a `let` made; without one, the store of the process.
 pub fn store_of<'a>(base: &'a Store, own: &'a Option<Store>) -> &'a Store
     ensures { result.now ≡ or_own own.now base.now }
 {

@@ -1,12 +1,12 @@
-//! What is seen of an atom that may come next: its number, its age and whether it is ready.
+//! An offer as a look finds it: its atom, its age, and whether it is ready.
 
-/// An atom that a process may do next.
+/// An atom that a process can do next.
 #[derive(Clone, Copy, Debug, PartialEq, Eq)]
 pub struct Offer {
-    /// Its number in the body, from 1.
+    /// The number of the atom in the body, from 1.
     pub atom: u32,
-    /// How many ticks it has waited.
+    /// The number of ticks that the atom has waited.
     pub age: u64,
-    /// All its times hold.
+    /// Whether all times of the atom held at the look.
     pub ready: bool,
 }

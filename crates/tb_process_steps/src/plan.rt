@@ -1,4 +1,4 @@
-//! The plan of a body: its operators in a list, each after its parts.
+//! The plan of a body: a list of its operators, each after its parts.
 ghost use Rattle.std.specs.Prelude.{◌≡◌, ◌-◌, ◌<◌, Some, IsTrue, IfOk, length, slice_get};
 ghost use Rattle.std.specs.Coded.{codes};
 ghost use Rattle.std.specs.Option.{option_copied};
@@ -10,7 +10,7 @@ use std::alloc::Global;
 use tb_body::{Atom, Body, Tree, copy_settings};
 use tb_terms::{Items, NoMemory};
 
-/// What a body is worked out to: its operators one after another, each behind its parts.
+/// The plan of a body: a list of its operators, each after its parts.
 #[derive(Drop)]
 pub struct Plan {
     pub(crate) body: Body,
@@ -22,7 +22,7 @@ pub struct Plan {
 }
 
 impl Plan {
-    /// Works out the plan of a body.
+    /// Returns the plan of a body.
     pub(crate) fn new(alloc: Global, body: &Body) -> Result<Plan, NoMemory>
         ensures { IfOk result (λ plan. plan.body ≡ body.now) }
     {
@@ -40,7 +40,7 @@ impl Plan {
         &self.nodes.as_slice()[at]
     }
 
-    /// The atom with this number, where there is one.
+    /// Returns the atom with this number, counted from 1, if there is one.
     pub(crate) fn atom(&self, number: u32) -> Option<&Atom>
         ensures { option_copied result ≡ slice_get self.now.body.atoms (number - 1) }
     {
@@ -48,7 +48,7 @@ impl Plan {
     }
 }
 
-/// Adds a tree behind the nodes, and gives the position of its node.
+/// Adds the nodes of a tree after the others, and returns the position of its root.
 #[cycle(add_tree)]
 fn add_tree(alloc: Global, nodes: &mut Items<Node>, tree: &Tree) -> Result<usize, NoMemory>
     requires { AreBehind nodes.old }
@@ -100,7 +100,7 @@ fn add_tree(alloc: Global, nodes: &mut Items<Node>, tree: &Tree) -> Result<usize
     }
 }
 
-/// Adds a node, and gives its position.
+/// Adds a node, and returns its position.
 fn push_node(nodes: &mut Items<Node>, node: Node) -> Result<usize, NoMemory>
     requires all { AreBehind nodes.old }
     requires behind { IsTrue (is_behind (length nodes.old) node) }

@@ -1,4 +1,4 @@
-//! The walker that rewrites what is left of its process.
+//! The walker that rewrites its process term.
 ghost use Rattle.std.specs.Prelude.{◌≡◌, IfOk, IsTrue, map};
 ghost use Rattle.tb_process_steps.specs.Helpers.Selections.{selected_at, selected_of, is_fired_on};
 ghost use Rattle.tb_process_steps.specs.Helpers.OfferViews.{shown, offer_view};
@@ -20,22 +20,21 @@ use tb_func::Store;
 use tb_match::Binds;
 use tb_terms::{Items, NoMemory, Patterns, Terms};
 
-/// A walker that rewrites what is left of its process. Parts of the plan that wait are kept by their
-/// nodes and the ticks at which they were entered, so a tick leaves the term as it is: it stands for an
-/// older one then.
+/// A walker that rewrites its process term. For each waiting part, the term has the node of the plan and the tick at which the process
+/// entered it. So a tick doesn't change this term: the same term then represents an older process term.
 #[derive(Drop)]
 pub struct Rewriter {
     pub(crate) term: Option<Running>,
     pub(crate) store: Store,
     pub(crate) ticks: u64,
-    /// What the last look found.
+    /// The offers that the last look found.
     pub(crate) found: Items<Found>,
-    /// Nothing has happened since then.
+    /// Whether nothing has happened since the last look.
     pub(crate) fresh: bool,
 }
 
 impl Rewriter {
-    /// What the rewriter may do next.
+    /// Returns the offers of the process, at `now` ticks of the bus.
     fn find(&self, alloc: Global, plan: &Plan, now: u64) -> Result<Items<Found>, NoMemory>
         requires { IsOnPlan plan.now self.now }
         ensures { IfOk result (λ candidates. map (shown self.now.store) candidates
@@ -51,7 +50,7 @@ impl Rewriter {
         }
     }
 
-    /// What comes of the offer at this position.
+    /// Returns the rest and the store of the offer at index `k`.
     fn taken(&self, alloc: Global, plan: &Plan, k: usize) -> Result<Fired, NoMemory>
         requires { IsOnPlan plan.now self.now }
         ensures selected { IfOk result

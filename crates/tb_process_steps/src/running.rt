@@ -1,31 +1,33 @@
-//! The term that is left of a process, over the nodes of its plan.
+//! The running term: the process term, represented by nodes of the plan.
 ghost use Rattle.std.specs.Prelude.{◌≡◌, IfOk};
 
 use std::alloc::Global;
 use tb_terms::{Boxed, NoMemory};
 
-/// A part of the plan that has been entered, and of which nothing has happened yet.
+/// A part of the plan that the process has entered, and of which it has taken no step yet.
 #[derive(Clone, Copy)]
 pub struct Entry {
+    /// The position of the node in the plan.
     pub node: usize,
-    /// How many ticks the process had seen.
+    /// The number of ticks that the process had seen when it entered the part.
     pub entered: u64,
 }
 
-/// What is left of a process.
+/// The term of a process that hasn't ended, represented by nodes of the plan.
 #[derive(Drop)]
 pub enum Running {
+    /// A part of the plan of which the process has taken no step yet.
     Whole(Entry),
-    /// The one, and then this node of the plan.
+    /// The term, then this node of the plan.
     Seq(Boxed<Running>, usize),
-    /// Both, their atoms in any order.
+    /// Both terms, with their atoms in any order.
     Par(Boxed<Running>, Boxed<Running>),
-    /// The one, until this part begins, which has waited since it was entered.
+    /// The left side, until the right side takes a step. The right side has waited since it was entered.
     Disrupt(Boxed<Running>, Entry),
 }
 
 impl Running {
-    /// The same term in memory of its own.
+    /// Returns a copy of the term in its own memory.
     #[cycle(copy)]
     pub fn copy(&self, alloc: Global) -> Result<Running, NoMemory>
         ensures { IfOk result (λ copy. copy ≡ self.now) }

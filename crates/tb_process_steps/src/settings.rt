@@ -1,4 +1,4 @@
-//! Tests, the settings of a `let`, and the bindings of variables.
+//! The evaluation of tests, the settings of a `let`, and the binds of variables.
 ghost use Rattle.std.specs.Prelude.{◌≡◌, Some, IsTrue, IfOk, map, option_map};
 ghost use Rattle.tb_process_steps.specs.Binds.{takes_binds, with_binds};
 ghost use Rattle.tb_process_steps.specs.Settings.{given_by, well_sorted, start_value, tested, with_settings};
@@ -11,7 +11,7 @@ use tb_func::{Store, bool_of, eval};
 use tb_match::{Bind, Binds};
 use tb_terms::{Expr, Items, NoMemory, Sort, Term, has_sort, initial};
 
-/// What the test says now.
+/// Returns the truth value of the test in the store; nothing if the test has no value or its value is no truth value.
 pub fn tested(alloc: Global, store: &Store, test: &Expr) -> Result<Option<bool>, NoMemory>
     ensures { IfOk result (λ says. says ≡ tested store.now test.now) }
 {
@@ -21,7 +21,8 @@ pub fn tested(alloc: Global, store: &Store, test: &Expr) -> Result<Option<bool>,
     }
 }
 
-/// The store after the settings, whose values are all of the store before.
+/// Returns the store after the settings, whose expressions are all evaluated in the store before them. Returns `None` if a setting has
+/// no value of its slot's type.
 pub fn with_settings(
     alloc: Global,
     store: &Store,
@@ -39,7 +40,7 @@ pub fn with_settings(
     }
 }
 
-/// What the settings give to their slots.
+/// Returns the binds of the settings; nothing if a setting has no value of its slot's type.
 fn given(alloc: Global, store: &Store, settings: &Settings) -> Result<Option<Binds>, NoMemory>
     ensures { IfOk result (λ binds. binds ≡ all_of (map (given_by store.now) settings.now)) }
 {
@@ -93,7 +94,7 @@ fn well_sorted(slot: u32, sort: &Sort, value: Option<Term>) -> Option<Bind>
     }
 }
 
-/// Sets the binds one after another. Their memory is left.
+/// Sets the binds one after another. Empties the list of binds, which keeps its memory.
 pub fn set_binds(store: &mut Store, binds: &mut Binds)
     requires { IsTrue (takes_binds store.old binds.old) }
     ensures { store.new ≡ with_binds store.old binds.old }

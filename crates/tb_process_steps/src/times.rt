@@ -1,4 +1,4 @@
-//! Whether the times of an atom hold.
+//! The check of whether the times of an atom hold.
 ghost use Rattle.std.specs.Prelude.{◌≡◌, IfOk, option_and_then};
 ghost use Rattle.tb_func.specs.Arguments.{int_of};
 ghost use Rattle.tb_func.specs.Values.{value_of};
@@ -9,7 +9,7 @@ use tb_body::{Time, TimeKind, Times};
 use tb_func::{Store, eval, int_of};
 use tb_terms::{Expr, NoMemory};
 
-/// Whether all the times hold for an atom of this age, on a bus that has seen so many ticks.
+/// Returns whether all times hold for an atom of this age, at `now` ticks of the bus.
 pub fn is_ready(
     alloc: Global,
     store: &Store,

@@ -1,4 +1,4 @@
-//! The values and patterns of an act, and what the act binds.
+//! The values, the patterns, and the binds of an act.
 ghost use Rattle.std.specs.Prelude.{◌≡◌, ◌∷◌, ◌+◌, Some, IfOk, map, option_and_then, option_map};
 ghost use Rattle.std.specs.Option.{option_copied};
 ghost use Rattle.tb_func.specs.Patterns.{pattern_of};
@@ -12,8 +12,8 @@ use tb_func::{Store, eval, pattern};
 use tb_match::{Binds, match_list};
 use tb_terms::{Expr, Items, MOST_TERM_SIZE, NoMemory, Patterns, Term, Terms, total_size};
 
-/// The values that the act sends or looks at, where each is there and they are together no larger
-/// than a term may be.
+/// Returns the values that the act sends or looks at. Returns `None` if an expression has no value, or if the total size exceeds the
+/// limit of a term. Without an atom, there are no values.
 pub fn sent_values(
     alloc: Global,
     store: &Store,
@@ -53,7 +53,7 @@ fn values_of(alloc: Global, store: &Store, act: &Act) -> Result<Option<Terms>, N
     }
 }
 
-/// The value of the one, and then those of the others.
+/// Returns the value of the first expression, then the values of the others.
 fn values_after(
     alloc: Global,
     store: &Store,
@@ -88,7 +88,7 @@ fn eval_all(alloc: Global, store: &Store, exprs: &[Expr]) -> Result<Option<Terms
     Ok(Some(terms))
 }
 
-/// The terms, where they are together no larger than a term may be.
+/// Returns the terms, if their total size is within the limit of a term.
 fn limited_together(terms: Terms) -> Option<Terms>
     ensures { result ≡ limited_together terms }
 {
@@ -99,7 +99,8 @@ fn limited_together(terms: Terms) -> Option<Terms>
     }
 }
 
-/// The patterns of an act that receives, or that looks at notes.
+/// Returns the patterns of an act that receives terms or looks at notes. Other acts have no patterns. Returns `None` if an expression
+/// has no pattern.
 pub fn matched_patterns(
     alloc: Global,
     store: &Store,
@@ -143,7 +144,7 @@ fn patterns_of(alloc: Global, store: &Store, exprs: &[Expr]) -> Result<Option<Pa
     Ok(Some(patterns))
 }
 
-/// What the act binds where it is given these terms.
+/// Returns the binds of the act for these terms. Returns `None` if an expression has no pattern or the terms don't match.
 pub fn accepted_binds(
     alloc: Global,
     store: &Store,

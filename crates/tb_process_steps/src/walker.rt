@@ -1,4 +1,4 @@
-//! The trait of a walker: a process on its way through its body.
+//! The trait of a walker: the interface of a running process.
 ghost use Rattle.std.specs.Prelude.{◌≡◌, ◌<◌, Some, None, IfOk, OnOk, OnErr, IsTrue, length, slice_get, option_and_then, is_some};
 ghost use Rattle.std.specs.Option.{ForSome};
 ghost use Rattle.tb_process_steps.specs.Binds.{takes_binds};
@@ -13,22 +13,23 @@ use tb_func::Store;
 use tb_match::Binds;
 use tb_terms::{NoMemory, Patterns, Terms};
 
-/// A process on its way through its body. What is worked out once for a body is its plan: a walker is
-/// used with the plan of its body alone.
+/// A running process. A plan is the result of preparing a body once for all its walkers. A walker can be used only with a plan that fits
+/// it: the plan with which it was started.
 pub trait Walker: Sized + Drop {
+    /// The plan of a body.
     type Plan: Drop;
 
-    /// What comes of an offer that is taken, and by what the process goes on.
+    /// A taken offer: its rest and its store, with which the process can continue.
     type Taken: Drop;
 
-    // What contracts see of these walkers.
+    // The view of these walkers: the values that contracts use for them.
     ghost view: { View Self.Plan Self Self.Taken };
 
-    /// Works out the plan of a body.
+    /// Returns the plan of a body.
     fn plan(alloc: Global, body: &Body) -> Result<Self::Plan, NoMemory>
         ensures { IfOk result (λ plan. view.body_of plan ≡ body.now) };
 
-    /// A process that enters its body. The store has just the slots of that body.
+    /// Returns a process that enters its body. The store must have exactly the slots that the body declares.
     fn start(alloc: Global, plan: &Self::Plan, store: Store) -> Result<Self, NoMemory>
         requires { sorts_of store ≡ (view.body_of plan.now).sorts }
         ensures on { IfOk result (λ walker. view.is_on plan.now walker) }
@@ -36,7 +37,7 @@ pub trait Walker: Sized + Drop {
             (λ walker. view.walking plan.now walker ≡ entering (view.body_of plan.now) store) }
         ensures seen { IfOk result (λ walker. view.seen walker ≡ None) };
 
-    /// Looks what the process may do next, on a bus that has seen so many ticks.
+    /// Finds the offers of the process, at `now` ticks of the bus.
     fn look(&mut self, alloc: Global, plan: &Self::Plan, now: u64) -> Result<(), NoMemory>
         requires { view.is_on plan.now self.old }
         ensures on { view.is_on plan.now self.new }
@@ -45,26 +46,26 @@ pub trait Walker: Sized + Drop {
             (seen_offers (view.body_of plan.now).atoms now (view.walking plan.now self.old))) }
         ensures err { OnErr result (self.new ≡ self.old) };
 
-    /// Whether what was looked at still holds.
+    /// Returns whether the offers of the last look are still valid.
     fn is_fresh(&self) -> bool
         ensures { result ≡ is_some (view.seen self.now) };
 
-    /// How many offers there are.
+    /// Returns the number of offers.
     fn offer_count(&self) -> usize
         requires { IsTrue (is_some (view.seen self.now)) }
         ensures seen { ForSome (view.seen self.now) (λ offers. result ≡ length offers) }
         ensures all { (plan : Self.Plan) → view.is_on plan self.now
             → result ≡ length (offers_of (view.walking plan self.now)) };
 
-    /// The offer at this position, from 0 in text order.
+    /// Returns the offer at index `k`, from 0, in the order of the source.
     fn offer(&self, k: usize) -> Offer
         requires fresh { IsTrue (is_some (view.seen self.now)) }
         requires within { ForSome (view.seen self.now) (λ offers. k < length offers) }
         ensures { ForSome (view.seen self.now) (λ offers. slice_get offers k ≡ Some result) };
 
-    /// The values that the atom sends or looks at, where each is there and they are together within the
-    /// limit of size: for a new process its actuals, and the tool first where there is one. They may stand in
-    /// the memory of `room`, whatever that held.
+    /// Returns the values that the atom sends or looks at. For a new process, these are its arguments. If the act has an expression for its
+    /// tool, the value of this expression is first. Returns `None` if an expression has no value, or if the total size exceeds the limit
+    /// of a term. The values may use the memory of `room`, whose contents are dropped.
     fn sent(
         &self,
         alloc: Global,
@@ -79,7 +80,8 @@ pub trait Walker: Sized + Drop {
             ≡ option_and_then (sent_by (view.body_of plan.now).atoms)
             (slice_get (offers_of (view.walking plan.now self.now)) k)) };
 
-    /// The patterns of an atom that receives, or that looks at notes. They may stand in the memory of `room`.
+    /// Returns the patterns of an atom that receives terms or looks at notes. Returns `None` if an expression has no pattern. The patterns
+    /// may use the memory of `room`.
     fn patterns(
         &self,
         alloc: Global,
@@ -94,7 +96,7 @@ pub trait Walker: Sized + Drop {
             ≡ option_and_then (patterns_by (view.body_of plan.now).atoms)
             (slice_get (offers_of (view.walking plan.now self.now)) k)) };
 
-    /// What the atom binds where it is given these terms.
+    /// Returns the binds of the atom for these terms, if it accepts them.
     fn accepts(
         &self,
         alloc: Global,
@@ -109,7 +111,7 @@ pub trait Walker: Sized + Drop {
             ≡ option_and_then (accepted_by (view.body_of plan.now).atoms ts.now)
             (slice_get (offers_of (view.walking plan.now self.now)) k)) };
 
-    /// Takes the offer at this position, and changes nothing yet. Nothing has to be seen of it.
+    /// Takes the offer at index `k`. The walker remains unchanged until `advance`. The offers needn't be seen.
     fn take(&self, alloc: Global, plan: &Self::Plan, k: usize) -> Result<Self::Taken, NoMemory>
         requires on { view.is_on plan.now self.now }
         requires within { k < length (offers_of (view.walking plan.now self.now)) }
@@ -117,7 +119,7 @@ pub trait Walker: Sized + Drop {
             (λ taken. ForSome (slice_get (offers_of (view.walking plan.now self.now)) k)
             (λ offered. view.leaves plan.now self.now taken offered)) };
 
-    /// Goes on with what was taken, and sets the binds, whose memory is left. This takes no memory.
+    /// Continues with the taken offer, and sets the binds. The list of binds keeps its memory. The call takes no memory.
     fn advance(&mut self, plan: &Self::Plan, taken: Self::Taken, binds: &mut Binds)
         requires on { view.is_on plan.now self.old }
         requires taken { (offered : Offered) × (view.leaves plan.now self.old taken offered
@@ -128,8 +130,7 @@ pub trait Walker: Sized + Drop {
             ≡ fired binds.old (view.walking plan.now self.old).ticks offered }
         ensures seen { view.seen self.new ≡ None };
 
-    /// Takes the offer at this position: the process goes on with what is left, and the binds are set.
-    /// Nothing has to be seen of it.
+    /// Takes the offer at index `k`: the process continues with the rest, and the binds are set. The offers needn't be seen.
     fn fire(
         &mut self,
         alloc: Global,
@@ -155,7 +156,7 @@ pub trait Walker: Sized + Drop {
         Ok(())
     }
 
-    /// One tick passes: the process ages. This takes no memory. A process sees at most 4,000,000 ticks.
+    /// Ages the process by one tick. The call takes no memory. A process can see at most 4,000,000 ticks.
     fn tick(&mut self, plan: &Self::Plan)
         requires on { view.is_on plan.now self.old }
         requires within { (view.walking plan.now self.old).ticks < most_ticks }
@@ -163,12 +164,12 @@ pub trait Walker: Sized + Drop {
         ensures aged { view.walking plan.now self.new ≡ ticked (view.walking plan.now self.old) }
         ensures seen { view.seen self.new ≡ None };
 
-    /// Whether the process has ended.
+    /// Returns whether the process has ended.
     fn is_done(&self) -> bool
         ensures { (plan : Self.Plan) → view.is_on plan self.now
             → result ≡ is_end (view.walking plan self.now).term };
 
-    /// The same process in memory of its own.
+    /// Returns a copy of the process in its own memory.
     fn copy(&self, alloc: Global) -> Result<Self, NoMemory>
         ensures { IfOk result (λ copy. copy ≡ self.now) };
 }

@@ -1,4 +1,4 @@
--- What stands before a fault can go on to a term.
+-- The bytes before an error can be continued to a source that parses as a term.
 use Rattle.std.proofs.Common.{◌≡◌, ℕ, pos, neg_ℤ, zero, suc, ◌+◌, ◌-◌, ◌≤◌, Bool, true, false, not, leb, ◌&&◌, ◌||◌, ◌⊎◌, cond, eqb, ltb, List, [], ◌∷◌, ◌++◌, length, take, drop, Option, Some, None, Result, Ok, Err, refl, ap, sym, ◌∙◌, subst, inl, inr, arith, lit≤, append_assoc, append-nil}
 use Rattle.std.proofs.Math.Seq.{take-append_seam, drop-append_seam}
 use Rattle.std.proofs.lemmas.Bool.{false≢true, eqb-true, lt-ltb, le-leb}
@@ -35,7 +35,7 @@ use Rattle.tb_read.proofs.Stops.{same_position, prefix_err, string_of_err, digit
 
 -- Each state of a scan can be completed.
 
--- tokens complete this shape, and the bytes spell them with a rest
+-- some tokens complete this shape, and these bytes with some rest spell these tokens
 abbrev pub Begins : Shape → List ℕ → Type 0
 Begins s pre = (js : List Token) × (rest : List ℕ) × (accepts s js ≡ true) × Spaced js (pre ++ rest)
 
@@ -71,11 +71,11 @@ spaced_behind prefix (k ∷ js) l h s =
     ap (λ (m : List ℕ). prefix ++ m) s.3 ∙ sym (append_assoc prefix (s.0 ++ s.1) s.2) ∙ ap (λ (m : List ℕ). m ++ s.2) (sym (append_assoc prefix s.0 s.1)) in
     (prefix ++ s.0, s.1, s.2, at, all_blank prefix s.0 h s.4, s.5, s.6)
 
--- behind blanks
+-- after whitespace
 behind : (s : Shape) (prefix : List ℕ) → list_all is_blank prefix ≡ true → Begins s prefix
 behind s prefix h = let b = ahead s.expect s.brackets in (b.0, b.1, b.2, spaced_behind prefix b.0 b.1 h b.3)
 
--- behind blanks and a front of a token
+-- after whitespace and a prefix of a token
 pub within_token : (s : Shape) (prefix : List ℕ) (k : Token) (pre tail : List ℕ) → list_all is_blank prefix ≡ true → allows s (kind_of_token k) ≡ true → SpellsToken k (pre ++ tail) → Begins s (prefix ++ pre)
 within_token s prefix k pre tail h a sp =
     let b = ahead (after s k).expect (after s k).brackets in
@@ -84,14 +84,14 @@ within_token s prefix k pre tail h a sp =
     append_assoc prefix pre (tail ++ r) ∙ ap (λ (m : List ℕ). prefix ++ m) (sym (append_assoc pre tail r)) ∙ sym (append_assoc prefix (pre ++ tail) r) in
     (k ∷ b.0, tail ++ r, ap (λ v. v && accepts (after s k) b.0) a ∙ b.2, (prefix, pre ++ tail, r, at, h, sp, b.3))
 
--- behind a whole token
+-- after a whole token
 behind_token : (s : Shape) (prefix : List ℕ) (k : Token) (text pre : List ℕ) → list_all is_blank prefix ≡ true → allows s (kind_of_token k) ≡ true → SpellsToken k text → Begins (after s k) pre → Begins s (prefix ++ (text ++ pre))
 behind_token s prefix k text pre h a sp b =
     let at : (prefix ++ (text ++ pre)) ++ b.1 ≡ (prefix ++ text) ++ (pre ++ b.1) =
     append_assoc prefix (text ++ pre) b.1 ∙ ap (λ (m : List ℕ). prefix ++ m) (append_assoc text pre b.1) ∙ sym (append_assoc prefix text (pre ++ b.1)) in
     (k ∷ b.0, b.1, ap (λ v. v && accepts (after s k) b.0) a ∙ b.2, (prefix, text, pre ++ b.1, at, h, sp, b.3))
 
--- The position of a fault: what begins there is as Q says, and what stands before it can go on with these bytes.
+-- The position of an error: the bytes from there satisfy `Q`, and the bytes before it can be continued with these bytes.
 abbrev pub Position : (List ℕ → Type 0) → List ℕ → Shape → ℕ → List ℕ → ℕ → Type 0
 Position Q next s total bytes n = (pre : List ℕ) × (l : List ℕ) × (bytes ≡ pre ++ l) × (n ≡ total - length l) × Q l × Begins s (pre ++ next)
 
@@ -114,7 +114,7 @@ runs_position Q next f n base (k ∷ ks) s total bytes r =
     let p = blanks bytes in
     made_position Q next s total p.0 (skip_blanks bytes) bytes k r.0 n p.1 p.2 r.1 (runs_position Q next f n base ks (after s k) total r.0 r.2)
 
--- of a whole text
+-- the position of an error in a whole source
 pub continues_with : (Q : List ℕ → Type 0) (next bytes : List ℕ) (n : ℕ) → Position Q next start (length bytes) bytes n → (n ≤ length bytes) × Q (drop n bytes) × ((rest : List ℕ) × (t : Term) × Reads ((take n bytes ++ next) ++ rest) t)
 continues_with Q next bytes n p =
     let len : n ≡ length p.0 = position_of bytes p.0 p.1 n p.2 p.3 in
@@ -216,7 +216,7 @@ rest_begins total (b ∷ bytes) w n r e = by (string_turn w b) refl (turn_ready 
       (b ∷ s.0, s.1, ap (λ (m : List ℕ). b ∷ m) s.2, s.3, s.4, c ∷ s.5, λ other. puts other w v b c (s.0 ++ s.4) et ∙ ap (λ (x : Result Pair TermFault). with_prefix (c ∷ []) x) (s.6 other))
   by Bad et rt q ih = let c = close w r in ([], b ∷ bytes, refl, sym (same_position (total - suc (length bytes)) n q), c.0, c.1, c.2)
 
--- Before a syntax fault.
+-- Before a syntax error.
 
 abbrev TokenBegins : Kind → ℕ → List ℕ → ℕ → Type 0
 TokenBegins next total bytes n = (pre : List ℕ) × (l : List ℕ) × (bytes ≡ pre ++ l) × (n ≡ total - length l)

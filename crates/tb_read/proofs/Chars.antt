@@ -16,7 +16,7 @@ use Rattle.tb_read.proofs.Strings.{turned}
 abbrev Pair : Type 0
 Pair = List ℕ × List ℕ
 
--- the byte that a letter stands for
+-- the byte that a letter represents
 byte_by : (c l : ℕ) (p q r s t : Bool) → eqb c 92 ≡ p → eqb c 34 ≡ q → eqb c 10 ≡ r → eqb c 13 ≡ s → eqb c 9 ≡ t → cond p (Some 92) (cond q (Some 34) (cond r (Some 110) (cond s (Some 114) (cond t (Some 116) None)))) ≡ Some l → unescaped l ≡ Some c
 byte_by c l true q r s t ep eq er es et e = let ls : 92 ≡ l = cc in subst (λ n. unescaped n ≡ Some c) ls (ap Some (sym (eqb-true c 92 ep)))
 byte_by c l false true r s t ep eq er es et e = let ls : 34 ≡ l = cc in subst (λ n. unescaped n ≡ Some c) ls (ap Some (sym (eqb-true c 34 eq)))
@@ -37,7 +37,7 @@ no_letter c h =
     let g : eqb c 9 ≡ false = ne_eqb c 9 (λ e. absurd (omega arith)) in
     rw (a, b, d, f, g) refl
 
--- a byte above ASCII stands for itself
+-- a byte above ASCII represents itself
 raw_by : (b : ℕ) → 128 ≤ b → (s inner prefix rest : List ℕ) → inner ≡ prefix ++ rest → SpellsByte b prefix → SpellsBytes s rest → (more : List ℕ) × (inner ≡ b ∷ more) × SpellsBytes s more
 raw_by b h s inner prefix rest e (inl p) m = (rest, e ∙ ap (λ l. l ++ rest) p.1, m)
 raw_by b h s inner prefix rest e (inr p) m = let no : None ≡ Some p.0 = sym (no_letter b h) ∙ p.1 in cc
@@ -159,7 +159,7 @@ encode_one c u = rw (lt-ltb c 128 u) refl
 next_bounds : (n : ℕ) → (128 ≤ next n) × (next n < 192)
 next_bounds n = (omega arith, omega arith)
 
--- What is spelled behind this spelled text is taken behind it, with these bytes in front.
+-- The text begins with a spelling of these bytes, and the scan of a string takes them before the rest.
 abbrev Taken : List ℕ → List ℕ → List ℕ → Type 0
 Taken bytes s inner = (more : List ℕ) × SpellsBytes s more × ((total : ℕ) (l : List ℕ) → string_rest total Between (inner ++ l) ≡ with_prefix bytes (string_rest total Between (more ++ l)))
 
@@ -217,7 +217,7 @@ taken_four x y z w lx ux ly uy low high lz uz lw uw s inner p =
           ∙ prefixes (x ∷ []) (y ∷ z ∷ w ∷ []) (string_rest total Between (d.0 ++ l)),
     )
 
--- an ASCII byte that stands for itself
+-- an ASCII byte that represents itself
 plain_turn : (c : ℕ) → c < 128 → is_plain c ≡ true → between_turn c ≡ Puts c Between
 plain_turn c u h =
     let p : eqb c 34 ≡ false = quote c h in

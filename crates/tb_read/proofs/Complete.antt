@@ -1,4 +1,4 @@
--- Whatever is spelled as the tokens of a term is scanned to its end.
+-- A source that spells the tokens of a term is scanned to its end.
 use Rattle.std.proofs.Common.{◌≡◌, ℕ, ℤ, pos, neg_ℤ, suc, ◌-◌, ◌^◌, ◌≤◌, ◌<◌, Bool, true, false, ◌||◌, ◌⊎◌, cond, eqb, leb, List, [], ◌∷◌, ◌++◌, length, take, drop, Some, None, Result, Ok, Err, refl, ap, sym, ◌∙◌, subst, inl, inr, ⊎_elim, arith, append_assoc}
 use Rattle.std.proofs.Math.Numerals.{one-add}
 use Rattle.std.proofs.Math.Seq.{take-append_seam, drop-append_seam}
@@ -30,7 +30,7 @@ use Rattle.tb_read.proofs.Lexed.{Lexed, runs_same}
 use Rattle.tb_read.proofs.Terms.{tokens_of-injective}
 use Rattle.tb_read.proofs.Grammar.{kind_of_token, accepts, accepts-tokens_of}
 
--- what may follow a name or a number: the end, a blank, or a bracket or comma
+-- the bytes that can follow a name or a number: whitespace, a bracket other than `[`, or a comma
 abbrev pub is_apart : ℕ → Bool
 is_apart b = is_blank b || (eqb b 40 || (eqb b 41 || (eqb b 93 || eqb b 44)))
 
@@ -47,7 +47,7 @@ digit_apart b h = grind (arith, nat_tests)
 point_apart : (b : ℕ) → is_apart b ≡ true → eqb b 46 ≡ false
 point_apart b h = grind (arith, nat_tests)
 
--- the front that passes ends where what follows doesn't pass
+-- the longest passing prefix ends where the following byte doesn't pass
 pub prefix_all : (p : ℕ → Bool) (xs rest : List ℕ) → list_all p xs ≡ true → prefix_len p rest ≡ 0 → prefix_len p (xs ++ rest) ≡ length xs
 prefix_all p [] rest h e = e
 prefix_all p (x ∷ xs) rest h e =
@@ -84,7 +84,7 @@ number_found total position negative z (x ∷ digits) rest d a e =
     ap (λ v. cond v (Err (Real position)) (in_range position (number_of negative (digits_value (x ∷ digits))) rest)) (real_apart rest a)
     ∙ ap (λ o. in_range position o rest) e
 
--- the digits are found up to what follows them
+-- the digits are found up to the bytes after them
 pub digits_taken : (total position : ℕ) (negative : Bool) (digits rest : List ℕ) → is_digits digits ≡ true → prefix_len is_digit rest ≡ 0 → number_from total position negative (take (prefix_len is_digit (digits ++ rest)) (digits ++ rest)) (drop (prefix_len is_digit (digits ++ rest)) (digits ++ rest)) ≡ number_from total position negative digits rest
 digits_taken total position negative [] rest d a = absurd (false≢true d)
 digits_taken total position negative (x ∷ digits) rest d a =
@@ -130,7 +130,7 @@ string_complete total bytes text rest s =
     let taken : string_rest total Between (s.inner ++ (34 ∷ rest)) ≡ strung bytes rest = string_taken u.0 u.1.0 s.inner spelled total rest ∙ ap (λ (l : List ℕ). strung l rest) u.1.1 in
     ap (λ (l : List ℕ). token_of kind.Str total l) regrouped ∙ ap (λ (r : Result (List ℕ × List ℕ) TermFault). string_of r) taken
 
--- what follows a token where it might go on
+-- the bytes that can follow a token
 abbrev pub Follows : Token → List ℕ → Type 0
 Follows (token.Name name) rest = Apart rest
 Follows (token.Int number) rest = Apart rest
@@ -146,7 +146,7 @@ token_complete total token.LeftBracket text rest s a = ap (λ (l : List ℕ). to
 token_complete total token.RightBracket text rest s a = ap (λ (l : List ℕ). token_of kind.RightBracket total (l ++ rest)) s
 token_complete total token.Comma text rest s a = ap (λ (l : List ℕ). token_of kind.Comma total (l ++ rest)) s
 
--- the first byte of a spelling tells the kind, and is no blank
+-- the first byte of a spelling determines the kind, and isn't whitespace
 abbrev pub Begun : Token → List ℕ → Type 0
 Begun k text = (b : ℕ) × (rest : List ℕ) × (text ≡ b ∷ rest) × (kind_of b ≡ kind_of_token k) × (is_blank b ≡ false)
 
@@ -208,7 +208,7 @@ begun token.LeftBracket text s = (91, [], s, refl, refl)
 begun token.RightBracket text s = (93, [], s, refl, refl)
 begun token.Comma text s = (44, [], s, refl, refl)
 
--- blanks are skipped up to a byte that is none
+-- whitespace is skipped up to another byte
 pub skipped : (blanks : List ℕ) (b : ℕ) (rest : List ℕ) → list_all is_blank blanks ≡ true → is_blank b ≡ false → skip_blanks (blanks ++ (b ∷ rest)) ≡ b ∷ rest
 skipped [] b rest h e = rw e refl
 skipped (c ∷ blanks) b rest h e =
@@ -221,7 +221,7 @@ all_skipped (c ∷ blanks) h =
     let p = and_parts (is_blank c) (list_all is_blank blanks) h in
     rw p.0 (all_skipped blanks p.1)
 
--- what stands behind a name or a number in tokens that are accepted
+-- the tokens that can follow a name or a number in accepted tokens
 abbrev is_symbol : Token → Bool
 is_symbol token.LeftParen = true
 is_symbol token.RightParen = true
@@ -290,7 +290,7 @@ abbrev FirstSymbol : List Token → Type 0
 FirstSymbol [] = Unit {0}
 FirstSymbol (k ∷ ks) = is_symbol k ≡ true
 
--- the bytes of tokens of which the first is a symbol, or of none
+-- the bytes of tokens whose first is a symbol, or of no tokens
 spaced_apart : (ks : List Token) (bytes : List ℕ) → Spaced ks bytes → FirstSymbol ks → Apart bytes
 spaced_apart [] bytes s h = all_apart bytes s
 spaced_apart (k ∷ ks) bytes s h =
@@ -341,7 +341,7 @@ runs_complete (k ∷ ks) s total bytes h p =
 pub reads_scans : (bytes : List ℕ) (t : Term) → Reads bytes t → Scans bytes (tokens_of t) None
 reads_scans bytes t r = runs_complete (tokens_of t) start (length bytes) bytes (accepts-tokens_of t) r
 
--- at most one term is read from a text
+-- a source parses as at most one term
 pub reads_one : (bytes : List ℕ) (t u : Term) → Reads bytes t → Reads bytes u → t ≡ u
 reads_one bytes t u r q =
     tokens_of-injective t u (runs_same (tokens_of t) (tokens_of u) start (length bytes) bytes None None (reads_scans bytes t r) (reads_scans bytes u q)).0

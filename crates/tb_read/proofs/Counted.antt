@@ -1,4 +1,4 @@
--- The size and the levels of a term are those of its tokens.
+-- The size and the depth of a term are those of its tokens.
 use Rattle.std.proofs.Common.{◌≡◌, ℕ, ℤ, ◌+◌, ◌-◌, List, [], ◌∷◌, ◌++◌, map, length, sum, max, fold, refl, ap, sym, ◌∙◌, append_assoc, append-nil, arith}
 use Rattle.std.specs.List.{flat_map, AllByRecursion}
 use Rattle.std.proofs.lemmas.List.Sums.{sum_by-append, sum_by-cons}
@@ -71,7 +71,7 @@ tokens_size-tokens_of = term_induction Sized leaf-Int leaf-Str size-Appl size-Li
       let made : term_size (term.Str s) ≡ 1 + length s = fold-Str ℕ size_step s in
       omega arith
 
--- the greatest of numbers, from the front
+-- the greatest of numbers, from a first number on
 greatest-from : (a : ℕ) (xs : List ℕ) → fold max a xs ≡ max a (greatest xs)
 greatest-from a [] = omega arith
 greatest-from a (x ∷ xs) =
@@ -84,11 +84,11 @@ greatest-cons x xs =
     let r : fold max (max 0 x) xs ≡ max (max 0 x) (greatest xs) = greatest-from (max 0 x) xs in
     omega arith
 
--- from so many brackets on
+-- the tokens of the term have its depth, within any number of open brackets
 abbrev Levelled : Term → Type 0
 Levelled t = (nested : ℕ) (ks : List Token) → tokens_levels nested (tokens_of t ++ ks) ≡ max (nested + term_levels t) (tokens_levels nested ks)
 
--- the deepest of some terms that stand within so many brackets
+-- the deepest level of terms within this number of open brackets
 deepest : ℕ → List Term → ℕ
 deepest nested [] = 0
 deepest nested (t ∷ ts) = max (nested + term_levels t) (deepest nested ts)
@@ -112,7 +112,7 @@ level-parts t ts all nested ks =
     let others : tokens_levels nested (rest ++ ks) ≡ max (deepest nested ts) (tokens_levels nested ks) = level-further ts all.1 nested ks in
     omega arith
 
--- one level for the node around them
+-- one level more for the node around the terms
 deepest-within : (ts : List Term) (nested : ℕ) → max (nested + 1) (deepest (nested + 1) ts) ≡ nested + (1 + greatest (map term_levels ts))
 unfolding deepest
 deepest-within [] nested = omega arith

@@ -1,4 +1,4 @@
--- Each text is scanned to some end, so it is a term within the limits or has a fault.
+-- The scan of each source ends, so that the source is a term within the limits or has an error.
 use Rattle.std.proofs.Common.{◌≡◌, ℕ, zero, suc, ◌+◌, ◌-◌, ◌≤◌, ◌<◌, ◌⊎◌, List, [], ◌∷◌, length, Option, Some, None, refl, ap, ◌∙◌, inl, inr, arith, length-append}
 use Rattle.std.proofs.lemmas.Bool.{cases_lt}
 use Rattle.tb_terms.specs.Sizes.{term_size, term_levels, IsWithinLimits}
@@ -31,7 +31,7 @@ skipped bytes =
     let all : length bytes ≡ length p.0 + length (skip_blanks bytes) = ap (λ (l : List ℕ). length l) p.1 ∙ length-append p.0 (skip_blanks bytes) in
     omega arith
 
--- from this shape the bytes are scanned to some end
+-- from this shape, the scan of the bytes ends
 abbrev Ran : Shape → ℕ → List ℕ → Type 0
 Ran s total bytes = (tokens : List Token) × (end : Option TermFault) × Runs s total bytes tokens end
 

@@ -1,4 +1,4 @@
--- Claims of faults.
+-- Claims about errors.
 use Rattle.tb_read.specs.declared.fault.TermFault.{TermFault}
 use Rattle.tb_read.specs.declared.fault.TermFault.TheVariants as fault
 use Rattle.tb_read.specs.Helpers.Answers.{Faulted}

@@ -35,7 +35,7 @@ kind_of_token token.LeftBracket = kind.LeftBracket
 kind_of_token token.RightBracket = kind.RightBracket
 kind_of_token token.Comma = kind.Comma
 
--- each of the tokens may stand where it stands, and the last at the end
+-- each token can be at its place, and the source can end after the last
 abbrev pub accepts : Shape → List Token → Bool
 accepts shape [] = may_end shape.expect shape.brackets
 accepts shape (k ∷ ks) = allows shape (kind_of_token k) && accepts (after shape k) ks
@@ -52,7 +52,7 @@ ended_node (layer.Appl n []) = expect.Named
 ended_node (layer.Appl n (t ∷ ts)) = expect.Further
 ended_node (layer.List ts) = expect.Further
 
--- what is expected behind a term
+-- what is expected after a term
 abbrev ended : Term → Expect
 ended t = ended_node (out-Term t)
 
@@ -69,7 +69,7 @@ going-ended (layer.Appl n []) = refl
 going-ended (layer.Appl n (t ∷ ts)) = refl
 going-ended (layer.List ts) = refl
 
--- where the first of several is expected, or any
+-- a term is accepted as the first of a list if and only if it is accepted as any term
 abbrev SameFirst : Term → Type 0
 SameFirst t = (bs : List Bracket) (ks : List Token) → accepts (sh expect.First bs) (tokens_of t ++ ks) ≡ accepts (sh expect.Term bs) (tokens_of t ++ ks)
 
@@ -178,7 +178,7 @@ pub accepts-tokens_of : (t : Term) → accepts start (tokens_of t) ≡ true
 accepts-tokens_of t =
     ap (λ l. accepts start l) (sym (append-nil (tokens_of t))) ∙ taken t [] [] ∙ may_end-going (ended t) (going-ended (out-Term t))
 
--- What is taken is a term's.
+-- The taken tokens are those of a term.
 
 abbrev bracket_of : Option (List ℕ) → Bracket
 bracket_of None = Square
@@ -198,7 +198,7 @@ before_comma t = tokens_of t ++ (token.Comma ∷ [])
 abbrev frame_tokens : Frame → List Token
 frame_tokens f = head_tokens f.head ++ flat_map before_comma f.parts
 
--- the tokens that were taken so far
+-- the tokens taken so far
 abbrev opened : List Frame → List Token
 opened [] = []
 opened (f ∷ fs) = opened fs ++ frame_tokens f
@@ -210,7 +210,7 @@ done_tokens (Some t) = tokens_of t
 abbrev consumed : Builder → List Token
 consumed b = opened b.frames ++ done_tokens b.done
 
--- the tokens complete what was taken to a term
+-- the tokens complete the taken tokens to those of a term
 abbrev Sound : Builder → List Token → Type 0
 Sound b ks = (t : Term) × ((built_from b ks).done ≡ Some t) × (consumed b ++ ks ≡ tokens_of t)
 
@@ -218,7 +218,7 @@ onward : (b next : Builder) (k : Token) (ks : List Token) → consumed next ≡ 
 onward b next k ks e same s =
     (s.0, ap (λ (x : Builder). x.done) same ∙ s.1, sym (append_assoc (consumed b) (k ∷ []) ks) ∙ ap (λ l. l ++ ks) (sym e) ∙ s.2)
 
--- a comma before each further part, or behind each part but the last
+-- a comma before each part: a comma, and the parts joined by commas
 commas_first : (ts : List Term) (t : Term) → flat_map after_comma (map tokens_of (ts ++ (t ∷ []))) ≡ token.Comma ∷ with_commas (map tokens_of (ts ++ (t ∷ [])))
 commas_first [] t = refl
 commas_first (u ∷ ts) t = refl
@@ -278,7 +278,7 @@ consumed-empty fs =
     ∙ sym (append_assoc (opened fs) (token.LeftBracket ∷ []) (token.RightBracket ∷ []))
     ∙ ap (λ l. l ++ (token.RightBracket ∷ [])) (sym (append-nil (opened fs ++ (token.LeftBracket ∷ []))))
 
--- the innermost bracket tells what may stand behind a term
+-- the innermost bracket determines the tokens that can follow a term
 comma_next : (h : Option (List ℕ)) (bs : List Bracket) (ks : List Token) → accepts (sh expect.Further (bracket_of h ∷ bs)) (token.Comma ∷ ks) ≡ accepts (sh expect.Term (bracket_of h ∷ bs)) ks
 comma_next None bs ks = refl
 comma_next (Some n) bs ks = refl
@@ -316,7 +316,7 @@ refused h bs k ks n e =
     let no : allows (sh expect.Further (bracket_of h ∷ bs)) (kind_of_token k) ≡ false = not_further h bs (kind_of_token k) n in
     false≢true (sym (ap (λ v. v && accepts (after (sh expect.Further (bracket_of h ∷ bs)) k) ks) no) ∙ e)
 
--- behind a name, as behind any term, where no parenthesis comes
+-- after a name, as after any term, if no parenthesis follows
 as_further : (bs : List Bracket) (k : Token) (ks : List Token) → not_paren (kind_of_token k) ≡ true → accepts (sh expect.Named bs) (k ∷ ks) ≡ accepts (sh expect.Further bs) (k ∷ ks)
 as_further bs (token.Int n) ks e = refl
 as_further bs (token.Str n) ks e = refl

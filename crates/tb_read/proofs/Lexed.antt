@@ -1,4 +1,4 @@
--- A token that is found is spelled so, and what is scanned to the end is spelled so as a whole.
+-- The bytes of a found token spell it, and a source that is scanned to its end spells its tokens.
 use Rattle.std.proofs.Common.{◌≡◌, ℕ, ℤ, pos, neg_ℤ, ◌-◌, ◌^◌, ◌≤◌, ◌<◌, Bool, true, false, ◌&&◌, ◌||◌, cond, eqb, leb, ltb, List, [], ◌∷◌, ◌++◌, length, take, drop, Option, Some, None, Result, Ok, Err, refl, ap, sym, ◌∙◌, subst, inl, inr, arith, append_assoc, append-nil}
 use Rattle.std.proofs.lemmas.Bool.{false≢true, eqb-true}
 use Rattle.std.proofs.lemmas.Bool.Decides.{nat_tests}
@@ -137,7 +137,7 @@ kind_begins_by b bytes false false false false false false false false ep eq er 
 pub kind_begins : (b : ℕ) (bytes : List ℕ) → begins_with (kind_of b) (b ∷ bytes) ≡ true
 kind_begins b bytes = kind_begins_by b bytes (eqb b 40) (eqb b 41) (eqb b 91) (eqb b 93) (eqb b 44) (eqb b 34) (leb 97 b && leb b 122) (is_digit b || eqb b 45) refl refl refl refl refl refl refl refl
 
--- the blanks in front
+-- the whitespace before a token
 blanks_by : (b : ℕ) (bytes blanks : List ℕ) → bytes ≡ blanks ++ skip_blanks bytes → list_all is_blank blanks ≡ true → (v : Bool) → is_blank b ≡ v → (prefix : List ℕ) × (b ∷ bytes ≡ prefix ++ cond v (skip_blanks bytes) (b ∷ bytes)) × (list_all is_blank prefix ≡ true)
 blanks_by b bytes blanks e h true ev = (b ∷ blanks, ap (λ l. b ∷ l) e, rw ev h)
 blanks_by b bytes blanks e h false ev = ([], refl, refl)
@@ -146,7 +146,7 @@ pub blanks : (bytes : List ℕ) → (prefix : List ℕ) × (bytes ≡ prefix ++ 
 blanks [] = ([], refl, refl)
 blanks (b ∷ bytes) = let p = blanks bytes in blanks_by b bytes p.0 p.1 p.2 (is_blank b) refl
 
--- what a next token, or the end, came from
+-- the origin of a next token, or of the end
 made_makes : (r : Result Lexed TermFault) (k : Token) (rest : List ℕ) → made r ≡ Makes k rest → r ≡ Ok (k, rest)
 made_makes (Ok x) k rest e =
     let a : x.0 ≡ k = cc in

@@ -1,4 +1,4 @@
--- The name with which bytes begin.
+-- The name at the beginning of bytes.
 use Rattle.std.proofs.Common.{◌≡◌, ℕ, ◌+◌, Bool, true, false, List, [], ◌∷◌, take, refl, cond}
 use Rattle.std.proofs.Math.Numerals.{one-add}
 use Rattle.std.proofs.lemmas.Bool.{false≢true}
@@ -7,7 +7,7 @@ use Rattle.tb_terms.specs.Names.{is_name, is_name_byte}
 use Rattle.tb_read.specs.Helpers.Answers.{begins_with}
 use Rattle.tb_read.specs.declared.kind.Kind.TheVariants.{Name}
 
--- a front that passes passes
+-- each byte of the longest passing prefix passes
 pub all_of_prefix : (p : ℕ → Bool) (bs : List ℕ) → list_all p (take (prefix_len p bs) bs) ≡ true
 all_of_prefix p [] = refl
 all_of_prefix p (b ∷ bs) = by (p b) refl (all_of_prefix p bs) where

@@ -1,4 +1,4 @@
--- At the position of a fault of a number stand a sign or none and digits, and a number might stand there.
+-- At the position of an error of a number are an optional sign and digits, and a number can be there.
 use Rattle.std.proofs.Common.{◌≡◌, ℕ, ℤ, pos, neg_ℤ, suc, ◌-◌, ◌^◌, ◌≤◌, ◌<◌, Bool, true, false, ◌⊎◌, cond, eqb, leb, ltb, List, [], ◌∷◌, ◌++◌, length, take, drop, Option, Some, None, Result, Err, refl, ap, sym, ◌∙◌, subst, inl, inr, append_assoc}
 use Rattle.std.proofs.lemmas.Bool.{false≢true, eqb-true, and_parts, and_from, lt-ltb, le-leb}
 use Rattle.std.proofs.lemmas.List.{take-append-drop}
@@ -37,7 +37,7 @@ use Rattle.tb_read.proofs.Begins.{Position, runs_position, continues_with, withi
 abbrev Pair : Type 0
 Pair = List ℕ × List ℕ
 
--- a fault of a number at a position
+-- an error of a number, with a position
 abbrev OfNumber : TermFault → Type 0
 OfNumber (fault.Real position) = Unit {0}
 OfNumber (fault.IntRange position) = Unit {0}
@@ -46,7 +46,7 @@ OfNumber _ = ⊥
 same_fault : {X : Type 0} (f g : TermFault) → ◌≡◌ {A = Result X TermFault} (Err f) (Err g) → f ≡ g
 same_fault f g e = cc
 
--- A string has none.
+-- A string has no error of a number.
 
 turned_none : (total : ℕ) (bytes : List ℕ) → ((w : Within) (f : TermFault) → string_rest total w bytes ≡ Err f → OfNumber f → ⊥) → (t : Turn) (f : TermFault) → turned total t bytes ≡ Err f → OfNumber f → ⊥
 turned_none total bytes rest Ends f e = cc
@@ -58,7 +58,7 @@ rest_none : (total : ℕ) (bytes : List ℕ) (w : Within) (f : TermFault) → st
 rest_none total [] w f e = λ n. subst OfNumber (sym (same_fault {X = Pair} (fault.Syntax total) f e)) n
 rest_none total (b ∷ bytes) w f e = turned_none total bytes (rest_none total bytes) (string_turn w b) f e
 
--- what a fault of a number says
+-- the claim of an error of a number
 abbrev Says : TermFault → List ℕ → Type 0
 Says (fault.Real position) bytes = BeginsReal bytes
 Says (fault.IntRange position) bytes = BeginsTooFar bytes
@@ -111,7 +111,7 @@ too_far false digits d o z s = by s.signed where
       none_held (ltb (digits_value digits) (2 ^ 63)) (pos (digits_value digits)) (lt-ltb (digits_value digits) (2 ^ 63) within) o
   by (inr p) = digits_no_sign digits s.digits p.0 d
 
--- a number whose digits, and what follows them, have been found
+-- the claim, for a number with these digits and this rest
 from_says : (total position : ℕ) (negative : Bool) (digits rest bytes : List ℕ) (f : TermFault) → OfNumber f → bytes ≡ signed negative digits ++ rest → list_all is_digit digits ≡ true → prefix_len is_digit rest ≡ 0 → number_from total position negative digits rest ≡ Err f → (position_in f ≡ position) × Says f bytes
 from_says total position negative [] rest bytes f n e d a g = absurd (subst OfNumber (sym (same_fault {X = Lexed} (fault.Syntax (total - length rest)) f g)) n)
 from_says total position negative (y ∷ digits) rest bytes f n e d a g = by (is_real rest) (number_of negative (digits_value (y ∷ digits))) refl refl g where
@@ -139,7 +139,7 @@ number_says total b bytes f n e = by (eqb b 45) refl e where
       let len = prefix_len is_digit l in
       from_says total (total - length l) false (take len l) (drop len l) l f n (sym (take-append-drop len l)) (all_of_prefix is_digit l) (prefix_stops is_digit l) g
 
--- a token that has such a fault is a number
+-- a token with an error of a number is a number
 token_says : (next : Kind) (total b : ℕ) (bytes : List ℕ) (f : TermFault) → OfNumber f → token_of next total (b ∷ bytes) ≡ Err f → (next ≡ kind.Int) × (position_in f ≡ total - length (b ∷ bytes)) × Says f (b ∷ bytes)
 token_says kind.LeftParen total b bytes f n e = cc
 token_says kind.RightParen total b bytes f n e = cc
@@ -158,7 +158,7 @@ end_none : (v : Bool) (total : ℕ) (f : TermFault) → OfNumber f → cond v (S
 end_none true total f n e = cc
 end_none false total f n e = subst OfNumber (sym (stops_fault (fault.Syntax total) f e)) n
 
--- a token that may stand wherever a number may
+-- a token that can be wherever a number can be
 pub record IsLikeNumber (k : Token) (text : List ℕ) : Type 0 where
   pub allowed : (s : Shape) → allows s kind.Int ≡ true → allows s (kind_of_token k) ≡ true
   pub spelled : SpellsToken k (text ++ [])

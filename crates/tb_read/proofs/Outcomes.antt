@@ -1,4 +1,4 @@
--- A text has one outcome.
+-- A source has one outcome.
 use Rattle.std.proofs.Common.{◌≡◌, ℕ, ◌≤◌, ◌<◌, ◌⊎◌, List, length, Some, None, Result, Ok, Err, refl, ap, subst, inl, inr, ⊎_elim, arith}
 use Rattle.std.specs.Prelude.{IfOk, IfErr}
 use Rattle.tb_terms.specs.Sizes.{term_size, term_levels, IsWithinLimits}
@@ -22,7 +22,7 @@ stops_same bytes f g s r =
     let same : Some f ≡ Some g = (runs_same s.0 r.0 start (length bytes) bytes (Some f) (Some g) s.1 r.1).1 in
     cc
 
--- how a term passes the limits
+-- the limit that a term exceeds
 abbrev pub Passes : ℕ → ℕ → Term → TermFault → Type 0
 Passes most deepest t fault.TooLarge = most < term_size t
 Passes most deepest t fault.TooDeep = (term_size t ≤ most) × (deepest < term_levels t)
@@ -46,7 +46,7 @@ passes_same most deepest t (fault.Real n) g p q = absurd p
 passes_same most deepest t (fault.IntRange n) g p q = absurd p
 passes_same most deepest t fault.NoMemory g p q = absurd p
 
--- where a fault comes from
+-- the cause of an error
 abbrev pub Cause : ℕ → ℕ → List ℕ → TermFault → Type 0
 Cause most deepest bytes f = StopsAt bytes f ⊎ (((t : Term) × Reads bytes t × Passes most deepest t f) ⊎ (f ≡ fault.NoMemory))
 
@@ -90,7 +90,7 @@ no_fault_by most deepest bytes t f r w (inr (inr e)) = e
 pub no_fault : (most deepest : ℕ) (bytes : List ℕ) (t : Term) (f : TermFault) → Reads bytes t → IsWithin most deepest t → HasFaultWithin most deepest bytes f → f ≡ fault.NoMemory
 no_fault most deepest bytes t f r w h = no_fault_by most deepest bytes t f r w (cause most deepest bytes f h)
 
--- what is read is the one term, or memory ran out
+-- the result is the one term, or `NoMemory`
 pub only_term : (most deepest : ℕ) (bytes : List ℕ) (result : Result Term TermFault) → IfOk result (λ t. Reads bytes t × IsWithin most deepest t) → IfErr result (HasFaultWithin most deepest bytes) → (t : Term) → Reads bytes t → IsWithin most deepest t → (result ≡ Ok t) ⊎ (result ≡ Err fault.NoMemory)
 only_term most deepest bytes (Ok u) found fault t r w = inl (ap (λ (v : Term). Ok v) (reads_one bytes u t found.0 r))
 only_term most deepest bytes (Err f) found fault t r w = inr (ap (λ (g : TermFault). Err g) (no_fault most deepest bytes t f r w fault))
@@ -106,12 +106,12 @@ fault_or_memory most deepest bytes f fault.TooDeep p q nf = inl (fault_one most 
 abbrev refused : TermFault → Result Term TermFault
 refused f = Err f
 
--- where the text has a fault, the result is that fault, or memory ran out
+-- if the source has an error other than `NoMemory`, the result is this error or `NoMemory`
 pub exact_fault : (most deepest : ℕ) (bytes : List ℕ) (result : Result Term TermFault) → IfOk result (λ t. Reads bytes t × IsWithin most deepest t) → IfErr result (HasFaultWithin most deepest bytes) → (f : TermFault) → HasFaultWithin most deepest bytes f → (f ≡ fault.NoMemory → ⊥) → (result ≡ Err f) ⊎ (result ≡ Err fault.NoMemory)
 exact_fault most deepest bytes (Ok t) found fault f h nf = absurd (nf (no_fault most deepest bytes t f found.0 found.1 h))
 exact_fault most deepest bytes (Err g) found fault f h nf = ⊎_elim (λ e. inl (ap refused e)) (λ e. inr (ap refused e)) (fault_or_memory most deepest bytes f g h fault nf)
 
--- what is within the limits that every term has
+-- a result within the default limits
 pub within_limits : (bytes : List ℕ) (result : Result Term TermFault) → IfOk result (λ t. Reads bytes t × IsWithin 65536 64 t) → IfOk result (λ t. Reads bytes t × IsWithinLimits t)
 within_limits bytes (Ok t) h = (h.0, record { size = h.1.0; levels = h.1.1 })
 within_limits bytes (Err f) h = h

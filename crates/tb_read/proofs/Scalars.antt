@@ -1,4 +1,4 @@
--- What a string's turns put is a string.
+-- The bytes that a scanned string adds are a string.
 use Rattle.std.proofs.Common.{◌≡◌, ℕ, ◌+◌, ◌-◌, ◌*◌, ◌/◌, ◌≤◌, ◌<◌, Bool, true, false, not, ◌&&◌, ◌⊎◌, cond, eqb, leb, ltb, List, [], ◌∷◌, ◌++◌, Option, Some, None, Ok, refl, ap, sym, ◌∙◌, subst, inl, inr, ⊎_elim, lit≤, arith, append_assoc}
 use Rattle.std.proofs.lemmas.Bool.{eqb-true, eqb-false, ltb-true, ltb-false, leb-true, and_parts, and_from, cases_eq, cases_lt}
 use Rattle.std.proofs.lemmas.Bool.Decides.{nat_tests}
@@ -68,13 +68,13 @@ TwoMore low high p = (b : ℕ) → low ≤ b → b ≤ high → OneMore 128 191 
 abbrev ThreeMore : ℕ → ℕ → List ℕ → Type 0
 ThreeMore low high p = (b : ℕ) → low ≤ b → b ≤ high → TwoMore 128 191 (p ++ (b ∷ []))
 
--- what stands of a character at this position
+-- the bytes of a character so far, in this state
 abbrev Partial : Within → List ℕ → Type 0
 Partial Between p = p ≡ []
 Partial Escaped p = p ≡ []
 Partial (Going more low high) p = (128 ≤ low) × (((more ≡ 1) × OneMore low high p) ⊎ (((more ≡ 2) × TwoMore low high p) ⊎ ((more ≡ 3) × ThreeMore low high p)))
 
--- what a byte does that is met behind whole characters
+-- the effect of a byte after whole characters
 abbrev Begins : ℕ → Turn → Type 0
 Begins b Ends = Unit {0}
 Begins b (Goes next) = next ≡ Escaped
@@ -123,7 +123,7 @@ between_begins b = between_begins_by b (eqb b 34) (eqb b 92) (ltb b 32 && not (e
 ascii_utf8 : (b : ℕ) → b < 128 → IsUtf8 (b ∷ [])
 ascii_utf8 b h = subst IsUtf8 (encode_ascii b h) (IsUtf8-encode b (low_scalar b (omega arith)))
 
--- the bytes that an escape puts are ASCII
+-- an escape adds an ASCII byte
 escape_ascii : (c l : ℕ) → unescaped l ≡ Some c → c < 128
 escape_ascii c l e = by (eqb l 92) (eqb l 34) (eqb l 110) (eqb l 114) (eqb l 116) e where
   by : (p q r s t : Bool) → cond {A = Option ℕ} p (Some 92) (cond q (Some 34) (cond r (Some 10) (cond s (Some 13) (cond t (Some 9) None)))) ≡ Some c → c < 128
@@ -134,7 +134,7 @@ escape_ascii c l e = by (eqb l 92) (eqb l 34) (eqb l 110) (eqb l 114) (eqb l 116
   by false false false false true e = let f : 9 ≡ c = cc in omega arith
   by false false false false false e = cc
 
--- with what stands of a character in front, all that is put is whole characters
+-- after the bytes of a character so far, the added bytes complete whole characters
 abbrev Whole : ℕ → List ℕ → Type 0
 Whole total bytes = (w : Within) (p : List ℕ) → Partial w p → (x : Pair) → string_rest total w bytes ≡ Ok x → IsUtf8 (p ++ x.0)
 
@@ -195,7 +195,7 @@ whole total (b ∷ bytes) Between p f x e = subst (λ (l : List ℕ). IsUtf8 (l 
 whole total (b ∷ bytes) Escaped p f x e = subst (λ (l : List ℕ). IsUtf8 (l ++ x.0)) (sym f) (escaped_whole total b bytes (whole total bytes) (unescaped b) refl x e)
 whole total (b ∷ bytes) (Going more low high) p f x e = going_whole total b bytes (whole total bytes) more low high p f.1 x e
 
--- a byte that is spelled in a string may stand in one
+-- a string can have each byte that has a spelling
 text_by : (b : ℕ) (p q r s t : Bool) → eqb b 92 ≡ p → eqb b 34 ≡ q → eqb b 10 ≡ r → eqb b 13 ≡ s → eqb b 9 ≡ t → (l : ℕ) → cond {A = Option ℕ} p (Some 92) (cond q (Some 34) (cond r (Some 110) (cond s (Some 114) (cond t (Some 116) None)))) ≡ Some l → is_text_byte b ≡ true
 text_by b true q r s t ep eq er es et l e = subst (λ n. is_text_byte n ≡ true) (sym (eqb-true b 92 ep)) refl
 text_by b false true r s t ep eq er es et l e = subst (λ n. is_text_byte n ≡ true) (sym (eqb-true b 34 eq)) refl

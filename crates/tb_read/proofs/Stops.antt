@@ -1,4 +1,4 @@
--- At a syntax fault no text goes on: none that begins with the bytes up to and with the bad one is a term.
+-- No continuation of the bytes up to and including the byte of a syntax error parses as a term.
 use Rattle.std.proofs.Common.{◌≡◌, ℕ, ℤ, pos, neg_ℤ, suc, ◌+◌, ◌-◌, ◌^◌, ◌≤◌, ◌<◌, Bool, true, false, ◌||◌, ◌⊎◌, cond, eqb, List, [], ◌∷◌, ◌++◌, length, take, drop, Option, Some, None, Result, Ok, Err, refl, ap, sym, ◌∙◌, subst, inl, inr, arith, append_assoc}
 use Rattle.std.proofs.Math.Numerals.{one-add}
 use Rattle.std.proofs.Math.Seq.{take-append-add}
@@ -33,7 +33,7 @@ use Rattle.tb_read.proofs.Complete.{name_taken, digits_taken, digit_unsigned, to
 abbrev Pair : Type 0
 Pair = List ℕ × List ℕ
 
--- the fault stands where l begins, and whatever comes in the place of what follows its first byte, it is no string's rest
+-- the error is where `l` begins, and with any other bytes after the first byte of `l`, the bytes aren't the rest of a string
 abbrev RestStop : ℕ → Within → List ℕ → ℕ → Type 0
 RestStop total w bytes n = (pre : List ℕ) × (l : List ℕ) × (bytes ≡ pre ++ l) × (n ≡ total - length l)
     × ((c : ℕ) (suf : List ℕ) → l ≡ c ∷ suf → (other : ℕ) (more : List ℕ) (x : Pair) → string_rest other w (pre ++ (c ∷ more)) ≡ Ok x → ⊥)
@@ -45,7 +45,7 @@ pub prefix_err : (prefix : List ℕ) (r : Result Pair TermFault) (f : TermFault)
 prefix_err prefix (Ok x) f e = cc
 prefix_err prefix (Err g) f e = let same : g ≡ f = cc in ap (λ (h : TermFault). Err h) same
 
--- the fault is this byte's, or a later one's
+-- the error is of this byte or of a later one
 abbrev Deeper : ℕ → List ℕ → ℕ → Turn → Type 0
 Deeper total bytes n t = (v : Within) × (string_rest total v bytes ≡ Err (Syntax n)) × ((other : ℕ) (ys : List ℕ) (x : Pair) → turned other t ys ≡ Ok x → (z : Pair) × (string_rest other v ys ≡ Ok z))
 
@@ -74,7 +74,7 @@ rest_stop total (b ∷ bytes) w n e = by (turned_stop total bytes (string_turn w
       let s = ih f.0 n f.1 in
       (b ∷ s.0, s.1, ap (λ l. b ∷ l) s.2, s.3, λ c suf h other more x r. let z = f.2 other (s.0 ++ (c ∷ more)) x r in s.4 c suf h other more z.0 z.1)
 
--- the same of a token of this kind
+-- the error is where `l` begins, and with any other bytes after the first byte of `l`, the bytes don't begin with a token of this kind
 abbrev TokenStop : Kind → ℕ → List ℕ → ℕ → Type 0
 TokenStop next total bytes n = (pre : List ℕ) × (l : List ℕ) × (bytes ≡ pre ++ l) × (n ≡ total - length l)
     × ((c : ℕ) (suf : List ℕ) → l ≡ c ∷ suf → (other : ℕ) (more : List ℕ) (x : Lexed) → token_of next other (pre ++ (c ∷ more)) ≡ Ok x → ⊥)
@@ -87,7 +87,7 @@ string_of_ok : (r : Result Pair TermFault) (x : Lexed) → string_of r ≡ Ok x 
 string_of_ok (Err g) x e = cc
 string_of_ok (Ok y) x e = (y, refl)
 
--- a number lacks its digits
+-- a syntax error of a number: its digits are missing
 pub digits_stop : (total position : ℕ) (negative : Bool) (digits rest : List ℕ) (n : ℕ) → number_from total position negative digits rest ≡ Err (Syntax n) → (digits ≡ []) × (n ≡ total - length rest)
 digits_stop total position negative [] rest n e = (refl, sym (same_position (total - length rest) n e))
 digits_stop total position negative (d ∷ digits) rest n e = by (is_real rest) (number_of negative (digits_value (d ∷ digits))) e where
@@ -96,7 +96,7 @@ digits_stop total position negative (d ∷ digits) rest n e = by (is_real rest) 
   by false None h = cc
   by false (Some z) h = cc
 
--- no digit in front
+-- the first byte is no digit
 pub prefix_digit : (c : ℕ) (suf : List ℕ) → take (prefix_len is_digit (c ∷ suf)) (c ∷ suf) ≡ [] → is_digit c ≡ false
 prefix_digit c suf e = by (is_digit c) refl e where
   by : (v : Bool) → is_digit c ≡ v → take (cond v (1 + prefix_len is_digit suf) 0) (c ∷ suf) ≡ [] → is_digit c ≡ false
@@ -143,9 +143,9 @@ token_stop kind.Str total (b ∷ bytes) n h e =
     let s = rest_stop total bytes Between n (string_of_err (string_rest total Between bytes) (Syntax n) e) in
     (b ∷ s.0, s.1, ap (λ l. b ∷ l) s.2, s.3, λ c suf same other more x r. let y = string_of_ok (string_rest other Between (s.0 ++ (c ∷ more))) x r in s.4 c suf same other more y.0 y.1)
 
--- A token that was found is found again, whatever comes behind the byte that follows it.
+-- A found token is found again, whatever follows the byte after it.
 
--- what follows a token doesn't go on with it
+-- the bytes after a token don't continue it
 abbrev Stopped : Token → List ℕ → Type 0
 Stopped (token.Name name) rest = prefix_len is_name_byte rest ≡ 0
 Stopped (token.Int number) rest = prefix_len is_digit rest ≡ 0
@@ -241,7 +241,7 @@ kept total token.LeftBracket text rest x s a e = ok_same (token.LeftBracket, res
 kept total token.RightBracket text rest x s a e = ok_same (token.RightBracket, rest) x (sym (token_complete total token.RightBracket text rest s tt) ∙ e)
 kept total token.Comma text rest x s a e = ok_same (token.Comma, rest) x (sym (token_complete total token.Comma text rest s tt) ∙ e)
 
--- The same of a whole text.
+-- The whole source.
 
 abbrev Stop : Shape → ℕ → List ℕ → ℕ → Type 0
 Stop s total bytes n = (pre : List ℕ) × (l : List ℕ) × (bytes ≡ pre ++ l) × (n ≡ total - length l)
@@ -254,7 +254,7 @@ not_blank (c ∷ bytes) b l e = by (is_blank c) refl (not_blank bytes b l) e whe
   by true ev ih h = ih h
   by false ev ih h = let same : c ≡ b = cc in subst (λ n. is_blank n ≡ false) same ev
 
--- nothing runs on from a byte that gives no token
+-- no run continues at a byte that begins no token
 no_run : (s : Shape) (other : ℕ) (prefix : List ℕ) (b : ℕ) (l : List ℕ) (js : List Token) → list_all is_blank prefix ≡ true → is_blank b ≡ false → (allows s (kind_of b) ≡ true → (x : Lexed) → token_of (kind_of b) other (b ∷ l) ≡ Ok x → ⊥) → Runs s other (prefix ++ (b ∷ l)) js None → ⊥
 no_run s other prefix b l [] h nb never r =
     let at : next_of s other (prefix ++ (b ∷ l)) ≡ next_at s other (b ∷ l) = ap (next_at s other) (skipped prefix b l h nb) in
@@ -264,7 +264,7 @@ no_run s other prefix b l (j ∷ js) h nb never r =
     let q = makes_by (allows s (kind_of b)) (token_of (kind_of b) other (b ∷ l)) (Syntax (other - length (b ∷ l))) j r.0 (sym at ∙ r.1) in
     never q.0 (j, r.0) q.1
 
--- behind a token the run goes on
+-- after a token, the run continues
 onward : (s : Shape) (other : ℕ) (prefix : List ℕ) (k : Token) (text rest : List ℕ) (js : List Token) → list_all is_blank prefix ≡ true → SpellsToken k text → Stopped k rest → Runs s other (prefix ++ (text ++ rest)) js None → (is : List Token) × Runs (after s k) other rest is None
 onward s other prefix k text rest js h sp a r = by (begun k text sp) js r where
   by : Begun k text → (js : List Token) → Runs s other (prefix ++ (text ++ rest)) js None → (is : List Token) × Runs (after s k) other rest is None

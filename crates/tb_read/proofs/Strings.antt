@@ -1,4 +1,4 @@
--- A string that is read is spelled so.
+-- The bytes of a scanned string spell it.
 use Rattle.std.proofs.Common.{◌≡◌, ℕ, suc, ◌-◌, ◌≤◌, Bool, true, false, not, ◌&&◌, cond, eqb, leb, ltb, List, [], ◌∷◌, ◌++◌, length, Option, Some, None, Result, Ok, Err, refl, ap, sym, ◌∙◌, subst, inl, inr, arith, lit≤}
 use Rattle.std.proofs.lemmas.Bool.{eqb-true}
 use Rattle.std.proofs.lemmas.Bool.Decides.{nat_tests}
@@ -18,7 +18,7 @@ Steady Between = Unit {0}
 Steady Escaped = Unit {0}
 Steady (Going more low high) = 128 ≤ low
 
--- the letter behind the backslash that stands before these bytes is that of the first byte
+-- the text after a backslash begins with the letter of the first byte
 abbrev SpellsEscaped : List ℕ → List ℕ → Type 0
 SpellsEscaped bytes inner = (byte : ℕ) × (rest : List ℕ) × (letter : ℕ) × (text : List ℕ) × (bytes ≡ byte ∷ rest) × (inner ≡ letter ∷ text) × (escape_letter byte ≡ Some letter) × SpellsBytes rest text
 
@@ -27,13 +27,13 @@ Spelled Between bytes inner = SpellsBytes bytes inner
 Spelled Escaped bytes inner = SpellsEscaped bytes inner
 Spelled (Going more low high) bytes inner = SpellsBytes bytes inner
 
--- a state in which a byte stands for itself
+-- a state in which a byte represents itself
 abbrev pub IsInside : Within → Type 0
 IsInside Between = Unit {0}
 IsInside Escaped = ⊥
 IsInside (Going more low high) = Unit {0}
 
--- what a byte does that is met within the bytes of a string
+-- the effect of a byte within a string
 abbrev pub Facts : ℕ → Turn → Type 0
 Facts b Ends = b ≡ 34
 Facts b (Goes next) = (b ≡ 92) × (next ≡ Escaped)
@@ -79,7 +79,7 @@ going_by more low high b h false q r e = tt
 pub going_facts : (more low high b : ℕ) → 128 ≤ low → Facts b (going_turn more low high b)
 going_facts more low high b h = going_by more low high b h (leb low b) (leb b high) (ltb more 2) refl
 
--- a letter stands for the byte that is written with it
+-- a letter represents the byte that is written with it
 letter_by : (l c : ℕ) (p q r s t : Bool) → eqb l 92 ≡ p → eqb l 34 ≡ q → eqb l 110 ≡ r → eqb l 114 ≡ s → eqb l 116 ≡ t → cond p (Some 92) (cond q (Some 34) (cond r (Some 10) (cond s (Some 13) (cond t (Some 9) None)))) ≡ Some c → escape_letter c ≡ Some l
 letter_by l c true q r s t ep eq er es et e = let cs : 92 ≡ c = cc in subst (λ n. escape_letter n ≡ Some l) cs (ap Some (sym (eqb-true l 92 ep)))
 letter_by l c false true r s t ep eq er es et e = let cs : 34 ≡ c = cc in subst (λ n. escape_letter n ≡ Some l) cs (ap Some (sym (eqb-true l 34 eq)))
@@ -91,7 +91,7 @@ letter_by l c false false false false false ep eq er es et e = cc
 pub letter_of : (l c : ℕ) → unescaped l ≡ Some c → escape_letter c ≡ Some l
 letter_of l c e = letter_by l c (eqb l 92) (eqb l 34) (eqb l 110) (eqb l 114) (eqb l 116) refl refl refl refl refl e
 
--- what a string's rest is, once the turn of its first byte is known
+-- the rest of a string, given the effect of its first byte
 abbrev pub turned : ℕ → Turn → List ℕ → Result (List ℕ × List ℕ) TermFault
 turned total turn bytes = elim turn [
   | Ends ↦ Ok ([], bytes)
@@ -120,7 +120,7 @@ as_inside Between bytes inner i s = s
 as_inside Escaped bytes inner i s = absurd i
 as_inside (Going more low high) bytes inner i s = s
 
--- the first byte is met within the bytes of a string
+-- the first byte is within a string
 inside_sound : (total b : ℕ) (bytes : List ℕ) → Sound total bytes → (t : Turn) → Facts b t → (x : Pair) → turned total t bytes ≡ Ok x → Found Between (b ∷ bytes) x
 inside_sound total b bytes ih Ends f x e =
     let same : ◌≡◌ {A = Pair} ([], bytes) x = cc in
@@ -144,7 +144,7 @@ inside_sound total b bytes ih (Puts put next) f x e =
     )
 inside_sound total b bytes ih Bad f x e = cc
 
--- the first byte is met behind a backslash
+-- the first byte is after a backslash
 escaped_sound : (total b : ℕ) (bytes : List ℕ) → Sound total bytes → (o : Option ℕ) → unescaped b ≡ o → (x : Pair) → turned total (escaped_turn o) bytes ≡ Ok x → Found Escaped (b ∷ bytes) x
 escaped_sound total b bytes ih None u x e = cc
 escaped_sound total b bytes ih (Some c) u x e =

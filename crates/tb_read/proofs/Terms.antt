@@ -1,4 +1,4 @@
--- The tokens of a term make that term, and its size and levels are those of its tokens.
+-- The tokens of a term build that term, and no other term has the same tokens.
 use Rattle.std.proofs.Common.{◌≡◌, ℕ, List, [], ◌∷◌, ◌++◌, map, Option, Some, None, refl, ap, sym, ◌∙◌, append_assoc, append-nil}
 use Rattle.std.specs.List.{flat_map, AllByRecursion}
 use Rattle.tb_terms.specs.declared.term.Term.{Term}
@@ -27,14 +27,14 @@ tokens-List ts = fold-List (List Token) tokens_step ts
 abbrev frame : Option (List ℕ) → List Term → Frame
 frame head parts = record { head = head; parts = parts }
 
--- whatever was there before, the tokens of a term make it
+-- in any state of the builder, the tokens of a term build it
 abbrev Makes : Term → Type 0
 Makes t = (b : Builder) (ks : List Token) → built_from b (tokens_of t ++ ks) ≡ built_from (holds t b.frames) ks
 
 abbrev Closes : Token → Type 0
 Closes c = (b : Builder) → build_step b c ≡ closed b.done b.frames
 
--- further parts, each behind its comma, up to the closing bracket
+-- further parts, each after its comma, up to the closing bracket
 further : (c : Token) → Closes c → (ts : List Term) → AllByRecursion Makes ts → (h : Option (List ℕ)) (parts : List Term) (t : Term) (frames : List Frame) (ks : List Token) → built_from (holds t (frame h parts ∷ frames)) (flat_map after_comma (map tokens_of ts) ++ (c ∷ ks)) ≡ built_from (holds (whole h (parts ++ t ∷ ts)) frames) ks
 further c closes [] all h parts t frames ks = ap (λ b. built_from b ks) (closes (holds t (frame h parts ∷ frames)))
 further c closes (u ∷ ts) all h parts t frames ks =

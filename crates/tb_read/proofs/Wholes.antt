@@ -1,4 +1,4 @@
--- What a scan, the limits and the building of a term say of the whole text.
+-- The results of the scan, the limits, and the builder, for the whole source.
 use Rattle.std.proofs.Common.{◌≡◌, ℕ, ℤ, suc, ◌-◌, ◌≤◌, ◌<◌, Bool, true, false, cond, ltb, List, [], ◌∷◌, length, take, drop, Option, Some, None, Result, Ok, Err, refl, ap, sym, ◌∙◌, subst}
 use Rattle.std.proofs.lemmas.Bool.{ltb-true, ltb-false}
 use Rattle.std.specs.List.{prefix_len}
@@ -28,7 +28,7 @@ use Rattle.tb_read.proofs.Lexed.{Lexed, runs_sound}
 use Rattle.tb_read.proofs.Grammar.{term-accepts}
 use Rattle.tb_read.proofs.Counted.{tokens_size-tokens_of, tokens_levels-tokens_of}
 
--- a fault of a position in the text
+-- an error with a position in the source
 abbrev pub IsPositioned : TermFault → Type 0
 IsPositioned (fault.Syntax position) = Unit {0}
 IsPositioned (fault.Real position) = Unit {0}
@@ -113,7 +113,7 @@ fault_of_scan most deepest bytes (fault.IntRange position) h = h
 fault_of_scan most deepest bytes fault.TooLarge h = absurd (runs_positioned h.0 start (length bytes) bytes fault.TooLarge h.1)
 fault_of_scan most deepest bytes fault.TooDeep h = absurd (runs_positioned h.0 start (length bytes) bytes fault.TooDeep h.1)
 
--- what is scanned to the end is one term's text
+-- the scanned tokens build one term, and the source parses as this term
 abbrev Whole : List ℕ → List Token → Type 0
 Whole bytes ks = (t : Term) × ((built_from nothing ks).done ≡ Some t) × (ks ≡ tokens_of t) × Reads bytes t
 

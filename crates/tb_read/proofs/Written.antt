@@ -1,4 +1,4 @@
--- The written text of a term reads as the term.
+-- The text of a term parses as this term.
 use Rattle.std.proofs.Common.{◌≡◌, ℕ, ℤ, pos, negsuc, neg_ℤ, suc, ◌+◌, ◌-◌, ◌*◌, ◌/◌, ◌%◌, ◌^◌, ◌≤◌, ◌<◌, Bool, true, false, cond, eqb, List, [], ◌∷◌, ◌++◌, map, fold, Option, Some, None, refl, ap, sym, ◌∙◌, subst, inl, inr, arith, append_assoc, append-nil}
 use Rattle.std.proofs.lemmas.Bool.{false≢true, ltb-true, and_parts, and_from}
 use Rattle.std.proofs.lemmas.Bool.Decides.{nat_tests}
@@ -88,7 +88,7 @@ pub string_spelled : (bytes : List ℕ) → is_string bytes ≡ true → SpellsS
 string_spelled bytes h =
     record { is = h; inner = flat_map escaped bytes; quoted = refl; spelled = bytes_spelled bytes (and_parts (is_utf8 bytes) (is_text bytes) h).1 }
 
--- Terms, with whatever follows.
+-- Terms, with any bytes after them.
 
 single : (k : Token) (text : List ℕ) (ks : List Token) (rest : List ℕ) → SpellsToken k text → Spaced ks rest → Spaced (k ∷ ks) (text ++ rest)
 single k text ks rest s p = ([], text, rest, refl, refl, s, p)

@@ -1,4 +1,5 @@
--- The token with which bytes begin, or the first fault in it. A position counts from the front of a text of this length.
+-- The token at the beginning of bytes, or the first error in it. The bytes end a source of length `total`, from whose beginning a
+-- position counts.
 use Rattle.std.specs.Prelude.{ℕ, suc, ◌-◌, ◌^◌, ℤ, pos, neg_ℤ, Bool, true, false, not, ◌&&◌, ◌||◌, ◌==◌, nat_lt, nat_le, List, [], ◌∷◌, ◌++◌, length, take, drop, Option, Some, None, Result, Ok, Err, if◌then◌else◌}
 use Rattle.std.specs.List.{prefix_len}
 use Rattle.tb_terms.specs.Names.{is_digit, is_lower, is_name_byte}
@@ -18,7 +19,7 @@ abbrev pub skip_blanks : List ℕ → List ℕ
 skip_blanks [] = []
 skip_blanks (byte ∷ bytes) = if is_blank byte then skip_blanks bytes else byte ∷ bytes
 
--- the byte for which a letter stands behind a backslash
+-- the byte that this letter represents after a backslash
 abbrev pub unescaped : ℕ → Option ℕ
 unescaped letter =
     if letter == 92 then Some 92
@@ -27,7 +28,7 @@ unescaped letter =
     else (if letter == 114 then Some 13
     else (if letter == 116 then Some 9 else None))))
 
--- How a character of several bytes may go on behind its first byte: how many bytes are to come, and the range of the next.
+-- the effect of the first byte of a character; `Going` has the number of bytes to come, and the range of the next one
 abbrev pub lead : ℕ → Turn
 lead byte =
     if nat_lt byte 128 then Puts byte Between
@@ -40,7 +41,7 @@ lead byte =
     else (if nat_lt byte 244 then Puts byte (Going 3 128 191)
     else (if byte == 244 then Puts byte (Going 3 128 143) else Bad))))))))
 
--- a byte at which a character begins, or the quote at the string's end
+-- the effect of a byte after a whole character: the closing quote, a backslash, or the first byte of a character
 abbrev pub between_turn : ℕ → Turn
 between_turn byte =
     if byte == 34 then Ends
@@ -57,7 +58,7 @@ going_turn more low high byte =
     then Puts byte (if nat_lt more 2 then Between else Going (more - 1) 128 191)
     else Bad
 
--- what the next byte of a string does
+-- the effect of the next byte of a string
 abbrev pub string_turn : Within → ℕ → Turn
 string_turn Between byte = between_turn byte
 string_turn Escaped byte = escaped_turn (unescaped byte)
@@ -67,7 +68,7 @@ abbrev pub with_prefix : List ℕ → Result (List ℕ × List ℕ) TermFault �
 with_prefix prefix (Ok found) = Ok (prefix ++ found.0, found.1)
 with_prefix prefix (Err fault) = Err fault
 
--- the bytes of a string up to its closing quote, and what follows it
+-- the bytes of a string up to its closing quote, and the bytes after the quote
 abbrev pub string_rest : ℕ → Within → List ℕ → Result (List ℕ × List ℕ) TermFault
 string_rest total within [] = Err (Syntax total)
 string_rest total within (byte ∷ bytes) = elim (string_turn within byte) [
@@ -92,12 +93,13 @@ abbrev pub is_negative : List ℕ → Bool
 is_negative [] = false
 is_negative (byte ∷ bytes) = byte == 45
 
--- a point and a digit
+-- the bytes begin with a point and a digit
 abbrev pub is_real : List ℕ → Bool
 is_real [] = false
 is_real (point ∷ []) = false
 is_real (point ∷ digit ∷ bytes) = (point == 46) && is_digit digit
 
+-- the number with this sign and this absolute value, if 64 bits hold it
 abbrev pub number_of : Bool → ℕ → Option ℤ
 number_of true value = if nat_le value (2 ^ 63) then Some (neg_ℤ (pos value)) else None
 number_of false value = if nat_lt value (2 ^ 63) then Some (pos value) else None
@@ -106,7 +108,7 @@ abbrev pub in_range : ℕ → Option ℤ → List ℕ → Result (Token × List 
 in_range position None rest = Err (IntRange position)
 in_range position (Some number) rest = Ok (Int number, rest)
 
--- a number whose digits, and what follows them, have been found
+-- the number with these digits, and the bytes after it
 abbrev pub number_from : ℕ → ℕ → Bool → List ℕ → List ℕ → Result (Token × List ℕ) TermFault
 number_from total position negative [] rest = Err (Syntax (total - length rest))
 number_from total position negative (digit ∷ digits) rest =
@@ -119,7 +121,7 @@ number_at total bytes =
     let len = prefix_len is_digit unsigned in
     number_from total (total - length bytes) negative (take len unsigned) (drop len unsigned)
 
--- what begins with this byte
+-- the kind of the token that begins with this byte
 abbrev pub kind_of : ℕ → Kind
 kind_of byte =
     if byte == 40 then kind.LeftParen

@@ -1,4 +1,4 @@
--- How a text is read from the left, one token after another, until it ends or a byte can't go on.
+-- How a source is scanned from the left, token by token, until the source ends or has an error.
 use Rattle.std.specs.Prelude.{◌≡◌, ℕ, ◌-◌, Bool, true, false, ◌||◌, List, [], ◌∷◌, length, Option, Some, None, Result, Ok, Err, if◌then◌else◌}
 use Rattle.tb_read.specs.Lexing.{skip_blanks, kind_of, token_of}
 use Rattle.tb_read.specs.declared.token.Token.{Token}
@@ -13,7 +13,7 @@ use Rattle.tb_read.specs.declared.shape.Bracket.{Bracket}
 use Rattle.tb_read.specs.declared.shape.Bracket.TheVariants.{Paren, Square}
 use Rattle.tb_read.specs.declared.shape.Shape.{Shape}
 
--- a term begins
+-- a term can begin with a token of this kind
 abbrev pub is_begin : Kind → Bool
 is_begin kind.Int = true
 is_begin kind.Str = true
@@ -29,7 +29,7 @@ abbrev pub is_left_paren : Kind → Bool
 is_left_paren kind.LeftParen = true
 is_left_paren _ = false
 
--- what may stand behind a term within these open brackets, the innermost first: a comma, or the closing bracket
+-- a token of this kind can follow a term within these open brackets, the innermost first: a comma, or the closing bracket
 abbrev pub may_continue : List Bracket → Kind → Bool
 may_continue [] next = false
 may_continue (bracket ∷ brackets) kind.Comma = true
@@ -43,7 +43,7 @@ expects expect.First brackets next = is_begin next || is_right_bracket next
 expects expect.Further brackets next = may_continue brackets next
 expects expect.Named brackets next = is_left_paren next || may_continue brackets next
 
--- whether the next token may be of this kind
+-- the next token can be of this kind
 abbrev pub allows : Shape → Kind → Bool
 allows shape next = expects shape.expect shape.brackets next
 
@@ -51,7 +51,7 @@ abbrev pub without_first : List Bracket → List Bracket
 without_first [] = []
 without_first (bracket ∷ brackets) = brackets
 
--- what is open, and what is expected, after a token
+-- the open brackets, and what is expected, after a token
 abbrev pub after : Shape → Token → Shape
 after shape (token.Int number) = record { expect = expect.Further; brackets = shape.brackets }
 after shape (token.Str bytes) = record { expect = expect.Further; brackets = shape.brackets }
@@ -62,7 +62,7 @@ after shape token.Comma = record { expect = expect.Term; brackets = shape.bracke
 after shape token.RightParen = record { expect = expect.Further; brackets = without_first shape.brackets }
 after shape token.RightBracket = record { expect = expect.Further; brackets = without_first shape.brackets }
 
--- the text may end here
+-- the source can end here
 abbrev pub may_end : Expect → List Bracket → Bool
 may_end expect.Further [] = true
 may_end expect.Named [] = true
@@ -71,7 +71,7 @@ may_end _ _ = false
 abbrev pub start : Shape
 start = record { expect = expect.Term; brackets = [] }
 
--- the next token with the bytes behind it, or the end: with no fault, or with the first one
+-- the next token with the bytes after it, or the end of the scan: without an error, or with the first error
 pub data Next : Type 0 where
   Makes : Token → List ℕ → Next
   Ends : Option TermFault → Next
@@ -90,11 +90,11 @@ next_at shape total (byte ∷ bytes) =
 abbrev pub next_of : Shape → ℕ → List ℕ → Next
 next_of shape total bytes = next_at shape total (skip_blanks bytes)
 
--- From this shape the bytes give these tokens, and then end so.
+-- From this shape, the scan of the bytes gives these tokens, and then ends with this error or without an error.
 abbrev pub Runs : Shape → ℕ → List ℕ → List Token → Option TermFault → Type 0
 Runs shape total bytes [] end = next_of shape total bytes ≡ Ends end
 Runs shape total bytes (token ∷ tokens) end = (rest : List ℕ) × (next_of shape total bytes ≡ Makes token rest) × Runs (after shape token) total rest tokens end
 
--- what is scanned of a whole text
+-- the scan of a whole source gives these tokens, and then ends with this error or without an error
 abbrev pub Scans : List ℕ → List Token → Option TermFault → Type 0
 Scans bytes tokens end = Runs start (length bytes) bytes tokens end

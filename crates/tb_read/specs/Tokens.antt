@@ -11,12 +11,12 @@ use Rattle.tb_read.specs.declared.token.Token.TheVariants.{Int, Str, Name, LeftP
 abbrev pub after_comma : List Token → List Token
 after_comma tokens = Comma ∷ tokens
 
--- a comma between each two parts
+-- the tokens of the parts, joined by commas
 abbrev pub with_commas : List (List Token) → List Token
 with_commas [] = []
 with_commas (part ∷ parts) = part ++ flat_map after_comma parts
 
--- an application without parts is its name alone
+-- the tokens of a name with arguments, given the tokens of these: without arguments, the name alone
 abbrev pub appl_tokens : List ℕ → List (List Token) → List Token
 appl_tokens name [] = Name name ∷ []
 appl_tokens name (part ∷ parts) = Name name ∷ LeftParen ∷ with_commas (part ∷ parts) ++ RightParen ∷ []
@@ -24,7 +24,7 @@ appl_tokens name (part ∷ parts) = Name name ∷ LeftParen ∷ with_commas (par
 abbrev pub list_tokens : List (List Token) → List Token
 list_tokens parts = LeftBracket ∷ with_commas parts ++ RightBracket ∷ []
 
--- one node, with the tokens of each part in the part's place
+-- the tokens of one node, given the tokens of its parts
 abbrev pub tokens_step : Term-F (List Token) → List Token
 tokens_step (layer.Int number) = Int number ∷ []
 tokens_step (layer.Str bytes) = Str bytes ∷ []

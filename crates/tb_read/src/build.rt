@@ -1,4 +1,4 @@
-//! A term is built from its tokens.
+//! The building of a term from its tokens.
 ghost use Rattle.std.specs.Prelude.{◌≡◌, ◌++◌, IfOk, OnOk};
 ghost use Rattle.std.specs.Option.{option_to_list};
 ghost use Rattle.tb_read.specs.Helpers.Building.{build_step, built_from, nothing, name_of, opens, closed, with_part, whole};
@@ -8,21 +8,21 @@ use crate::token::Token;
 use std::alloc::Global;
 use tb_terms::{Items, Name, NoMemory, Term, Terms};
 
-/// An open bracket, with the name before it, and the parts that stand in it so far.
+/// An open bracket, with the name before it and the parts after it so far.
 #[derive(Drop)]
 pub(crate) struct Frame {
     head: Option<Name>,
     parts: Terms,
 }
 
-/// A term that is put together from its tokens.
+/// A term that is being built: the last finished term, and the open brackets.
 #[derive(Drop)]
 pub(crate) struct Builder {
     done: Option<Term>,
     frames: Stack<Frame>,
 }
 
-/// What the tokens make. Checked tokens make one term.
+/// Returns what the tokens build, or `None`. The tokens of a successful scan build one term.
 pub(crate) fn build(alloc: Global, mut tokens: Vec<Token>) -> Result<Option<Term>, NoMemory>
     ensures { IfOk result (λ done. done ≡ (built_from nothing tokens.items).done) }
 {

@@ -1,21 +1,21 @@
-//! Why bytes are no term.
+//! The errors of a source.
 use std::alloc::{AllocError, AllocFailed};
 use tb_terms::NoMemory;
 
-/// Why bytes are no term that this product takes. Positions count the bytes from 0.
+/// Why a source isn't a term within the limits. Positions count the bytes from 0.
 #[derive(Clone, Copy, Debug, PartialEq, Eq)]
 pub enum TermFault {
-    /// The first byte that can't go on, or the length where the bytes end too early.
+    /// The position of the first byte that can't continue a term, or the length of the source if the source ends too early.
     Syntax(usize),
-    /// The first byte of a number that is followed directly by a point and a digit.
+    /// The position of a number that a point and a digit follow directly.
     Real(usize),
-    /// The first byte of a number that 64 bits don't hold.
+    /// The position of a number that 64 bits can't hold.
     IntRange(usize),
-    /// The bytes are a term of a size over 65,536.
+    /// The source parses as a term whose size is over the limit (65,536 by default).
     TooLarge,
-    /// The bytes are a term of a size within the limit, and of more than 64 levels.
+    /// The source parses as a term whose size is within the limit, but whose depth is over the limit (64 levels by default).
     TooDeep,
-    /// There wasn't memory enough; it says nothing of the bytes.
+    /// Out of memory. This error makes no claim about the source.
     NoMemory,
 }
 

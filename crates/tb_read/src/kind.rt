@@ -2,7 +2,7 @@
 ghost use Rattle.std.specs.Prelude.{◌≡◌};
 ghost use Rattle.tb_read.specs.Lexing.{kind_of};
 
-/// What a token is, as its first byte tells.
+/// The kind of a token, which its first byte determines.
 #[derive(Clone, Copy, PartialEq, Eq)]
 pub(crate) enum Kind {
     Int,
@@ -13,6 +13,6 @@ pub(crate) enum Kind {
     LeftBracket,
     RightBracket,
     Comma,
-    /// No token begins so.
+    /// No token begins with this byte.
     Other,
 }

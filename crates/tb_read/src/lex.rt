@@ -1,4 +1,4 @@
-//! The next token of a text.
+//! The next token of a source.
 ghost use Rattle.std.specs.Prelude.{◌≡◌, ◌≤◌, ◌<◌, length, IsTrue, IfOk};
 ghost use Rattle.std.specs.List.{prefix_len};
 ghost use Rattle.tb_terms.specs.Names.{is_name_byte};
@@ -26,14 +26,15 @@ pub(crate) fn skip_blanks(bytes: &[u8]) -> &[u8]
     &bytes[bytes.len()..]
 }
 
-/// Whether the byte is a tab, a newline, a carriage return or a space.
+/// Returns whether the byte is whitespace: a tab, a newline, a carriage return, or a space.
 pub fn is_blank(byte: u8) -> bool
     ensures { result ≡ is_blank byte }
 {
     matches!(byte, b'\t' | b'\n' | b'\r' | b' ')
 }
 
-/// The token with which the bytes begin, and the bytes behind it. The first byte tells its kind.
+/// Returns the token at the beginning of the bytes, and the bytes after it. The first byte determines the kind. `total` is the length
+/// of the source.
 pub(crate) fn token_of(
     alloc: Global,
     kind: Kind,
@@ -58,7 +59,7 @@ pub(crate) fn token_of(
     }
 }
 
-/// The name with whose first letter the bytes begin, and the bytes behind it.
+/// Returns the name at the beginning of the bytes, and the bytes after it.
 fn name_at(alloc: Global, bytes: &[u8]) -> Result<(Token, &[u8]), TermFault>
     requires { IsTrue (begins_with Kind.Name bytes.now) }
     ensures name { Gives (λ x. (x.0, x.1.now)) result (name_at bytes.now) }
@@ -82,7 +83,7 @@ fn name_len(bytes: &[u8]) -> usize
     bytes.len()
 }
 
-/// Whether the byte may follow the first letter of a name.
+/// Returns whether the byte can follow the first letter of a name.
 pub fn is_name_byte(byte: u8) -> bool
     ensures { result ≡ is_name_byte byte }
 {

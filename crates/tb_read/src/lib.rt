@@ -1,4 +1,4 @@
-//! The reading of terms: each text that is one gives its term, each other the first fault.
+//! The parsing of terms: each source is a term within the limits, or has a first error.
 #![tactic(auto)]
 
 mod build;

@@ -4,14 +4,16 @@ ghost use Rattle.tb_read.specs.Helpers.Limits.{token_size, tokens_size, token_le
 
 use crate::token::Token;
 
-/// How large a term may be that is read, and how many levels it may have.
+/// The limits of a term that is parsed.
 #[derive(Clone, Copy, Debug, PartialEq, Eq)]
 pub struct Limits {
+    /// The greatest size, in nodes plus bytes.
     pub size: usize,
+    /// The greatest depth, in levels.
     pub levels: usize,
 }
 
-/// The size of the term with these tokens. The greatest `usize` stands for all greater numbers.
+/// Returns the size of the term with these tokens. If the size is greater than `usize::MAX`, returns `usize::MAX`.
 pub(crate) fn tokens_size(tokens: &[Token]) -> usize
     ensures { result ≡ min (tokens_size tokens.now) usize.MAX }
 {
@@ -33,7 +35,7 @@ fn token_size(token: &Token) -> usize
     }
 }
 
-/// How many levels the term with these tokens has.
+/// Returns the depth of the term with these tokens.
 pub(crate) fn tokens_levels(tokens: &[Token]) -> usize
     ensures { result ≡ tokens_levels 0 tokens.now }
 {

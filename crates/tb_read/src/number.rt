@@ -1,4 +1,4 @@
-//! Numbers as a text has them.
+//! Numbers of a source.
 ghost use Rattle.std.specs.Prelude.{◌≡◌, ◌≤◌, ◌<◌, ◌-◌, ◌^◌, min, length, drop, IfOk, IsTrue, if◌then◌else◌};
 ghost use Rattle.std.specs.List.{prefix_len};
 ghost use Rattle.tb_terms.specs.Names.{is_digit};
@@ -9,7 +9,7 @@ ghost use Rattle.tb_read.specs.Helpers.Answers.{Gives};
 use crate::TermFault;
 use crate::token::Token;
 
-/// The number with whose sign or first digit the bytes begin, and the bytes behind it.
+/// Returns the number whose sign or first digit is the first byte, and the bytes after the number. `total` is the length of the source.
 pub(crate) fn number_at(total: usize, bytes: &[u8]) -> Result<(Token, &[u8]), TermFault>
     requires { length bytes.now ≤ total }
     ensures number { Gives (λ x. (x.0, x.1.now)) result (number_at total bytes.now) }
@@ -23,7 +23,7 @@ pub(crate) fn number_at(total: usize, bytes: &[u8]) -> Result<(Token, &[u8]), Te
     number_from(total, position, negative, digits, rest)
 }
 
-/// What stands behind the sign, where there is one.
+/// Returns the bytes after the minus sign if the number is negative, and all bytes otherwise.
 pub fn without_sign(negative: bool, bytes: &[u8]) -> &[u8]
     requires { IsTrue negative → 0 < length bytes.now }
     ensures { result.now ≡ drop (if negative then 1 else 0) bytes.now }
@@ -55,7 +55,7 @@ fn number_from<'a>(
     }
 }
 
-/// Whether a minus sign comes first.
+/// Returns whether the first byte is a minus sign.
 pub fn is_negative(bytes: &[u8]) -> bool
     ensures { result ≡ is_negative bytes.now }
 {
@@ -65,7 +65,7 @@ pub fn is_negative(bytes: &[u8]) -> bool
     }
 }
 
-/// Whether a point and a digit come first: a number before them is a real.
+/// Returns whether the bytes begin with a point and a digit. A number directly before them is a real.
 pub fn is_real(rest: &[u8]) -> bool
     ensures { result ≡ is_real rest.now }
 {
@@ -75,7 +75,7 @@ pub fn is_real(rest: &[u8]) -> bool
     }
 }
 
-/// How many digits come first.
+/// Returns the number of digits at the beginning of the bytes.
 pub fn digits_len(bytes: &[u8]) -> usize
     ensures value { result ≡ prefix_len is_digit bytes.now }
     ensures within { result ≤ length bytes.now }
@@ -88,7 +88,7 @@ pub fn digits_len(bytes: &[u8]) -> usize
     bytes.len()
 }
 
-/// What the digits are worth. The greatest `u64` stands for all greater numbers.
+/// Returns the value of decimal digits. If the value is greater than `u64::MAX`, returns `u64::MAX`.
 pub fn digits_value(digits: &[u8]) -> u64
     ensures { result ≡ min (digits_value digits.now) (2 ^ 64 - 1) }
 {
@@ -101,7 +101,7 @@ pub fn digits_value(digits: &[u8]) -> u64
     value
 }
 
-/// The number with this sign and this value, where 64 bits hold it.
+/// Returns the number with this sign and this absolute value, or `None` if 64 bits can't hold it.
 pub fn number_of(negative: bool, value: u64) -> Option<i64>
     ensures { result ≡ number_of negative value }
 {

@@ -1,4 +1,4 @@
-//! Strings as a text has them, byte by byte.
+//! Strings of a source, byte by byte.
 ghost use Rattle.std.specs.Prelude.{◌≡◌, ◌≤◌, ◌<◌, length, IfOk};
 ghost use Rattle.tb_read.specs.Lexing.{string_turn, between_turn, going_turn, unescaped, lead, string_rest, string_at};
 ghost use Rattle.tb_read.specs.Helpers.Answers.{Gives};
@@ -9,31 +9,31 @@ use crate::token::Token;
 use std::alloc::Global;
 use tb_terms::Text;
 
-/// Where a reader stands within a string.
+/// The state of a reader within a string.
 #[derive(Clone, Copy, Debug, PartialEq, Eq)]
 pub enum Within {
-    /// Behind a whole character.
+    /// At the beginning, or after a whole character.
     Between,
-    /// Behind a backslash.
+    /// After a backslash.
     Escaped,
-    /// Within a character: how many bytes are to come, and the range of the next.
+    /// Within a character of several bytes: the number of bytes to come, and the lowest and the highest value of the next one.
     Going(u8, u8, u8),
 }
 
-/// What the next byte of a string does.
+/// The effect of the next byte of a string.
 #[derive(Clone, Copy, Debug, PartialEq, Eq)]
 pub enum Turn {
-    /// It is the closing quote.
+    /// The byte is the closing quote.
     Ends,
-    /// It puts nothing yet.
+    /// The byte adds nothing to the string.
     Goes(Within),
-    /// It puts a byte to the string.
+    /// The byte adds this byte to the string.
     Puts(u8, Within),
-    /// It can't go on.
+    /// The byte can't continue the string.
     Bad,
 }
 
-/// The string with whose quote the bytes begin, and the bytes behind it.
+/// Returns the string whose opening quote is the first byte, and the bytes after the string. `total` is the length of the source.
 pub(crate) fn string_at(
     alloc: Global,
     total: usize,
@@ -75,7 +75,7 @@ fn string_rest(alloc: Global, total: usize, bytes: &[u8]) -> Result<(Vec<u8>, &[
     Err(TermFault::Syntax(total))
 }
 
-/// What this byte does to a reader that stands there.
+/// Returns the effect of this byte on a reader in this state.
 pub fn string_turn(within: Within, byte: u8) -> Turn
     ensures { result ≡ string_turn within byte }
 {
@@ -128,7 +128,7 @@ fn unescaped(letter: u8) -> Option<u8>
     }
 }
 
-/// The first byte of a character, by the table of well-formed UTF-8.
+/// Returns the effect of the first byte of a character, by the table of well-formed UTF-8.
 fn lead(byte: u8) -> Turn
     ensures { result ≡ lead byte }
 {

@@ -1,4 +1,4 @@
-//! Bytes are read as a term.
+//! The parsing of a source as a term.
 ghost use Rattle.std.specs.Prelude.{◌≡◌, ◌≢◌, ◌<◌, ◌⊎◌, IfOk, IfErr, Ok, Err};
 ghost use Rattle.tb_terms.specs.declared.term.Term.{Term};
 ghost use Rattle.tb_terms.specs.Sizes.{IsWithinLimits};
@@ -15,16 +15,16 @@ use crate::token::Token;
 use std::alloc::Global;
 use tb_terms::{MOST_TERM_LEVELS, MOST_TERM_SIZE, Term};
 
-/// The term that the bytes read as, where it is within the limits of size and levels.
+/// Returns the term that the source parses as, if it is within the limits of size and depth.
 pub fn read_term(alloc: Global, bytes: &[u8]) -> Result<Term, TermFault>
     ensures found { IfOk result (λ term. Reads bytes.now term × IsWithinLimits term) }
 
-    // Nothing else keeps a term from being read.
+    // If the source parses as a term within the limits, the call returns this term or `NoMemory`.
     ensures only { (term : Term) → Reads bytes.now term → IsWithinLimits term
         → (result ≡ Ok term) ⊎ (result ≡ Err TermFault.NoMemory) }
     ensures fault { IfErr result (HasFault bytes.now) }
 
-    // Where the text has a fault, this is what comes.
+    // If the source has an error other than `NoMemory`, the call returns this error or `NoMemory`.
     ensures exact { (f : TermFault) → HasFault bytes.now f → f ≢ TermFault.NoMemory
         → (result ≡ Err f) ⊎ (result ≡ Err TermFault.NoMemory) }
 {
@@ -35,18 +35,18 @@ pub fn read_term(alloc: Global, bytes: &[u8]) -> Result<Term, TermFault>
     read_within(alloc, bytes, limits)
 }
 
-/// The same within other limits, where `TooLarge` and `TooDeep` are told by these.
+/// Returns the term that the source parses as, if it is within these limits. `TooLarge` and `TooDeep` refer to these limits.
 pub fn read_within(alloc: Global, bytes: &[u8], limits: Limits) -> Result<Term, TermFault>
     requires { limits.size < usize.MAX }
     ensures found { IfOk result
         (λ term. Reads bytes.now term × IsWithin limits.size limits.levels term) }
 
-    // Nothing else keeps a term from being read.
+    // If the source parses as a term within the limits, the call returns this term or `NoMemory`.
     ensures only { (term : Term) → Reads bytes.now term → IsWithin limits.size limits.levels term
         → (result ≡ Ok term) ⊎ (result ≡ Err TermFault.NoMemory) }
     ensures fault { IfErr result (HasFaultWithin limits.size limits.levels bytes.now) }
 
-    // Where the text has a fault, this is what comes.
+    // If the source has an error other than `NoMemory`, the call returns this error or `NoMemory`.
     ensures exact { (f : TermFault) → HasFaultWithin limits.size limits.levels bytes.now f
         → f ≢ TermFault.NoMemory → (result ≡ Err f) ⊎ (result ≡ Err TermFault.NoMemory) }
 {

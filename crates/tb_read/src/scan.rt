@@ -1,4 +1,4 @@
-//! The tokens of a whole text.
+//! The tokens of a whole source.
 ghost use Rattle.std.specs.Prelude.{◌≡◌, ◌≤◌, ◌<◌, [], length, IfOk, IfSome};
 ghost use Rattle.tb_read.specs.Helpers.Answers.{IsNext, HasScanned};
 
@@ -8,7 +8,7 @@ use crate::shape::Shape;
 use crate::token::Token;
 use std::alloc::Global;
 
-/// The tokens of a text that is one term.
+/// Returns the tokens of a source that is one term of any size and depth, or the first error.
 pub(crate) fn scan(alloc: Global, bytes: &[u8]) -> Result<Vec<Token>, TermFault>
     ensures { HasScanned bytes.now result }
 {
@@ -26,7 +26,7 @@ pub(crate) fn scan(alloc: Global, bytes: &[u8]) -> Result<Vec<Token>, TermFault>
     }
 }
 
-/// The next token and the bytes behind it, or none at the end.
+/// Returns the next token and the bytes after it, or `None` at the end of the source.
 fn next<'a>(
     alloc: Global,
     shape: &mut Shape,

@@ -1,4 +1,4 @@
-//! Which kind of token may come next.
+//! The kinds of token that can come next.
 ghost use Rattle.std.specs.Prelude.{◌≡◌, OnOk, OnErr};
 ghost use Rattle.tb_read.specs.Scanning.{start, allows, after, may_end, is_begin, may_continue};
 
@@ -8,16 +8,16 @@ use crate::token::Token;
 use std::alloc::Global;
 use tb_terms::NoMemory;
 
-/// What the next token may be.
+/// What the next token can be.
 #[derive(Clone, Copy, PartialEq, Eq)]
 pub(crate) enum Expect {
     /// The first token of a term.
     Term,
-    /// The first token of a term, or the end of an empty list.
+    /// The first token of a term, or the closing bracket of an empty list.
     First,
-    /// A comma or the closing bracket, behind a term.
+    /// After a term: a comma or the closing bracket. If no bracket is open, no token can follow.
     Further,
-    /// The same behind a name alone, or the parenthesis of its arguments.
+    /// After a name: as `Further`, or the left parenthesis before the arguments.
     Named,
 }
 
@@ -27,7 +27,7 @@ pub(crate) enum Bracket {
     Square,
 }
 
-/// What has been opened so far, and what is expected.
+/// The open brackets, and what is expected next.
 #[derive(Drop)]
 pub(crate) struct Shape {
     expect: Expect,
@@ -44,7 +44,7 @@ impl Shape {
         }
     }
 
-    /// Whether the next token may be of this kind.
+    /// Returns whether the next token can be of this kind.
     pub(crate) fn allows(&self, kind: Kind) -> bool
         ensures { result ≡ allows self.now kind }
     {
@@ -66,7 +66,7 @@ impl Shape {
         }
     }
 
-    /// Whether the text may end here.
+    /// Returns whether the source can end here.
     pub(crate) fn may_end(&self) -> bool
         ensures { result ≡ may_end self.now.expect self.now.brackets }
     {

@@ -7,7 +7,7 @@ use std::alloc::Global;
 use std::marker::Model;
 use tb_terms::NoMemory;
 
-/// A stack that contracts see as the list of its items, the last one in front.
+/// A stack. Contracts see it as the list of its items, from the top.
 #[derive(Drop)]
 pub(crate) struct Stack<T> {
     items: Vec<T>,

@@ -1,7 +1,7 @@
 //! The tokens of a term.
 use tb_terms::{Name, Text};
 
-/// What the text of a term is made of.
+/// A token of a term.
 #[derive(Drop)]
 pub(crate) enum Token {
     Int(i64),

@@ -1,4 +1,4 @@
--- Which inputs came in by a log, the text of their feed, and where a line of a tool is too long for a feed.
+-- The inputs of a log, the text of their feed, and the entries whose tool's line is too long for a feed.
 use Rattle.std.specs.Prelude.{◌≡◌, ℕ, ◌-◌, ◌<◌, ◌≤◌, List, [], ◌∷◌, ◌++◌, length, slice_get, Option, Some, None}
 use Rattle.std.specs.List.{filter_map, flat_map}
 use Rattle.tb_tool_line.specs.ToolLines.{most_line_bytes}
@@ -13,7 +13,7 @@ use Rattle.tb_log_read.specs.declared.fault.LogFault.TheVariants as log_fault
 use Rattle.tb_refeed.specs.declared.fault.RefeedFault.{RefeedFault}
 use Rattle.tb_refeed.specs.declared.fault.RefeedFault.TheVariants as fault
 
--- No line of a feed says that no more ticks come: a simulation delivers this input itself, behind its feed.
+-- The input that a line of a feed can represent: each one except the end of ticks, which a simulation delivers itself after its feed.
 abbrev pub said : Input → Option Input
 said input.Tick = Some input.Tick
 said input.NoTicks = None
@@ -21,25 +21,26 @@ said (input.Line lane line) = Some (input.Line lane line)
 said (input.Gone lane) = Some (input.Gone lane)
 said (input.Cut lane) = Some (input.Cut lane)
 
--- what came in by an entry, whatever the bus replied
+-- the input of an entry that a feed can represent, whatever the bus replied
 abbrev pub came_in_by : Entry → Option Input
 came_in_by (Did label) = None
 came_in_by Quiet = None
 came_in_by (Fed input reply) = said input
 came_in_by (Gave lane out) = None
 
--- All that came in, in order.
+-- The inputs of a log, in order, except the end of ticks.
 abbrev pub came_in : List Entry → List Input
 came_in log = filter_map came_in_by log
 
--- the words of an input in the log are its line in a feed
+-- the line of an input in a feed: the input's words in the log, and a newline
 abbrev pub feed_line : Input → List ℕ
 feed_line input = input_words input ++ 10 ∷ []
 
+-- the feed with these inputs
 abbrev pub feed_text : List Input → List ℕ
 feed_text inputs = flat_map feed_line inputs
 
--- the line of a tool has a text that is longer than a line of a feed can carry
+-- the entry is a tool's line whose text in the log is longer than a line of a tool can be
 abbrev pub IsTooLong : Entry → Type 0
 IsTooLong (Did label) = ⊥
 IsTooLong Quiet = ⊥
@@ -50,14 +51,14 @@ IsTooLong (Fed (input.Gone lane) reply) = ⊥
 IsTooLong (Fed (input.Cut lane) reply) = ⊥
 IsTooLong (Gave lane out) = ⊥
 
--- So is that of the entry with this number, from 1.
+-- The tool's line of the entry with this number, from 1, is too long for a feed.
 pub record IsTooLongAt (log : List Entry) (number : ℕ) : Type 0 where
   pub entry : Entry
   pub from_one : 1 ≤ number
   pub there : slice_get log (number - 1) ≡ Some entry
   pub long : IsTooLong entry
 
--- the first such entry of the log whose text the bytes are
+-- The bytes are the text of a log. The entry with this number is the first one whose tool's line is too long for a feed.
 pub record IsFirstTooLong (bytes : List ℕ) (number : ℕ) : Type 0 where
   pub log : List Entry
   pub is_log : IsLog log
@@ -65,12 +66,13 @@ pub record IsFirstTooLong (bytes : List ℕ) (number : ℕ) : Type 0 where
   pub here : IsTooLongAt log number
   pub first : (other : ℕ) → other < number → IsTooLongAt log other → ⊥
 
--- what a fault says of the bytes; running out of memory says nothing of them
+-- the claim of an error about the bytes; `NoMemory` makes none
 abbrev pub HasFault : List ℕ → RefeedFault → Type 0
 HasFault bytes (fault.Line number) = StopsAt bytes number
 HasFault bytes (fault.TooLong number) = IsFirstTooLong bytes number
 HasFault bytes fault.NoMemory = Unit {0}
 
+-- the error of `refeed` for an error of reading the log
 abbrev pub fault_of : LogFault → RefeedFault
 fault_of (log_fault.Line number) = fault.Line number
 fault_of log_fault.NoMemory = fault.NoMemory

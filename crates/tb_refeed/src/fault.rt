@@ -1,16 +1,16 @@
-//! The reasons why a log gives no feed.
+//! The errors of `refeed`.
 use std::alloc::AllocError;
 use tb_log_read::LogFault;
 use tb_terms::NoMemory;
 
-/// Why there is no feed.
+/// The reason why there is no feed.
 #[derive(Clone, Copy, Debug, PartialEq, Eq)]
 pub enum RefeedFault {
-    /// The first line of the bytes, counted from 1, that isn't the line of a log's entry with this number.
+    /// The first line, counted from 1, that isn't the line of a log entry with this number.
     Line(u64),
-    /// The first entry, by its number, with a line of a tool whose text is longer than the line of a feed can carry.
+    /// The number of the first entry with a tool's line whose text is too long for a feed: it has more than 65,536 bytes.
     TooLong(u64),
-    /// There wasn't memory enough; it says nothing of the log.
+    /// Out of memory. This makes no claim about the log.
     NoMemory,
 }
 

@@ -1,4 +1,4 @@
-//! The feed that delivers again what came in: written from a log, for a simulation.
+//! The feed with the inputs of a log, with which a simulation can repeat a run.
 #![tactic(auto)]
 
 mod fault;

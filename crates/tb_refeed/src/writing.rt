@@ -1,4 +1,4 @@
-//! How the lines of a feed are written.
+//! How the feed with the inputs of a log is written.
 
 ghost use Rattle.std.specs.Prelude.{◌≡◌, ◌++◌, ◌∷◌, [], ℕ, List, length, decimal, ◌+◌, ◌≤◌, IfOk, IfErr, OnOk, true};
 ghost use Rattle.std.specs.List.{All, flat_map};
@@ -17,14 +17,15 @@ use tb_log::{Entry, Input, Reply, Seen, write_seen};
 use tb_log_read::read_log;
 use tb_terms::NoMemory;
 
-/// How many bytes the log writes around the words of an entry without a number of its own: `0`, a blank, and the newline.
+/// The number of bytes around the words of an entry in a log line with the number 0: `0`, a space, and the newline.
 const AROUND: usize = 3;
 
-/// How many bytes stand before a tool's line in its words, but for the number of the lane.
+/// The number of bytes before the tool's line in the words of an input (`line 3 ...`), without the digits of the lane's number.
 const BEFORE: usize = 6;
 
-/// Writes the feed that delivers again what came in by a log, given as its text: a line for each input, in order, whatever the
-/// bus replied. No feed says that no more ticks come, so this input is left out; a simulation delivers it behind its feed.
+/// Returns the feed that has the inputs of a log, given as the log's text: a line for each input, in order, whether the bus accepted or
+/// dropped it. The feed omits the end of ticks (`noticks`), because no line of a feed represents it. A simulation delivers the end of
+/// ticks after its feed.
 pub fn refeed(alloc: Global, log: &[u8]) -> Result<Vec<u8>, RefeedFault>
     ensures feed { IfOk result (λ feed. (entries : List Entry) × IsLog entries
         × (log.now ≡ log_text entries) × IsFeedOf feed.items (came_in entries)) }
@@ -32,7 +33,7 @@ pub fn refeed(alloc: Global, log: &[u8]) -> Result<Vec<u8>, RefeedFault>
         → IfOk result (λ feed. feed.items ≡ feed_text (came_in entries)) }
     ensures fault { IfErr result (HasFault log.now) }
 
-    // Nothing else keeps the feed from being written.
+    // If the bytes are the text of a log without a line that is too long, the call returns a feed or `NoMemory`.
     ensures only { (entries : List Entry) → IsLog entries → log.now ≡ log_text entries
         → ((number : ℕ) → IsTooLongAt entries number → ⊥)
         → IfErr result (λ fault. fault ≡ RefeedFault.NoMemory) }
@@ -41,7 +42,7 @@ pub fn refeed(alloc: Global, log: &[u8]) -> Result<Vec<u8>, RefeedFault>
     write_feed(alloc, entries.as_slice())
 }
 
-/// Writes the lines of what came in by these entries.
+/// Returns the feed lines of the inputs of these entries. Returns `TooLong` at the first input whose line is too long.
 fn write_feed(alloc: Global, entries: &[Entry]) -> Result<Vec<u8>, RefeedFault>
     requires { All InShape entries.now }
     ensures text { IfOk result (λ feed. feed.items ≡ flat_map entry_line entries.now) }
@@ -58,7 +59,8 @@ fn write_feed(alloc: Global, entries: &[Entry]) -> Result<Vec<u8>, RefeedFault>
     Ok(feed)
 }
 
-/// Appends the line of what came in by an entry, if anything did. Returns `false` where it is too long.
+/// Appends the feed line of an entry's input, if the entry has an input that a feed represents. Returns `false` if the line is too long;
+/// the feed is then unchanged.
 fn push_entry(entry: &Entry, line: &mut Vec<u8>, feed: &mut Vec<u8>) -> Result<bool, NoMemory>
     requires { InShape entry.now }
     ensures short { IfOk result (λ short. short ≡ is_short entry.now) }
@@ -72,7 +74,8 @@ fn push_entry(entry: &Entry, line: &mut Vec<u8>, feed: &mut Vec<u8>) -> Result<b
     }
 }
 
-/// Appends the line of an input: that of the log, without a number. Returns `false` where it is too long.
+/// Appends the feed line of an input: the input's line of the log, without the number. Returns `false` if the line is too long; the feed
+/// is then unchanged.
 fn push_input(input: &Input, line: &mut Vec<u8>, feed: &mut Vec<u8>) -> Result<bool, NoMemory>
     requires { IsInputInShape input.now }
     ensures short { IfOk result (λ short. short ≡ is_short_input input.now) }
@@ -88,7 +91,7 @@ fn push_input(input: &Input, line: &mut Vec<u8>, feed: &mut Vec<u8>) -> Result<b
     Ok(true)
 }
 
-/// Whether a line of so many bytes, as the log writes it, is that of an input that a feed can carry.
+/// Returns whether an input is short enough for a feed. `bytes` is the length of its line in a log, with the number 0.
 fn is_within(input: &Input, bytes: usize) -> bool
     requires shape { IsInputInShape input.now }
     requires long { bytes ≡ length (feed_line input.now) + 2 }
@@ -100,7 +103,7 @@ fn is_within(input: &Input, bytes: usize) -> bool
     }
 }
 
-/// How many digits the number of a lane has.
+/// Returns the number of digits of a lane's number.
 fn number_len(lane: u8) -> usize
     requires { IsLane lane }
     ensures value { result ≡ length (decimal lane) }

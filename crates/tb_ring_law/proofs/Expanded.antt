@@ -1,4 +1,4 @@
--- What the ring's processes become: its program.
+-- The program of the ring, from its processes.
 use Rattle.std.proofs.Common.{◌≡◌, ℕ, zero, suc, ◌+◌, ◌*◌, pos, Bool, false, ltb, ◌||◌, List, [], ◌∷◌, ◌++◌, length, map, Some, None, option_map, cond, refl, ap, sym, ◌∙◌, arith, rules, codes}
 use Rattle.std.specs.List.{Contains, AllZip}
 use Rattle.tb_terms.specs.declared.expr.Expr.{the_lemmas as expr_lemmas}

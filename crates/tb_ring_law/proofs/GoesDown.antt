@@ -1,4 +1,4 @@
--- The ring goes down.
+-- The simulation of the ring ends because the bus has shut down.
 use Rattle.std.proofs.Common.{◌≡◌, ℕ, ◌+◌, ◌-◌, ◌*◌, ◌≤◌, List, [], ◌++◌, map, refl, ap, sym, subst, arith}
 use Rattle.tb_body.specs.declared.program.Program.{Program}
 use Rattle.tb_bus.specs.Buses.{Proc, opened}

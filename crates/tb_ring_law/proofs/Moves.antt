@@ -1,4 +1,4 @@
--- What each process of the ring may do, by where it stands.
+-- The possible steps of each process of the ring, by its state.
 use Rattle.std.proofs.Common.{◌≡◌, ◌≢◌, ℕ, ◌+◌, ◌≤◌, ◌<◌, Bool, true, false, List, [], ◌∷◌, ◌++◌, map, Option, Some, None, option_map, option_and_then, refl, ap, ◌∙◌}
 use Rattle.std.specs.List.{flat_map}
 use Rattle.tb_terms.specs.declared.term.Term.{Term}
@@ -55,7 +55,7 @@ message target t = worth target ∷ worth t ∷ []
 abbrev pub bind_of : ℕ → ℕ → List Bind
 bind_of slot t = record { slot = slot; value = worth t } ∷ []
 
--- the bus goes down
+-- the bus shuts down
 abbrev pub down_effect : Effect
 down_effect = record { kind = kind.Shutdown; shown = done_term ∷ []; binds = []; change = GoesDown done_term }
 

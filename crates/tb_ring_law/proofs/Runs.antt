@@ -1,4 +1,4 @@
--- The ring's simulation: message after message goes round, and then the bus goes down.
+-- The ring's simulation: message after message goes round, and then the bus shuts down.
 use Rattle.std.proofs.Common.{◌≡◌, ℕ, zero, suc, ◌+◌, ◌-◌, ◌*◌, ◌≤◌, ◌<◌, Bool, true, false, cond, List, [], ◌∷◌, ◌++◌, map, length, Some, refl, ap, sym, ◌∙◌, subst, arith, ◌⊎◌, inl, inr, append_assoc}
 use Rattle.std.specs.List.{slice_get}
 use Rattle.std.proofs.lemmas.Bool.{and_from, le-leb, lt-leb, eq-eqb, ne_eqb}
@@ -29,7 +29,7 @@ use Rattle.tb_ring_law.proofs.Steps.{Hands, first-step, first-in-turn, first-han
 abbrev pub limits : Limits
 limits = record { steps = 4000000; entries = 4000000 }
 
--- where the simulation stands after so many steps
+-- the state of the simulation after this number of steps
 abbrev pub sim_at : Program → List Proc → ℕ → List Entry → ℕ → Sim
 sim_at program procs starter log made = record { bus = bus_of program procs starter; log = log; steps_made = made; quiet = false; left = [] }
 
@@ -63,7 +63,7 @@ module _ (program : Program) where
       ∙ ap (λ (b : Bool). cond b (Ends Steps) (makes limits sim (Did label) next)) (lt-leb 4000000 made (omega (arith, most)))
       ∙ ap (λ (b : Bool). cond b (Makes (Did label) (record next { log = log ++ Did label ∷ [] })) (Ends Events)) has
 
-  -- a message is handed on
+  -- a process sends the message on
   turn-hands : (procs : List Proc) (starter : ℕ) (log : List Entry) (made : ℕ) (after : List Proc) (next : ℕ) (hands : Hands program procs starter after next) → made ≤ 1000000 → Kept log made
       → turn limits (sim_at program procs starter log made) ≡ Makes (Did hands.label) (sim_at program after next (log ++ Did hands.label ∷ []) (made + 1))
   turn-hands procs starter log made after next hands most kept =

@@ -1,4 +1,4 @@
--- What the ring's atoms send, test and receive.
+-- The values that the ring's atoms send, test and receive.
 use Rattle.std.proofs.Common.{◌≡◌, ◌≢◌, ℕ, ◌+◌, ◌≤◌, ◌<◌, pos, ℤ, Bool, true, false, List, [], ◌∷◌, map, Option, Some, None, option_map, option_and_then, refl, ap, ◌∙◌, arith, rules, codes, cond}
 use Rattle.std.specs.Prelude.{int_lt}
 use Rattle.std.proofs.lemmas.Bool.{false_from_ne_true}

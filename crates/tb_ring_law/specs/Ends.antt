@@ -1,4 +1,4 @@
--- The ring ends well: its script is accepted, and its simulation ends with the bus down.
+-- The ring ends well: its script is accepted, and its simulation ends because the bus has shut down.
 use Rattle.std.specs.Prelude.{◌≡◌, ℕ, ◌*◌, List, [], ◌∷◌, ◌++◌, map, replicate, Option, Some, None}
 use Rattle.tb_body.specs.declared.program.Program.{Program}
 use Rattle.tb_bus.specs.declared.origin.Origin.{Origin}
@@ -12,27 +12,27 @@ use Rattle.tb_script.specs.Findings.{IsFound, Program'}
 use Rattle.tb_sim.specs.Simulation.{IsSim, limits_of, sim_start}
 use Rattle.tb_sim.specs.declared.ends.SimEnd.TheVariants.{Down}
 
--- how many steps the simulation may make, and how many entries its log may have
+-- the greatest number of steps of the simulation, and of entries of its log
 abbrev pub most_steps : ℕ
 most_steps = 4000000
 
--- the program alone: no command is connected
+-- the origin of a program without connected commands
 abbrev pub alone : Program → Origin
 alone program = origin_of program [] most_steps
 
--- what kind of step an entry is, where it is one
+-- the kind of the step of an entry, if the entry is a step
 abbrev pub step_kind : Entry → Option LabelKind
 step_kind (Did label) = Some label.kind
 step_kind Quiet = None
 step_kind (Fed input reply) = None
 step_kind (Gave lane out) = None
 
--- so many messages, and then one shutdown
+-- the kinds of the entries of a log: this number of messages, and then one shutdown
 abbrev pub messages_then_end : ℕ → List (Option LabelKind)
 messages_then_end count = replicate count (Some kind.Msg) ++ Some kind.Shutdown ∷ []
 
--- The script of n processes, which a message goes round k times, has this program, and nothing else is found of it; within
--- the limits its simulation makes this log, n times k messages and one shutdown, and then the bus is down.
+-- The script of a ring of n processes that a message goes round k times has this program and no error. Within the limits, its simulation
+-- makes this log: n times k messages and one shutdown. Then the simulation ends because the bus has shut down.
 pub record GoesDown (n k : ℕ) : Type 0 where
   pub program : Program
   pub found : IsFound (ring_text n k) (Program' program)

@@ -1,4 +1,4 @@
-//! A law of the ring: its script is accepted, and its simulation ends with the bus down.
+//! A theorem about the ring: its script is accepted, and its simulation ends because the bus has shut down.
 #![tactic(auto)]
 
 mod laws;

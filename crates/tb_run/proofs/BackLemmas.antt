@@ -1,4 +1,4 @@
--- What comes back of a crew, and the result of a run by it.
+-- The answer of a crew, and the result of a run by this answer.
 use Rattle.std.proofs.Common.{◌≡◌, ℕ, List, [], ◌∷◌, ◌++◌, map, length, Option, Some, None, MatchOption, Result, Ok, Err, IfOk, IfErr, OnOk, sym, ap, ◌∙◌, subst}
 use Rattle.std.specs.List.{All}
 use Rattle.tb_edge.specs.Ends.{InletView, ClockView}

@@ -1,4 +1,4 @@
--- A run that is computed: a tool that writes three bad lines and ends.
+-- A computed run: a tool writes three bad lines and ends.
 use Rattle.std.proofs.Common.{◌≡◌, ℕ, ◌≤◌, ◌++◌, List, [], ◌∷◌, inl, inr, replicate, take, refl, ap, sym, ◌∙◌, subst, arith, codes, false, true, rules, Option, Some, None, Bool}
 use Rattle.std.specs.Prelude.{map}
 use Rattle.std.specs.Fmt.{digits}

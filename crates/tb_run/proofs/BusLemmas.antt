@@ -1,4 +1,5 @@
--- The law of one bus: what the seat has seen in which all of its seats have become one again, from what the workers of its lanes and those beside them have done.
+-- The theorem about one bus: the entries that the last seat has seen after all seats were joined to it, from the effects of the workers of
+-- the lanes and of the other seats.
 use Rattle.std.proofs.Common.{◌≡◌, ◌≤◌, ◌+◌, ◌⊎◌, ℕ, List, [], ◌∷◌, ◌++◌, map, length, true, Option, None, refl, sym, ap, ◌∙◌, subst, inl, inr, length-append, arith}
 use Rattle.std.specs.Prelude.{⊤}
 use Rattle.std.specs.List.{All, AllZip, list_any, fold}
@@ -79,7 +80,8 @@ module _ (begun last : SeatView) (rights further joined : List Rights) (all : Li
       let most : most_seats ≡ 64 = refl in
       omega (arith, whole, one, two, sum, most, count, few)
 
--- What is known of a bus whose seats were passed on and have become one again as they were; these are the seats in addition to those of the workers of its lanes.
+-- What is known of a bus whose seats were passed on and have become one again as they were; these are the seats in addition to those of
+-- the workers of its lanes.
 pub record BusIdle (begun last : SeatView) (rights further : List Rights) (asides : List SeatView) : Type 0 where
   pub bus : last.bus ≡ begun.bus
   pub origin : last.origin ≡ begun.origin
@@ -123,7 +125,8 @@ module _ (begun last : SeatView) (rights further : List Rights) (asides seats : 
   }
 
 -- One bus, as the functions of a run say it of its parts: the workers of the lanes from a number on and the stepper, whose seats have these
--- rights; and the other seats, in the order in which they were joined. `further` are the rights of these, in the order in which they were passed on.
+-- rights; and the other seats, in the order in which they were joined. `further` are the rights of these, in the order in which they were
+-- passed on.
 pub record BusCourse {X I O : Type 0} (seat : X → SeatView) (ended : X → WorkEnd) (work : X → Work I O) (gave : I → Option InletView) (fails : I → ℕ) (took : O → Option (List Taken)) (faults : O → ℕ)
     (from : ℕ) (begun last : SeatView) (rights further : List Rights) (asides : List (Worked begun)) (is is_new : List I) (os os_new : List O) (xs ys : List X) : Type 0 where
   pub first : begun ≡ first_seat begun.bus begun.origin

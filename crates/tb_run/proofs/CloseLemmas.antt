@@ -1,4 +1,4 @@
--- The result of a run once its bus is closed and the rest of the log was written.
+-- The result of a run after its bus was closed and the rest of the log was written.
 use Rattle.std.proofs.Common.{◌≡◌, ◌≤◌, ◌+◌, ◌⊎◌, ℕ, List, ◌++◌, length, drop, Option, sym, ap, ◌∙◌, subst, inl, inr, append_assoc, length-append, arith}
 use Rattle.std.specs.Prelude.{IsTrue}
 use Rattle.std.specs.List.{list_all}

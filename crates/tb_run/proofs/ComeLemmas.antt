@@ -1,4 +1,4 @@
--- The result of a run before the bus is closed: the theorem on its bus, and with it those on its log's writer and its clock.
+-- The result of a run before the bus is closed: the theorems about its bus, its log's writer and its clock together.
 use Rattle.std.proofs.Common.{◌≡◌, ◌+◌, ℕ, List, [], ◌∷◌, ◌++◌, map, length, Bool, true, false, ◌||◌, Option, Some, None, refl, sym, ap, ◌∙◌, subst, inl, inr, ⊎_elim, append_assoc, append-nil, arith}
 use Rattle.std.specs.List.{All, list_any}
 use Rattle.tb_edge.specs.Ends.{InletView, ClockView}

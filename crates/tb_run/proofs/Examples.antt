@@ -1,4 +1,4 @@
--- Worked runs, computed from the definitions alone: what they share.
+-- The common parts of the example runs, which are computed from the definitions alone.
 use Rattle.std.proofs.Common.{length-append, ◌≡◌, ℕ, ◌≤◌, ◌<◌, IsAscii, lit<, List, [], ◌∷◌, replicate, inl, map, refl, ap, sym, ◌∙◌, subst, arith, false, true, Option, Some, None, Bool, not, ◌&&◌, ◌+◌, ◌-◌, ◌++◌, suc, zero, length, Contains, inr, slice_get}
 use Rattle.std.specs.Prelude.{nat_eq, slice_index_or, filter, ◌⊎◌}
 use Rattle.std.specs.Str.{is_utf8}

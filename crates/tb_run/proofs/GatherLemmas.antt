@@ -1,4 +1,4 @@
--- The seats in addition to those of the workers, when all are gathered.
+-- The seats in addition to the workers' seats, when all seats are gathered.
 use Rattle.std.proofs.Common.{◌≡◌, zero, suc, List, [], ◌∷◌, ◌++◌, map, arith}
 use Rattle.std.specs.List.{All}
 use Rattle.atomic_table.specs.Seated.{TableId}

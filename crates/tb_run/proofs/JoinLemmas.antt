@@ -1,4 +1,4 @@
--- After all joins each seat has seen, of its own entries, just those that it had seen before.
+-- After all joins, each seat has seen exactly those of its own entries that it had seen before.
 use Rattle.std.proofs.Common.{◌≡◌, ℕ, suc, arith, List, [], ◌∷◌, ◌++◌, Bool, true, false, ◌||◌, refl, sym, ap, ◌∙◌, subst, append_assoc, append-nil, map, ◌+◌, ◌⊎◌, inl, inr, ⊎_elim}
 use Rattle.std.specs.List.{All, fold}
 use Rattle.tb_log.specs.declared.entry.Entry.{Entry}

@@ -1,4 +1,4 @@
--- What a run says of a lane, from what its two workers have done and how their seats were joined.
+-- The claims of a run about a lane, from the effects of its two workers and from how their seats were joined.
 use Rattle.std.proofs.Common.{◌≡◌, ◌≤◌, ◌⊎◌, ℕ, List, [], ◌∷◌, ◌++◌, map, length, Bool, true, false, ◌||◌, is_some, refl, sym, ap, ◌∙◌, subst, inl, inr, ⊎_elim, append_assoc, append-nil, arith}
 use Rattle.std.proofs.lemmas.List.{nil_from_length}
 use Rattle.tb_edge.specs.Ends.{and_given, and_taken}

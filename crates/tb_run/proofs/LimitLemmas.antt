@@ -1,4 +1,4 @@
--- A run whose call was refused because the log was full shows that the log is at its limit.
+-- If a call of a run was rejected because the log was full, the log is at its limit.
 use Rattle.std.proofs.Common.{◌≡◌, ◌≤◌, ◌+◌, ℕ, List, [], ◌∷◌, ◌++◌, length, true, sym, subst, inl, inr}
 use Rattle.tb_log.specs.declared.entry.Entry.{Entry}
 use Rattle.tb_log.specs.declared.entry.Input.TheVariants as input

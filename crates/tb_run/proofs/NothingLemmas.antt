@@ -1,4 +1,4 @@
--- A run that didn't begin: nothing was logged, and the environment is as it was.
+-- A run that didn't begin: nothing was logged, and the environment is unchanged.
 use Rattle.std.proofs.Common.{◌≡◌, ◌≤◌, ◌+◌, ℕ, List, [], ◌∷◌, ◌++◌, length, false, Option, refl, sym, ap, ◌∙◌, subst, inl, arith}
 use Rattle.std.specs.Prelude.{IsTrue}
 use Rattle.std.specs.List.{list_all}

@@ -1,4 +1,4 @@
--- How the first seat of a bus is parted: each worker has its right, and all come together again.
+-- How the first seat of a bus is split: each worker has its right, and all rights together are the rights of the first seat.
 use Rattle.std.proofs.Common.{◌≡◌, ◌-◌, ◌+◌, ℕ, suc, nat_eq, nat_le, List, [], ◌∷◌, ◌++◌, map, length, Bool, true, false, not, ◌&&◌, ◌||◌, refl, ap, ◌∙◌, arith}
 use Rattle.std.specs.Prelude.{bit_and}
 use Rattle.std.specs.List.{AllZip, fold}

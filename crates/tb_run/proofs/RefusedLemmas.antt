@@ -1,4 +1,4 @@
--- What a run shows of a worker of a lane with a call that was refused because the log was full.
+-- The claims of a run about a worker of a lane whose call was rejected because the log was full.
 use Rattle.std.proofs.Common.{◌≡◌, ◌⊎◌, ℕ, List, [], ◌∷◌, ◌++◌, true, false, sym, ap, ◌∙◌, subst, inl, inr, append_assoc}
 use Rattle.tb_edge.specs.Ends.{and_given}
 use Rattle.tb_edge.specs.Faults.{Rose}

@@ -1,4 +1,4 @@
--- What a run says of all its lanes, from what each worker has done and how all seats came together.
+-- The claims of a run about all its lanes, from the effects of each worker and from how all seats were joined.
 use Rattle.std.proofs.Common.{◌≡◌, ◌≤◌, ◌<◌, ◌+◌, ◌⊎◌, ℕ, zero, suc, List, [], ◌∷◌, ◌++◌, map, length, Bool, true, false, ◌||◌, Option, Some, refl, sym, ap, ◌∙◌, subst, inl, inr, ⊎_elim, append-nil, arith}
 use Rattle.std.specs.List.{All, AllZip, list_any, cons_option}
 use Rattle.std.specs.Prelude.{⊤}

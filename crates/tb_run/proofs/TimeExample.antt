@@ -1,4 +1,4 @@
--- What the log of a run may say of time, computed for small logs.
+-- The claims of a run about time, computed for small logs.
 use Rattle.std.proofs.Common.{◌≡◌, ℕ, List, [], ◌∷◌, ◌++◌, inl, inr, refl, ap, sym, ◌∙◌, subst, arith, false, true, Option, Some, None, Bool, ◌+◌}
 use Rattle.tb_edge.specs.Ends.{ClockView}
 use Rattle.tb_log.specs.declared.entry.Input.TheVariants.{Tick, NoTicks}

@@ -1,4 +1,4 @@
--- The jobs lane by lane: what was done with the readers and the writers, as two lists of ends.
+-- The jobs lane by lane: the effects of the readers and the writers, as two lists of ends.
 use Rattle.std.proofs.Common.{◌≡◌, ◌+◌, ◌⊎◌, ℕ, suc, List, [], ◌∷◌, ◌++◌, map, length, Bool, true, false, ◌||◌, Option, refl, ap, ◌∙◌, inl, inr, ⊎_elim, arith}
 use Rattle.std.specs.List.{AllZip, list_any, cons_option}
 use Rattle.tb_edge.specs.Jobs.{AllDone}

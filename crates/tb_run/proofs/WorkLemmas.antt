@@ -1,4 +1,4 @@
--- What comes back of the workers, whether there was a crew or not.
+-- The workers after the call of the crew, whether the crew did the jobs or not.
 use Rattle.std.proofs.Common.{◌≡◌, ◌+◌, ℕ, zero, suc, List, [], ◌∷◌, ◌++◌, map, length, Option, refl, sym, ap, ◌∙◌, subst, append-nil, arith}
 use Rattle.std.proofs.lemmas.List.{length-map}
 use Rattle.std.specs.List.{All, AllZip, cons_option}

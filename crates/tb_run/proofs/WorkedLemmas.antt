@@ -1,4 +1,5 @@
--- The seats that the first seat of a bus has passed on, from when each was new until it was given back, and the state of the seat in which all have become one again.
+-- The seats that the first seat of a bus has split off, from when each was new until it was joined again, and the state of the last seat
+-- after all seats were joined to it.
 use Rattle.std.proofs.Common.{◌≡◌, ◌+◌, ℕ, suc, List, [], ◌∷◌, ◌++◌, map, length, Bool, true, false, nat_lt, Option, None, MatchOption, if◌then◌else◌, refl, sym, ap, ◌∙◌, subst, arith}
 use Rattle.std.specs.Prelude.{⊤}
 use Rattle.std.specs.List.{fold}
@@ -29,7 +30,8 @@ abbrev pub EachNew : SeatView → List SeatView → Type 0
 EachNew first [] = ⊤
 EachNew first (seat ∷ seats) = IsNew first seat × EachNew first seats
 
--- A seat that the first seat of a bus has passed on, when it was new and when it was given back; and why its worker ended, if it had one that reports.
+-- A seat that the first seat of a bus has passed on, when it was new and when it was given back; and why its worker ended, if it had one
+-- that reports.
 pub record Worked (first : SeatView) : Type 0 where
   pub begun : SeatView
   pub done : SeatView

@@ -1,4 +1,4 @@
--- What each of four workers may say of itself, computed on the logs of two runs.
+-- The claims about each of the four workers, computed on the logs of two runs.
 use Rattle.std.proofs.Common.{◌≡◌, ℕ, List, [], ◌∷◌, ◌++◌, inl, inr, refl, ap, sym, ◌∙◌, subst, arith, codes, false, true, Option, Some, None, Bool}
 use Rattle.tb_edge.specs.declared.given.Given.{Given}
 use Rattle.tb_edge.specs.declared.given.Taken.{Taken}
@@ -116,7 +116,8 @@ none-down gives over reads =
 none-failed : (gives : List Given) (over : Bool) → Read gives over end.Failed → ⊥
 none-failed gives over reads = reads.ends
 
--- it says that the log was full or that there was no memory, and hasn't stopped the bus; or that the bus was stopped, though no call was answered `Stopped`
+-- it says that the log was full or that there was no memory, and hasn't stopped the bus; or that the bus was stopped, though no call was
+-- answered `Stopped`
 none-full : (gives : List Given) (over : Bool) → Read gives over end.Full → ⊥
 none-full gives over reads = let e : ◌≡◌ {A = Bool} false true = reads.marks.0 in cc
 

@@ -1,4 +1,4 @@
--- What a run has done once it ends, by the log of the core that it returns, and by the items that the environment gave and took in the call.
+-- The effects of a run, by the log of the core that it returns, and by the items that the environment gave and took in the call.
 use Rattle.std.specs.Prelude.{◌≡◌, ◌≤◌, ◌⊎◌, ℕ, Bool, true, ◌||◌, List, [], ◌++◌, length, map, None, is_some, IsTrue, ⊤}
 use Rattle.std.specs.List.{list_all}
 use Rattle.tb_edge.specs.Faults.{Rose}
@@ -29,21 +29,24 @@ use Rattle.tb_run.specs.Workers.{AreLines, CountsTo, cut_count, was_over}
 use Rattle.tb_run.specs.declared.ends.RunWhy.{RunWhy}
 use Rattle.tb_run.specs.declared.ends.RunWhy.TheVariants.{Ended, Crew, Clock, Out as Sink, Events, NoMemory}
 
+-- an input that the inlet of this lane gives: a line, or the end of a tool's output
 abbrev pub is_of : ℕ → Input → Bool
 is_of lane it = is_some (given_on lane it)
 
--- A lane after a run that went to its end: the log has exactly the lines and ends that the inlet gave, and the outlet took exactly the items that the log sends and doesn't cut off.
+-- A lane after a complete run: the log has exactly the lines and ends that the inlet gave, and the outlet took exactly the items that the
+-- log sends and doesn't cut off.
 pub record LaneRan (log : List Entry) (lane : ℕ) (old new : LaneView) : Type 0 where
   pub given : List Given
   pub over : Bool
   pub gave : new.gave ≡ and_given old.gave given over
   pub lines : AreLines lane given (inputs log lane)
-  -- it was read to the end, or the bus had shut down
+  -- the inlet is over, or an input of the lane was dropped because the bus had shut down
   pub end : (over ≡ true) ⊎ HasDropped (is_of lane) log
   pub took : new.took ≡ and_taken old.took (map taken_of (sent log lane))
   pub cuts : CountsTo old.outlet_faults new.outlet_faults (cut_count lane log)
 
--- A lane after a run that was stopped: the log may lack the last item of the inlet. The outlet may lack the last item that the log sends, if the outlet failed to take it.
+-- A lane after an interrupted run: the log may lack the last item of the inlet. The outlet may lack the last item that the log sends, if
+-- the outlet failed to take it.
 pub record LaneStopped (log : List Entry) (lane : ℕ) (old new : LaneView) : Type 0 where
   pub fed : List Given
   pub last : List Given
@@ -51,7 +54,7 @@ pub record LaneStopped (log : List Entry) (lane : ℕ) (old new : LaneView) : Ty
   pub gave : new.gave ≡ and_given old.gave (fed ++ last) over
   pub lines : AreLines lane fed (inputs log lane)
   pub one : length last ≤ 1
-  -- if the inlet was read to the end, in the call or before, the log lacks nothing of it
+  -- if the inlet is over, in the call or before it, the log lacks none of its items
   pub whole : (over || was_over old.gave) ≡ true → last ≡ []
   pub put : List Out
   pub lost : List Out
@@ -61,7 +64,7 @@ pub record LaneStopped (log : List Entry) (lane : ℕ) (old new : LaneView) : Ty
   pub failed : (lost ≡ []) ⊎ Rose old.outlet_faults new.outlet_faults
   pub cuts : CountsTo old.outlet_faults new.outlet_faults (cut_count lane log)
 
--- the bus has shut down, and nothing is left in the queue
+-- the bus has shut down, and no item is queued on any lane
 pub record IsDone (bus : Bus) : Type 0 where
   pub down : bus.down ≡ true
   pub empty : (lane : ℕ) → IsLane lane → next_out lane bus.bench ≡ None
@@ -71,18 +74,19 @@ pub record IsRunOf (origin : Origin) (log : List Entry) : Type 0 where
   pub trace : IsTrace (start origin) log
   pub sparse : IsSparse log
 
--- How a run ends, by its answer: the limit of ticks, the view of the environment before and after, and the core that it returns.
+-- The effects of a run, by its answer: on the views of the environment before and after the call, and on the returned core. The number is
+-- the limit of ticks.
 abbrev pub RunOutcome : ℕ → OutsideView → OutsideView → CoreState → RunWhy → Type 0
--- to its end, and no failure of the clock is why its ticks ended
+-- a complete run; a failure of the clock isn't the reason why ticks ended
 RunOutcome most old new back Ended =
     Writes old.put new.put (log_text back.log) × EachLane (LaneRan back.log) 1 old.lanes new.lanes
     × ClockRan back.log most old.clock new.clock ⊥ × IsDone (replay (start back.origin) back.log)
--- to its end, though the clock failed
+-- a complete run; the clock failed
 RunOutcome most old new back Clock =
     Writes old.put new.put (log_text back.log) × EachLane (LaneRan back.log) 1 old.lanes new.lanes
     × ClockRan back.log most old.clock new.clock (Rose old.clock_faults new.clock_faults) × IsDone (replay (start back.origin) back.log)
     × Rose old.clock_faults new.clock_faults
--- the log was full, and a call was refused for that; the log has the greatest number of entries, or is so large that an entry might not fit
+-- a call was rejected because the log was full; the log has its greatest number of entries, or is so large that an entry might not fit
 RunOutcome most old new back Events =
     Writes old.put new.put (log_text back.log) × EachLane (LaneStopped back.log) 1 old.lanes new.lanes
     × ClockStopped back.log most old.clock new.clock (Rose old.clock_faults new.clock_faults) × IsAtLimit (largest_command back.origin) back.origin back.log
@@ -99,26 +103,27 @@ RunOutcome most old new back NoMemory =
 RunOutcome most old new back Crew =
     (new.put ≡ old.put) × (new.lanes ≡ old.lanes) × (new.clock ≡ old.clock) × (back.log ≡ []) × Rose old.crew_faults new.crew_faults
 
--- The counts of failures of the crew, the sink and the clock, by the answer. If several reasons apply, the first is reported, in this order: memory, the crew, the
--- sink, the limit of the log, the clock. So the count of each that comes before the answer stays. Memory and the limit have no count: the rest of the outcome
--- shows that the limit hid nothing.
+-- The counts of failures of the crew, the sink and the clock, by the answer. If several reasons apply, the first is reported, in this
+-- order: memory, the crew, the sink, the limit of the log, the clock. So the count of each reason before the answer in this order is
+-- unchanged. Memory and the limit have no count. At `Clock` and `Ended`, the rest of the outcome shows that the log had capacity for
+-- each entry.
 abbrev pub TellsFirst : OutsideView → OutsideView → RunWhy → Type 0
 TellsFirst old new NoMemory = ⊤
--- the counts of the sink and the clock stay too
+-- the counts of the sink and the clock are unchanged too
 TellsFirst old new Crew = Rose old.crew_faults new.crew_faults × (new.out_faults ≡ old.out_faults) × (new.clock_faults ≡ old.clock_faults)
 TellsFirst old new Sink = (new.crew_faults ≡ old.crew_faults) × Rose old.out_faults new.out_faults
 TellsFirst old new Events = (new.crew_faults ≡ old.crew_faults) × (new.out_faults ≡ old.out_faults)
 TellsFirst old new Clock = (new.crew_faults ≡ old.crew_faults) × (new.out_faults ≡ old.out_faults) × Rose old.clock_faults new.clock_faults
--- neither the crew, the sink nor the clock failed
+-- the counts of the crew, the sink and the clock are unchanged
 TellsFirst old new Ended = (new.crew_faults ≡ old.crew_faults) × (new.out_faults ≡ old.out_faults) × (new.clock_faults ≡ old.clock_faults)
 
--- `run`, of a core that was started there
+-- the result of `run`, for a core with this origin
 pub record Runs (most : ℕ) (old new : OutsideView) (origin : Origin) (back : CoreState) (it : RunWhy) : Type 0 where
   pub origin_is : back.origin ≡ origin
   pub history : IsRunOf back.origin back.log
-  -- its entries are well-formed: so it is the only log with its text
+  -- the entries are well-formed: so the log is the only one with its text
   pub proper : IsTrue (list_all is_proper_entry back.log)
-  -- it has no more entries than its limit
+  -- the log has no more entries than its limit
   pub within : length back.log ≤ back.origin.limit
   pub outcome : RunOutcome most old new back it
   pub first : TellsFirst old new it

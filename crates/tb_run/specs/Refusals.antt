@@ -1,4 +1,4 @@
--- What a run shows that found the log full: which call was refused, and that the reason of the call is there.
+-- The claims about a run that found the log full: which call was rejected, and why a worker made this call.
 use Rattle.std.specs.Prelude.{◌≡◌, ◌+◌, ◌⊎◌, ℕ, Bool, true, false, List, [], ◌∷◌, ◌++◌, map, filter, Option}
 use Rattle.tb_edge.specs.Faults.{Rose}
 use Rattle.tb_edge.specs.Ends.{ClockView, and_given, and_taken, and_ticked}
@@ -17,7 +17,7 @@ use Rattle.tb_run.specs.Dropping.{AreLetIn}
 use Rattle.tb_run.specs.Views.{LaneView, OutsideView, SomeLane}
 use Rattle.tb_run.specs.Workers.{AreLines, AreTicks, IsInputFor}
 
--- at some place, a log had no capacity for the entry of this call
+-- at some place of the log, there was no capacity for the entry of this call
 pub record HadNoRoom (call : Call) (origin : Origin) (log : List Entry) : Type 0 where
   pub core : CoreState
   pub may : MayCall call
@@ -26,7 +26,7 @@ pub record HadNoRoom (call : Call) (origin : Origin) (log : List Entry) : Type 0
   pub is : log ≡ core.log ++ rest
   pub full : is_full core call ≡ true
 
--- The input for the last item that an inlet gave: the log lacks that item, and the inlet isn't over.
+-- The rejected call is the input for the last item that an inlet gave. The log lacks this item, and the inlet isn't over.
 pub record InputRefused (origin : Origin) (log : List Entry) (lane : ℕ) (old new : LaneView) : Type 0 where
   pub fed : List Given
   pub last : Given
@@ -36,7 +36,7 @@ pub record InputRefused (origin : Origin) (log : List Entry) (lane : ℕ) (old n
   pub stands : IsInputFor lane last input
   pub no_room : HadNoRoom (HandIn input) origin log
 
--- The input that reports that an outlet failed to take the last item that the log sends: the outlet lacks that item.
+-- The rejected call is a `cut`: the outlet failed to take the last item that the log sends, and lacks this item.
 pub record CutRefused (origin : Origin) (log : List Entry) (lane : ℕ) (old new : LaneView) : Type 0 where
   pub put : List Out
   pub last : Out
@@ -45,16 +45,18 @@ pub record CutRefused (origin : Origin) (log : List Entry) (lane : ℕ) (old new
   pub failed : Rose old.outlet_faults new.outlet_faults
   pub no_room : HadNoRoom (HandIn (Cut lane)) origin log
 
--- for a lane: the last item of its inlet, the next queued item, or the failure of its outlet
+-- the rejected call of a lane: the input for the last item of its inlet, the call that takes a queued item, or the `cut` after a failure
+-- of its outlet
 abbrev pub LaneRefused : Origin → List Entry → ℕ → LaneView → LaneView → Type 0
 LaneRefused origin log lane old new = InputRefused origin log lane old new ⊎ (HadNoRoom (HandOut lane) origin log ⊎ CutRefused origin log lane old new)
 
--- A tick: the clock gave one more than the log has, and has not ended.
+-- The rejected call is a tick: the clock gave one tick more than the log has, and hasn't ended.
 pub record TickRefused (origin : Origin) (log : List Entry) (old new : Option ClockView) : Type 0 where
   pub told : new ≡ and_ticked old (ticks log + 1) false
   pub no_room : HadNoRoom (HandIn Tick) origin log
 
--- The notice that no more ticks come, for one of its causes: the log doesn't have it, and no tick was dropped because the bus had shut down.
+-- The rejected call is the end of ticks, and ticks have a reason to end. The log's entries about time are ticks alone, and none of these
+-- was dropped because the bus had shut down.
 pub record NoTicksRefused (origin : Origin) (log : List Entry) (most : ℕ) (old new : Option ClockView) (Failed : Type 0) : Type 0 where
   pub ended : Bool
   pub told : new ≡ and_ticked old (ticks log) ended
@@ -63,7 +65,7 @@ pub record NoTicksRefused (origin : Origin) (log : List Entry) (most : ℕ) (old
   pub let_in : AreLetIn (filter is_time log)
   pub no_room : HadNoRoom (HandIn NoTicks) origin log
 
--- A call of a run was refused because the log was full: one of a lane, one of the clock, or a step.
+-- A call of a run was rejected because the log was full: a call of a lane, an input of the clock, or a step.
 abbrev pub WasRefused : ℕ → OutsideView → OutsideView → Origin → List Entry → Type 0
 WasRefused most old new origin log =
     SomeLane (LaneRefused origin log) 1 old.lanes new.lanes

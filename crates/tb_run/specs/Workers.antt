@@ -1,4 +1,5 @@
--- What each of the four workers of a run has done once it ends, by what its seat has seen, and by the items that its end of the environment gave or took in the call.
+-- The effects of each of the four workers of a run: on the entries that its seat has seen, and on the items that its end of the
+-- environment gave or took in the call.
 use Rattle.std.specs.Prelude.{◌≡◌, ℕ, ◌+◌, ◌-◌, ◌≤◌, ◌<◌, ◌^◌, ◌⊎◌, Bool, true, false, List, [], ◌∷◌, ◌++◌, length, map, count_by, Option, Some, None}
 use Rattle.std.specs.List.{AllZip}
 use Rattle.tb_edge.specs.Faults.{Rose}
@@ -39,7 +40,8 @@ IsInputFor lane given it = ⊥
 abbrev pub AreLines : ℕ → List Given → List Input → Type 0
 AreLines lane given inputs = AllZip (IsInputFor lane) given inputs
 
--- the items that were read last and not delivered: none if the worker came to the end of its work, one at most if it was stopped
+-- the number of last items that weren't delivered or written, by the reason why the worker ended: at most one if the worker was
+-- interrupted, none at any other end
 abbrev pub MayLack : WorkEnd → ℕ → Type 0
 MayLack end.Over count = count ≡ 0
 MayLack end.Down count = count ≡ 0
@@ -56,7 +58,7 @@ ends_over end.Full = false
 ends_over end.Failed = false
 ends_over end.NoMemory = false
 
--- none of a worker's entries is an input that was dropped because the bus had shut down, except the last one if the worker ends for that
+-- no entry of a worker is an input that was dropped because the bus had shut down; at `Down`, this needn't hold for the last entry
 abbrev pub LetIn : WorkEnd → List Entry → Type 0
 LetIn end.Over log = AreLetIn log
 LetIn end.Down log = (before : List Entry) × (last : Entry) × (log ≡ before ++ last ∷ []) × AreLetIn before
@@ -65,23 +67,24 @@ LetIn end.Full log = AreLetIn log
 LetIn end.Failed log = AreLetIn log
 LetIn end.NoMemory log = AreLetIn log
 
--- an inlet that reports that it is over
+-- whether an inlet reports that it is over
 abbrev pub was_over : Option InletView → Bool
 was_over None = false
 was_over (Some view) = view.over
 
--- why a reader may end so, which may have read one last item without delivering it
+-- the claims about the end of a reader, by its reason; `last` has the item that the reader read and didn't deliver, if there is one
 abbrev pub ReaderEnds : ℕ → List Given → SeatView → SeatView → WorkEnd → Type 0
 ReaderEnds lane last old new end.Over = Unit {0}
--- the last entry is an input of the lane that was dropped because the bus has shut down
+-- the last entry that the seat has seen is an input of the lane that was dropped because the bus had shut down
 ReaderEnds lane last old new end.Down = (it : Input) × (given_on lane it ≡ Some it) × EndsWith new (Fed it (Dropped why.Down))
 ReaderEnds lane last old new end.Stopped = Unit {0}
--- the log had no capacity for the item that was read last
+-- the log had no capacity for the input for the item that was read last
 ReaderEnds lane last old new end.Full = (it : Given) × (found : Input) × (last ≡ it ∷ []) × IsInputFor lane it found × FoundFull (HandIn found) old new
 ReaderEnds lane last old new end.Failed = ⊥
 ReaderEnds lane last old new end.NoMemory = Unit {0}
 
--- `read_lane`: the inputs of the lane are the items of the inlet, except the last if the worker was stopped.
+-- The result of `read_lane`: the inputs of the lane are the items that the inlet gave in the call. The last item may be missing if the
+-- worker was interrupted.
 pub record ReadsLane (lane : ℕ) (old new : SeatView) (gave_old gave_new : Option InletView) (it : WorkEnd) : Type 0 where
   pub more : List Entry
   pub adds : Adds old new more
@@ -96,42 +99,45 @@ pub record ReadsLane (lane : ℕ) (old new : SeatView) (gave_old gave_new : Opti
   pub marks : Marks old new it
   pub ends : ReaderEnds lane last old new it
 
--- at most so many calls failed, or the count is at its last value
+-- the count of failures rose by at least this number, or is at its last value
 abbrev pub CountsTo : ℕ → ℕ → ℕ → Type 0
 CountsTo old new count = (old + count ≤ new) ⊎ (new ≡ 2 ^ 64 - 1)
 
+-- the entry of a `cut` of this lane
 abbrev pub is_cut : ℕ → Entry → Bool
 is_cut lane (Did label) = false
 is_cut lane Quiet = false
 is_cut lane (Fed it reply) = cuts lane it
 is_cut lane (Gave at out) = false
 
--- how often the worker reported that an item couldn't be written
+-- the number of `cut` inputs of this lane
 abbrev pub cut_count : ℕ → List Entry → ℕ
 cut_count lane log = count_by (is_cut lane) log
 
--- a count of faults after some calls
+-- a count of failures before and after some calls, for which `count` `cut` inputs were delivered
 pub record Counts (old new count : ℕ) : Type 0 where
   pub cuts : CountsTo old new count
   pub never_falls : old ≤ new
   pub fits : old < 2 ^ 64 → new < 2 ^ 64
 
--- the bus at the end of what a seat has seen
+-- the bus after the entries that a seat has seen
 abbrev pub bus_of : SeatView → Bus
 bus_of seat = replay (start seat.origin) seat.seen
 
--- why a writer may end so, whose outlet may have failed to take something last
+-- the claims about the end of a writer, by its reason; `last` has the item that the outlet failed to take and that isn't cut off, if there
+-- is one
 abbrev pub WriterEnds : ℕ → List Out → SeatView → SeatView → WorkEnd → Type 0
 WriterEnds lane last old new end.Over = ⊥
--- the bus has shut down, and nothing is left in the queue
+-- the bus has shut down, and no item is queued on the lane
 WriterEnds lane last old new end.Down = (next_out lane (bus_of new).bench ≡ None) × ((bus_of new).down ≡ true)
 WriterEnds lane last old new end.Stopped = Unit {0}
--- the log had no capacity for the next queued item, or for the report that the last one failed to be taken
+-- the log had no capacity for the call that takes the next queued item, or for the `cut` of the last item
 WriterEnds lane last old new end.Full = ((last ≡ []) × FoundFull (HandOut lane) old new) ⊎ ((out : Out) × (last ≡ out ∷ []) × FoundFull (HandIn (input.Cut lane)) old new)
 WriterEnds lane last old new end.Failed = ⊥
 WriterEnds lane last old new end.NoMemory = Unit {0}
 
--- `write_lane`: the outlet took the items that were sent and not cut off, except the last if the worker was stopped.
+-- The result of `write_lane`: the outlet took the items that were sent on the lane and aren't cut off. The last item may be missing if the
+-- worker was interrupted and the outlet failed.
 pub record WritesLane (lane : ℕ) (old new : SeatView) (took_old took_new : Option (List Taken)) (faults_old faults_new : ℕ) (it : WorkEnd) : Type 0 where
   pub more : List Entry
   pub adds : Adds old new more
@@ -141,48 +147,48 @@ pub record WritesLane (lane : ℕ) (old new : SeatView) (took_old took_new : Opt
   pub told : took_new ≡ and_taken took_old (map taken_of put)
   pub starts : is_cut_off more lane ≡ false
   pub lacks : MayLack it (length last)
-  -- each item that was not written failed to be written
+  -- if an item is missing, the outlet's count of failures rose
   pub rose : (last ≡ []) ⊎ Rose faults_old faults_new
   pub counts : Counts faults_old faults_new (cut_count lane more)
   pub marks : Marks old new it
   pub ends : WriterEnds lane last old new it
 
--- ticks alone, whatever their replies
+-- all entries are ticks, with any replies
 abbrev pub AreTicks : List Entry → Type 0
 AreTicks [] = Unit {0}
 AreTicks (Fed input.Tick reply ∷ log) = AreTicks log
 AreTicks (entry ∷ log) = ⊥
 
--- the notice that no more ticks come, whatever its reply
+-- the only entry is the end of ticks, with any reply
 abbrev pub IsNoTicks : List Entry → Type 0
 IsNoTicks tail = (reply : Reply) × (tail ≡ Fed input.NoTicks reply ∷ [])
 
--- How far a tick worker came.
+-- The progress of a tick worker.
 pub record TickerCame : Type 0 where
   -- its seat before and after
   pub old : SeatView
   pub new : SeatView
-  -- how often the clock had failed before and after
+  -- the clock's count of failures before and after
   pub faults_old : ℕ
   pub faults_new : ℕ
-  -- how many ticks were delivered
+  -- the number of ticks that were delivered
   pub count : ℕ
-  -- how many were read last and not delivered
+  -- the number of last ticks that the clock gave and that weren't delivered
   pub last : ℕ
   -- the entries after the ticks
   pub tail : List Entry
   -- whether the clock has ended
   pub ended : Bool
 
--- why a tick worker with this progress may end so; `Enough` says which number of ticks is enough
+-- the claims about the end of a tick worker with this progress, by its reason; `Enough` states which number of ticks is enough
 abbrev pub TickerEnds : (ℕ → Type 0) → TickerCame → WorkEnd → Type 0
--- the clock has ended, or the limit of ticks is reached
+-- the worker delivered the end of ticks: the clock has ended, or the number of ticks is enough
 TickerEnds Enough came end.Over = IsNoTicks came.tail × ((came.ended ≡ true) ⊎ Enough came.count)
--- the clock failed
+-- the worker delivered the end of ticks: the clock failed
 TickerEnds Enough came end.Failed = IsNoTicks came.tail × Rose came.faults_old came.faults_new
--- the last entry is a tick that was dropped because the bus has shut down
+-- the last entry that the seat has seen is a tick that was dropped because the bus had shut down
 TickerEnds Enough came end.Down = (came.tail ≡ []) × EndsWith came.new (Fed input.Tick (Dropped why.Down))
--- the log had no capacity for a tick, or for the notice that no more come, for one of its causes
+-- the log had no capacity for a tick; or it had no capacity for the end of ticks, and ticks had a reason to end
 TickerEnds Enough came end.Full =
     (came.tail ≡ [])
     × (((came.last ≡ 1) × FoundFull (HandIn input.Tick) came.old came.new)
@@ -190,7 +196,8 @@ TickerEnds Enough came end.Full =
 TickerEnds Enough came end.Stopped = came.tail ≡ []
 TickerEnds Enough came end.NoMemory = came.tail ≡ []
 
--- After a failure of the clock, a tick worker ends as failed, unless the notice that no more come is refused. If it ends as over, or because the bus has shut down, no call of the clock failed.
+-- At `Over` and `Down`, the clock's count of failures is unchanged. At `Failed`, it rose. So after a failure that raised the count, a tick
+-- worker ends as `Failed`, unless a call is rejected.
 abbrev pub ClockFaults : ℕ → ℕ → WorkEnd → Type 0
 ClockFaults faults_old faults_new end.Over = faults_new ≡ faults_old
 ClockFaults faults_old faults_new end.Down = faults_new ≡ faults_old
@@ -199,7 +206,8 @@ ClockFaults faults_old faults_new end.Stopped = Unit {0}
 ClockFaults faults_old faults_new end.Full = Unit {0}
 ClockFaults faults_old faults_new end.NoMemory = Unit {0}
 
--- `tick_worker`: the ticks are those of the clock, except the last if the worker was stopped; then perhaps that no more come.
+-- The result of `tick_worker`: the ticks are the ticks that the clock gave in the call, possibly followed by the end of ticks. The last
+-- tick may be missing if the worker was interrupted.
 pub record TicksBus (Enough : ℕ → Type 0) (most : ℕ) (old new : SeatView) (told_old told_new : Option ClockView) (faults_old faults_new : ℕ) (it : WorkEnd) : Type 0 where
   pub first : List Entry
   pub tail : List Entry
@@ -220,7 +228,7 @@ pub record TicksBus (Enough : ℕ → Type 0) (most : ℕ) (old new : SeatView) 
   pub faults : ClockFaults faults_old faults_new it
   pub ends : TickerEnds Enough (record { old = old; new = new; faults_old = faults_old; faults_new = faults_new; count = length first; last = last; tail = tail; ended = ended }) it
 
--- why a step worker may end so
+-- the claims about the end of a step worker, by its reason
 abbrev pub StepperEnds : SeatView → SeatView → WorkEnd → Type 0
 StepperEnds old new end.Over = ⊥
 StepperEnds old new end.Down = (bus_of new).down ≡ true
@@ -229,7 +237,7 @@ StepperEnds old new end.Full = FoundFull MakeStep old new
 StepperEnds old new end.Failed = ⊥
 StepperEnds old new end.NoMemory = Unit {0}
 
--- `step_worker`
+-- the result of `step_worker`
 pub record StepsBus (old new : SeatView) (it : WorkEnd) : Type 0 where
   pub more : List Entry
   pub adds : Adds old new more

@@ -14,7 +14,7 @@ pub struct Buffer {
 }
 
 impl Buffer {
-    /// Takes the memory.
+    /// Takes the memory of a buffer.
     pub fn new(alloc: Global) -> Result<Buffer, NoMemory> {
         let bytes = Vec::with_capacity(alloc, MOST_LINE_TEXT)?;
         Ok(Buffer { bytes })

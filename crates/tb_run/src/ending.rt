@@ -1,11 +1,11 @@
-//! The reason why a run ends, from those of its workers.
+//! The reason why a run ends, by the reasons why its workers ended.
 ghost use Rattle.std.specs.Prelude.{◌≡◌};
 ghost use Rattle.std.specs.List.{list_any};
 ghost use Rattle.tb_run.specs.Reasons.{reason_of, of_log, of_ends, of_clock, is_no_memory, is_full_end};
 
 use crate::ends::{LogEnd, RunWhy, WorkEnd};
 
-/// Why a run ends.
+/// Returns the reason why a run ends, by the ends of the tick worker, of the other workers, and of the job that writes the log.
 pub(crate) fn reason_of(tick: WorkEnd, ends: &[WorkEnd], writer: LogEnd) -> RunWhy
     ensures { result ≡ reason_of tick ends.now writer }
 {
@@ -61,7 +61,7 @@ fn is_full_end(end: WorkEnd) -> bool
     matches!(end, WorkEnd::Full)
 }
 
-/// Returns whether one of the ends is because memory ran out.
+/// Returns whether a worker ended because memory ran out.
 pub fn any_no_memory(ends: &[WorkEnd]) -> bool
     ensures { result ≡ list_any is_no_memory ends.now }
 {
@@ -73,7 +73,7 @@ pub fn any_no_memory(ends: &[WorkEnd]) -> bool
     false
 }
 
-/// Returns whether one of the ends is because the log was full.
+/// Returns whether a worker ended because the log was full.
 pub fn any_full(ends: &[WorkEnd]) -> bool
     ensures { result ≡ list_any is_full_end ends.now }
 {

@@ -3,7 +3,7 @@
 /// Why a worker ended.
 #[derive(Clone, Copy, Debug, PartialEq, Eq)]
 pub enum WorkEnd {
-    /// The inlet or the clock gives no more.
+    /// The inlet or the clock has ended, or the limit of ticks is reached.
     Over,
     /// The bus has shut down.
     Down,

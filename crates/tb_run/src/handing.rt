@@ -1,4 +1,4 @@
-//! Calls that deliver an input and wake the threads that may go on, and the stop after a rejected call.
+//! Delivers an input and wakes the threads that can have work after it; stops the bus after a rejected call.
 ghost use Rattle.std.specs.Prelude.{◌≡◌, true};
 ghost use Rattle.tb_log.specs.Shapes.{IsInputInShape};
 ghost use Rattle.tb_core.specs.Cores.{HandIn};
@@ -14,8 +14,8 @@ use tb_lock::{Seat, calls_add_their_own};
 use tb_log::{Input, Reply, Why};
 use tb_process_steps::Walker;
 
-/// Delivers an input, and wakes those for whom it may leave something to do. Returns why the worker ends, if it ends: the bus has shut
-/// down, or the call was rejected. After a rejected call, the worker has stopped the bus, unless the bus was stopped before.
+/// Delivers an input, and wakes the threads that can have work after it. Returns the reason if the worker ends: the bus has shut down, or
+/// the call was rejected. After a rejected call, the worker has stopped the bus, unless the bus was stopped before.
 pub fn hand<W: Walker, R: Wait>(
     rt: &R,
     post: &Post<W>,
@@ -38,7 +38,7 @@ pub fn hand<W: Walker, R: Wait>(
     }
 }
 
-/// Whether a reply says that the bus has shut down.
+/// Returns `Down` if the input was dropped because the bus had shut down.
 fn end_of(reply: Reply) -> Option<WorkEnd>
     ensures { result ≡ end_of reply }
 {
@@ -71,7 +71,7 @@ pub fn refused<W: Walker, R: Wait>(
     }
 }
 
-/// Stops the bus, and wakes all that sleep on its bells.
+/// Stops the bus, and wakes all threads that sleep on its bells.
 pub fn stop<W: Walker, R: Wait>(rt: &R, post: &Post<W>, seat: &mut Seat)
     requires own { seat.old.bus ≡ post.now.shared }
     ensures { Stops seat.old seat.new }

@@ -1,4 +1,4 @@
-//! A theorem on the answers of a run. The call changes nothing: its contract is the theorem.
+//! A theorem about the answers of a run. The call changes nothing: its contract is the theorem.
 
 ghost use Rattle.std.specs.Prelude.{◌+◌, ◌≤◌, ℕ, max};
 ghost use Rattle.tb_log.specs.Limits.{log_size, most_size};
@@ -10,8 +10,8 @@ ghost use Rattle.tb_run.specs.Views.{OutsideView, Tells};
 
 use crate::ends::RunWhy;
 
-/// Take a run whose lanes and clock report what they gave and took, and whose log isn't near its limit of size. If the run went to
-/// its end, it doesn't show what a run shows that found the log full, even if the log has the greatest number of entries.
+/// States that the claims for `Ended` and the claims for `Events` never hold for the same views and the same returned core. The lanes and
+/// the clock must report their values, and the log must not be near its limit of size. The log can have its greatest number of entries.
 pub fn a_run_that_ended_was_not_refused()
     ensures { (most : ℕ) (old new : OutsideView) (origin other : Origin) (back : CoreState)
         → Tells old → log_size back.log + max 131072 (largest_command back.origin) ≤ most_size

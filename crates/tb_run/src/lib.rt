@@ -1,4 +1,4 @@
-//! A run: the workers that share a bus, each between the bus and one end of the environment, and the run of all of them.
+//! Runs a bus with live tools. The workers share the bus: readers and writers of the lanes, a ticker, and a stepper.
 #![tactic(auto)]
 
 mod buffer;

@@ -17,22 +17,22 @@ use tb_log::Entry;
 use tb_process_steps::Walker;
 use tb_write::{LogFault, LogWriter};
 
-/// The number of entries that are read in one turn.
+/// The largest number of entries that are read in one turn.
 const MOST: usize = 1_000;
 
-/// The caller's own job: a seat without rights reads the log, and the job writes it. The writer's type is a parameter, so that
-/// contracts see the state of `out` once the job is taken apart.
+/// The job of the calling thread: it reads the log by a seat without rights, and writes it. The writer's type is a parameter, so that
+/// contracts see the state of `out` after the job is taken apart.
 #[derive(Drop)]
 pub struct LogJob<'a, W: Walker, O, L> {
     /// The bus whose log is written.
     pub post: &'a Post<W>,
-    /// Needs no right.
+    /// The seat. It needs no right.
     pub seat: Seat,
-    /// Takes the text.
+    /// The sink of the log.
     pub out: &'a mut O,
-    /// Writes the text.
+    /// The writer of the log's lines.
     pub writer: L,
-    /// Why the job ended, once it has.
+    /// Why the job ended, after it has ended.
     pub end: LogEnd,
 }
 
@@ -76,8 +76,8 @@ fn log_all<W: Walker, R: Wait, O: Sink>(
     unreachable!()
 }
 
-/// Writes some entries of the log, or waits if there are none. Returns why the job ends, if it ends. The whole log is written if no
-/// worker was left before no entry was found.
+/// Writes the next entries of the log, or waits if there are none. Returns why the job ends, if it ends. If no worker was left before a
+/// read that finds no further entry, the whole log is written.
 fn log_some<W: Walker, R: Wait, O: Sink>(
     rt: &R,
     post: &Post<W>,
@@ -114,7 +114,7 @@ fn log_some<W: Walker, R: Wait, O: Sink>(
     }
 }
 
-/// Waits for an entry, unless no more come.
+/// Waits for a further entry. If no worker was left (`over`), returns `Over` at once.
 fn wait_for_more<W: Walker, R: Wait>(
     rt: &R,
     post: &Post<W>,
@@ -130,7 +130,7 @@ fn wait_for_more<W: Walker, R: Wait>(
     None
 }
 
-/// Writes the entries that were read.
+/// Writes the entries that were read. If this fails, stops the bus.
 fn put_some<W: Walker, R: Wait, O: Sink>(
     rt: &R,
     post: &Post<W>,
@@ -158,7 +158,7 @@ fn put_some<W: Walker, R: Wait, O: Sink>(
     }
 }
 
-/// Waits for some time if no further entry follows a piece.
+/// Pauses after a piece of fewer than `MOST` entries, so that further entries gather.
 fn gather<R: Wait>(rt: &R, bells: &Bells, piece: &[Entry]) {
     if piece.len() < MOST {
         bells.pause(rt);

@@ -1,4 +1,4 @@
-//! Moves of lane ends and seats between pairs, works and workers.
+//! Moves lane ends and seats between pairs, works and workers.
 ghost use Rattle.std.specs.Prelude.{◌≡◌, ◌≤◌, ◌+◌, ◌++◌, [], ◌∷◌, length, List, map, vec_len, vec_capacity};
 ghost use Rattle.std.specs.List.{filter_map};
 ghost use Rattle.tb_run.specs.declared.worker.Work.{Work};
@@ -10,7 +10,7 @@ use crate::worker::{Work, Worker};
 use tb_edge::{Inlet, LanePair, Outlet};
 use tb_process_steps::Walker;
 
-/// Moves the ends out of the pairs, to the end of the lists.
+/// Splits the pairs, and appends their ends to the lists of `lanes`.
 pub fn part_lanes(pairs: Vec<LanePair>, lanes: &mut Lanes<AnyInlet, AnyOutlet>)
     requires inlets { vec_len lanes.old.inlets + vec_len pairs ≤ vec_capacity lanes.old.inlets }
     requires outlets { vec_len lanes.old.outlets + vec_len pairs ≤ vec_capacity lanes.old.outlets }
@@ -26,7 +26,7 @@ pub fn part_lanes(pairs: Vec<LanePair>, lanes: &mut Lanes<AnyInlet, AnyOutlet>)
     }
 }
 
-/// Joins the ends to pairs again, at the end of the list.
+/// Joins the ends to pairs again, and appends these to `pairs`.
 pub fn pair_lanes(lanes: Lanes<AnyInlet, AnyOutlet>, pairs: &mut Vec<LanePair>)
     requires room { vec_len pairs.old + vec_len lanes.inlets ≤ vec_capacity pairs.old }
     requires same { vec_len lanes.outlets ≡ vec_len lanes.inlets }
@@ -45,7 +45,7 @@ pub fn pair_lanes(lanes: Lanes<AnyInlet, AnyOutlet>, pairs: &mut Vec<LanePair>)
     }
 }
 
-/// Moves the seats, the ends of the lanes, and the reasons of their ends out of the workers, to the end of the lists.
+/// Takes the workers apart. Appends their lane ends to `lanes`, and their seats and the reasons why they ended to `ended`.
 pub fn end_all<'a, W: Walker, I: Inlet, O: Outlet>(
     workers: Vec<Worker<'a, W, I, O>>,
     lanes: &mut Lanes<I, O>,
@@ -81,7 +81,7 @@ pub fn end_all<'a, W: Walker, I: Inlet, O: Outlet>(
     }
 }
 
-/// Takes the end of a lane out of a work; more works follow.
+/// Appends the lane end of a work to `lanes`, if the work has one.
 fn move_out<I: Inlet, O: Outlet>(work: Work<I, O>, lanes: &mut Lanes<I, O>)
     requires inlets { vec_len lanes.old.inlets + length (inlets_of (work ∷ []))
         ≤ vec_capacity lanes.old.inlets }
@@ -107,7 +107,7 @@ fn move_out<I: Inlet, O: Outlet>(work: Work<I, O>, lanes: &mut Lanes<I, O>)
     }
 }
 
-/// Makes the works of a bus over these lanes, whose numbers begin with `first`: their readers, their writers, and the stepper.
+/// Makes the works for lanes that are numbered from `first` on: the works of their readers, of their writers, and of the stepper.
 pub fn works_of<I: Inlet, O: Outlet>(first: u8, lanes: Lanes<I, O>, works: &mut Vec<Work<I, O>>)
     requires inlets { first + vec_len lanes.inlets ≤ 17 }
     requires outlets { vec_len lanes.outlets ≡ vec_len lanes.inlets }

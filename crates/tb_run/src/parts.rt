@@ -9,8 +9,8 @@ use crate::seats::split_all;
 use tb_lock::{Rights, Seat, Shared};
 use tb_process_steps::Walker;
 
-/// Passes a seat to each worker, in the order of the jobs. Then passes one to the tick worker, and one without rights to the job that
-/// writes the log.
+/// Makes a seat for each worker, in the order of the jobs. Returns two further seats: one for the tick worker, and one without rights for
+/// the job that writes the log.
 pub(crate) fn hand_out<W: Walker>(
     shared: &Shared<W>,
     seat: &mut Seat,
@@ -33,7 +33,7 @@ pub(crate) fn hand_out<W: Walker>(
     (tick, log)
 }
 
-/// The rights of the jobs: the readers, the writers and the stepper.
+/// Returns the rights of the jobs: the readers, the writers and the stepper.
 #[tactic(auto, unfolding(crate::specs::Parts::job_rights))]
 fn job_rights() -> [Rights; 33]
     ensures { result ≡ job_rights }
@@ -75,7 +75,7 @@ fn job_rights() -> [Rights; 33]
     ]
 }
 
-/// The right to deliver the input of the lane of this bit: 1 for lane 1, 2 for lane 2, 4 for lane 3, and so on.
+/// Returns the right to deliver the input of the lane of this bit: 1 for lane 1, 2 for lane 2, 4 for lane 3, and so on.
 pub fn in_of(bit: u16) -> Rights
     ensures { result ≡ in_of bit }
 {
@@ -87,7 +87,7 @@ pub fn in_of(bit: u16) -> Rights
     }
 }
 
-/// The right to take the queued items of the lane of this bit.
+/// Returns the right to take the queued items of the lane of this bit, with the same bits.
 pub fn out_of(bit: u16) -> Rights
     ensures { result ≡ out_of bit }
 {

@@ -8,23 +8,23 @@ use tb_lock::Shared;
 use tb_log::{Input, Out};
 use tb_process_steps::Walker;
 
-/// Holds the parts that all workers of one bus share.
+/// The parts that all workers of one bus share.
 #[derive(Drop)]
 pub struct Post<W: Walker> {
     /// The bus.
     pub shared: Shared<W>,
-    /// A bell for each thread that sleeps while the bus has nothing for it.
+    /// The bells: one for each thread that sleeps while the bus has no work for it.
     pub bells: Bells,
-    /// How many workers are still at work. The job that writes the log ends only if none is.
+    /// The number of workers that are still at work. The job that writes the log ends as `Over` only if this number is 0.
     pub left: AtomicU32,
-    /// Where workers take memory for lines, names, and entries of the log.
+    /// The allocator for lines, names, and entries of the log.
     pub alloc: Global,
 }
 
 impl<W: Walker> Post<W> {
     ghost use Rattle.std.specs.Prelude.{◌≡◌};
 
-    /// Makes the post of a bus for so many workers. Its bells weren't rung yet.
+    /// Makes the post of a bus for `workers` workers. Its bells weren't rung yet.
     pub fn new(alloc: Global, shared: Shared<W>, workers: u32) -> Post<W>
         ensures { result.shared ≡ shared }
     {
@@ -36,7 +36,7 @@ impl<W: Walker> Post<W> {
         }
     }
 
-    /// Counts one worker fewer, and wakes the job that writes the log.
+    /// Lowers the number of workers by one, and wakes the job that writes the log.
     pub fn count_down(&self) {
         self.left.fetch_sub(1, Ordering::SeqCst);
         self.bells.ring(Sleeper::Log);
@@ -47,8 +47,8 @@ impl<W: Walker> Post<W> {
         self.left.load(Ordering::SeqCst) == 0
     }
 
-    /// Wakes those for whom the turn of an input may have left something: the job that writes the log, the stepper, and the writer of
-    /// the input's lane if an item is queued there. An input leaves nothing on another lane.
+    /// Wakes the threads that can have work after an input: the job that writes the log, the stepper, and the writer of the input's lane
+    /// if `calls_for` returns `true` for the lane. An input leaves no item on another lane.
     pub(crate) fn tell_input(&self, lane: Option<u8>) {
         self.bells.ring(Sleeper::Log);
         match lane {
@@ -58,8 +58,8 @@ impl<W: Walker> Post<W> {
         self.bells.ring(Sleeper::Stepper);
     }
 
-    /// Wakes those for whom steps may have left something: the job that writes the log, and the writer of each lane on which an item is
-    /// queued.
+    /// Wakes the threads that can have work after steps: the job that writes the log, and the writer of each lane for which `calls_for`
+    /// returns `true`.
     pub(crate) fn tell_steps(&self) {
         self.bells.ring(Sleeper::Log);
         for lane in 1..=16u8 {
@@ -67,8 +67,8 @@ impl<W: Walker> Post<W> {
         }
     }
 
-    /// Wakes those for whom there may be something after this item was taken: the job that writes the log, and after an end the stepper.
-    /// After an end the lane may be free, and a step may wait for exactly that.
+    /// Wakes the threads that can have work after this item was taken: the job that writes the log, and after an end the stepper. After an
+    /// end, the lane can be free, and this can make a step possible.
     pub fn tell_taken(&self, out: &Out) {
         self.bells.ring(Sleeper::Log);
         match out {
@@ -77,7 +77,7 @@ impl<W: Walker> Post<W> {
         }
     }
 
-    /// Wakes the writer of a lane if the last turn left something for it.
+    /// Wakes the writer of a lane if `calls_for` returns `true` for the lane.
     fn tell_writer(&self, lane: u8) {
         if self.shared.calls_for(lane) {
             self.bells.ring(Sleeper::Writer(lane));
@@ -85,7 +85,7 @@ impl<W: Walker> Post<W> {
     }
 }
 
-/// Returns the lane of an input. An input of the time has no lane.
+/// Returns the lane of an input. An input about time has no lane.
 pub(crate) fn lane_of(input: &Input) -> Option<u8> {
     match input {
         Input::Line(lane, _) | Input::Gone(lane) | Input::Cut(lane) => Some(*lane),

@@ -15,8 +15,8 @@ use tb_log::{Input, ToolLine};
 use tb_process_steps::Walker;
 use tb_tool_line::read_tool_line;
 
-/// Delivers all items of an inlet, until the inlet is over or the bus has shut down. A failure of the inlet is the end of its tool.
-/// `line` is for the lines.
+/// Delivers all items of an inlet, until the inlet is over or the bus has shut down. A failure of the inlet counts as the end of its tool.
+/// `line` is the buffer for each line.
 pub fn read_lane<W: Walker, R: Wait, I: Inlet>(
     rt: &R,
     post: &Post<W>,

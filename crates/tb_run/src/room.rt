@@ -10,29 +10,29 @@ use tb_edge::LanePair;
 use tb_lock::Seat;
 use tb_terms::NoMemory;
 
-/// The rest of workers that have ended, apart from the ends of their lanes.
+/// The seats of workers that have ended, and the reasons why they ended.
 #[derive(Drop)]
 pub struct Ended {
-    /// Their seats.
+    /// The seats of the workers.
     pub seats: Vec<Seat>,
-    /// Why they ended.
+    /// The reasons why the workers ended.
     pub ends: Vec<WorkEnd>,
 }
 
 /// The memory for the workers of some lanes (a reader and a writer for each) and for the stepper of their bus.
 #[derive(Drop)]
 pub struct Room<I, O> {
-    /// The number of lanes with capacity.
+    /// The number of lanes for which there is capacity.
     pub count: usize,
-    /// For the works of all workers.
+    /// The list for the works of all workers.
     pub works: Vec<Work<I, O>>,
-    /// For the seats of the workers.
+    /// The list for the seats of the workers.
     pub seats: Vec<Seat>,
-    /// One for each worker.
+    /// The buffers, one for each worker.
     pub buffers: Vec<Buffer>,
-    /// For the ends of the lanes after the run.
+    /// The lists for the ends of the lanes after the run.
     pub lanes: Lanes<I, O>,
-    /// For the rest of the workers, with capacity for two further seats.
+    /// The lists for the seats of the workers and the reasons why they ended, with capacity for two further seats.
     pub ended: Ended,
     ghost for_works: { (works.items ≡ []) × (count + count + 1 ≤ vec_capacity works) },
     ghost for_seats: { (seats.items ≡ []) × (count + count + 1 ≤ vec_capacity seats) },
@@ -44,7 +44,7 @@ pub struct Room<I, O> {
     ghost for_ends: { (ended.ends.items ≡ []) × (count + count + 1 ≤ vec_capacity ended.ends) },
 }
 
-/// Takes the memory for so many lanes.
+/// Takes the memory for `count` lanes.
 pub fn make_room<I: Drop, O: Drop>(alloc: Global, count: usize) -> Result<Room<I, O>, NoMemory>
     requires { count ≤ 16 }
     ensures { IfOk result (λ room. room.count ≡ count) }
@@ -66,7 +66,7 @@ pub fn make_room<I: Drop, O: Drop>(alloc: Global, count: usize) -> Result<Room<I
     })
 }
 
-/// Makes so many buffers.
+/// Makes `count` buffers.
 fn make_buffers(alloc: Global, count: usize) -> Result<Vec<Buffer>, NoMemory>
     ensures { IfOk result (λ buffers. vec_len buffers ≡ count) }
 {
@@ -77,21 +77,21 @@ fn make_buffers(alloc: Global, count: usize) -> Result<Vec<Buffer>, NoMemory>
     Ok(buffers)
 }
 
-/// The memory to take lanes apart, and to join them again.
+/// The memory to split lanes into their ends, and to join the ends again.
 #[derive(Drop)]
 pub struct Boxes {
-    /// The number of lanes with capacity.
+    /// The number of lanes for which there is capacity.
     pub count: usize,
-    /// For the joined lanes.
+    /// The list for the joined lanes.
     pub pairs: Vec<LanePair>,
-    /// For the ends of the lanes.
+    /// The lists for the ends of the lanes.
     pub lanes: Lanes<AnyInlet, AnyOutlet>,
     ghost for_pairs: { (pairs.items ≡ []) × (count ≤ vec_capacity pairs) },
     ghost for_inlets: { (lanes.inlets.items ≡ []) × (count ≤ vec_capacity lanes.inlets) },
     ghost for_outlets: { (lanes.outlets.items ≡ []) × (count ≤ vec_capacity lanes.outlets) },
 }
 
-/// Takes the memory for so many lanes.
+/// Takes the memory for `count` lanes.
 pub fn make_boxes(alloc: Global, count: usize) -> Result<Boxes, NoMemory>
     ensures { IfOk result (λ boxes. boxes.count ≡ count) }
 {

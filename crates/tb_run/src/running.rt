@@ -27,7 +27,7 @@ use tb_log::{Log, show_proper_log};
 use tb_process_steps::Walker;
 use tb_write::{LogFault, LogWriter};
 
-/// Runs a bus over the two ends of sixteen lanes, which it returns.
+/// Runs a bus over the ends of sixteen lanes. After the call, `lanes` has these ends again.
 fn run_ends<
     W: Walker + Send,
     R: Threads + Wait + Sync,
@@ -73,7 +73,7 @@ where
     }
 }
 
-/// Runs a bus that was made, closes it, and writes what is left of the log.
+/// Runs a bus from its first seat, closes it, and writes the rest of the log.
 fn run_post<
     W: Walker + Send,
     R: Threads + Wait + Sync,
@@ -117,7 +117,7 @@ where
     (why, core)
 }
 
-/// Writes the rest of a log, if nothing failed before. All entries of a log are well-formed.
+/// Writes the rest of a log, unless the crew or the sink failed or memory ran out. All entries of a log are well-formed.
 fn put_rest<S: Sink>(log: &Log, why: RunWhy, writer: LogWriter, out: &mut S) -> RunWhy
     requires held { GoesToRest log.now.entries writer why }
     ensures rest { IsAfterRest log.now.entries writer why result (S.taken out.old)
@@ -135,7 +135,7 @@ fn put_rest<S: Sink>(log: &Log, why: RunWhy, writer: LogWriter, out: &mut S) -> 
     }
 }
 
-/// Writes the part of a log after the entries that were written.
+/// Writes the part of a log after the entries that the writer counts.
 fn put_behind<S: Sink>(log: &Log, writer: LogWriter, out: &mut S) -> Result<(), LogFault>
     requires held { writer.held ≡ [] }
     requires within { writer.written ≤ length log.now.entries }
@@ -151,10 +151,10 @@ fn put_behind<S: Sink>(log: &Log, writer: LogWriter, out: &mut S) -> Result<(), 
     writer.put_behind_and_flush(log, written, out)
 }
 
-/// Runs a bus to its end: sixteen readers, sixteen writers, a stepper, and a ticker, each in its own thread, while this thread writes
-/// the log to `out`. The ticker delivers at most `ticks` ticks. A worker that finds the log full or no memory stops the bus. This
-/// thread stops the bus if the sink fails or it finds no memory. The core comes back with the whole log, and the lanes in their
-/// order.
+/// Runs a bus to its end: sixteen readers, sixteen writers, a stepper, and a ticker, each in its own thread, while this thread writes the
+/// log to `out`. The ticker delivers at most `ticks` ticks. A worker stops the bus if the log is full or memory runs out. This thread
+/// stops the bus if the sink fails or memory runs out. Returns why the run ended, and the core with the whole log. After the call, `lanes`
+/// has the lanes in their order.
 pub fn run<W: Walker + Send, R: Threads + Wait + Sync, C: Clock + Send, P: Crew, S: Sink>(
     rt: &R,
     alloc: Global,

@@ -1,4 +1,4 @@
-//! Joins and splits of several seats.
+//! Joins and splits several seats.
 ghost use Rattle.std.specs.Prelude.{◌≡◌, ◌<◌, ◌≤◌, ◌+◌, ◌++◌, length, vec_len, vec_capacity};
 ghost use Rattle.std.specs.List.{All};
 ghost use Rattle.tb_run.specs.Joining.{JoinsAll};

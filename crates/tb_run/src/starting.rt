@@ -1,4 +1,4 @@
-//! Making the workers.
+//! Makes the workers of a bus.
 ghost use Rattle.std.specs.Prelude.{◌≡◌, ◌≤◌, ◌+◌, [], map, vec_len, vec_capacity};
 ghost use Rattle.std.specs.List.{All};
 ghost use Rattle.tb_run.specs.Jobs.{IsReady};
@@ -12,7 +12,7 @@ use tb_edge::{Inlet, Outlet};
 use tb_lock::Seat;
 use tb_process_steps::Walker;
 
-/// Makes a worker for each work, with the seat at the same place and a buffer.
+/// Makes a worker for each work, with a buffer and with the seat at the same place.
 pub fn begin_all<'a, W: Walker, I: Inlet, O: Outlet>(
     post: &'a Post<W>,
     seats: Vec<Seat>,

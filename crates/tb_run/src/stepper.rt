@@ -16,10 +16,10 @@ use tb_core::{CoreFault, Stepped};
 use tb_lock::{Seat, calls_add_their_own};
 use tb_process_steps::Walker;
 
-/// The largest number of turns that the stepper takes before it wakes the others.
+/// The largest number of turns that the stepper takes before it wakes the other threads.
 const BURST: u32 = 8;
 
-/// Makes steps until the bus has shut down. If no step is possible, it waits until something comes.
+/// Makes steps until the bus has shut down. If no step is possible, waits until another thread wakes it.
 pub fn step_worker<W: Walker, R: Wait>(rt: &R, post: &Post<W>, seat: &mut Seat) -> WorkEnd
     requires own { seat.old.bus ≡ post.now.shared }
     requires right { has seat.old.rights ToStep ≡ true }

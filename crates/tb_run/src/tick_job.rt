@@ -7,18 +7,18 @@ use tb_edge::{Clock, Job};
 use tb_lock::Seat;
 use tb_process_steps::Walker;
 
-/// The tick worker. Its clock is lent. So the worker isn't a job of the list, but is lent itself.
+/// The tick worker. It borrows its clock, so it isn't in the list of jobs: the crew borrows the worker.
 #[derive(Drop)]
 pub struct TickJob<'a, W: Walker, C> {
-    /// The bus that receives the ticks.
+    /// The parts that all workers of the bus share.
     pub post: &'a Post<W>,
-    /// Has the right to deliver ticks.
+    /// The seat, with the right to deliver ticks.
     pub seat: Seat,
-    /// Gives the ticks.
+    /// The clock that gives the ticks.
     pub clock: &'a mut C,
     /// The greatest number of ticks.
     pub ticks: u64,
-    /// Why the worker ended, once it has.
+    /// Why the worker ended, after it has ended.
     pub end: WorkEnd,
 }
 

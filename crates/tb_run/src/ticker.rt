@@ -14,7 +14,8 @@ use tb_lock::Seat;
 use tb_log::Input;
 use tb_process_steps::Walker;
 
-/// Delivers the ticks of a clock, at most `ticks` of them, and then reports that no more come.
+/// Delivers the ticks of a clock, at most `ticks` of them, and then the end of ticks. If a tick is dropped because the bus has shut down,
+/// ends at once.
 pub fn tick_worker<W: Walker, R: Wait, C: Clock>(
     rt: &R,
     post: &Post<W>,
@@ -36,7 +37,7 @@ pub fn tick_worker<W: Walker, R: Wait, C: Clock>(
     no_more(rt, post, seat, WorkEnd::Over)
 }
 
-/// Delivers the next tick, or reports that no more come. Returns why the worker ends, if it ends.
+/// Delivers the next tick, or the end of ticks if the clock has ended or failed. Returns why the worker ends, if it ends.
 fn tick_one<W: Walker, R: Wait, C: Clock>(
     rt: &R,
     post: &Post<W>,
@@ -56,7 +57,7 @@ fn tick_one<W: Walker, R: Wait, C: Clock>(
     }
 }
 
-/// Reports that no more ticks come.
+/// Delivers the end of ticks. Returns `end`, unless the call was rejected.
 fn no_more<W: Walker, R: Wait>(rt: &R, post: &Post<W>, seat: &mut Seat, end: WorkEnd) -> WorkEnd
     requires own { seat.old.bus ≡ post.now.shared }
     requires right { has seat.old.rights ToTick ≡ true }

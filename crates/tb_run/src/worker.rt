@@ -1,4 +1,4 @@
-//! The kinds of work, and a worker of a bus as a job.
+//! The kinds of work, and the worker that does one of them as a job.
 ghost use Rattle.tb_run.specs.Jobs.{IsReady, WorkDone};
 
 use crate::buffer::Buffer;
@@ -26,15 +26,15 @@ pub enum Work<I, O> {
 /// A worker of a bus, as a job.
 #[derive(Drop)]
 pub struct Worker<'a, W: Walker, I, O> {
-    /// The bus that it works on.
+    /// The parts that all workers of the bus share.
     pub post: &'a Post<W>,
-    /// Has the right for the work.
+    /// The seat, with the right for the work.
     pub seat: Seat,
-    /// Holds the text of a line before it goes to an outlet.
+    /// The buffer for the text of a line, before the outlet takes it.
     pub buffer: Buffer,
     /// The work.
     pub work: Work<I, O>,
-    /// Why the worker ended, once it has.
+    /// Why the worker ended, after it has ended.
     pub end: WorkEnd,
 }
 

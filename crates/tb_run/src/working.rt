@@ -1,4 +1,4 @@
-//! All workers at work concurrently, from the first seat of a bus until their seats are one again.
+//! Runs all workers of a bus concurrently: splits the first seat among them, and joins the seats again at the end.
 ghost use Rattle.std.specs.Prelude.{◌≡◌, ◌≤◌, ◌++◌, [], ◌∷◌, List, map, length, vec_len, vec_capacity, None, Some, MatchOption, IfOk, IfErr, OnOk, true, ◌+◌};
 ghost use Rattle.std.specs.List.{All};
 ghost use Rattle.tb_edge.specs.Faults.{Rose};
@@ -45,7 +45,8 @@ struct Team<'a, W: Walker, I, O> {
     log_seat: Seat,
 }
 
-/// The workers after their work, and the results of the two others. If there was no crew, `failed` says why.
+/// The workers after their work, and the results of the tick worker and of the job that writes the log. If the crew didn't do the jobs,
+/// `failed` is the reason.
 #[derive(Drop)]
 struct Back<'a, W: Walker, I, O> {
     failed: Option<RunWhy>,
@@ -57,7 +58,7 @@ struct Back<'a, W: Walker, I, O> {
     writer: LogWriter,
 }
 
-/// Lets all work concurrently, and returns why they ended, and the job that has written the log.
+/// Runs all workers concurrently. Returns why the run ends, and the writer of the log.
 pub(crate) fn run_workers<
     'a,
     W: Walker + Send,
@@ -124,7 +125,7 @@ fn why_of(failed: Option<RunWhy>, tick_end: WorkEnd, ends: &[WorkEnd], log_end: 
     }
 }
 
-/// Passes the seats on, and makes the workers.
+/// Splits the seat, and makes the workers.
 fn begin<'a, W: Walker, I: Inlet, O: Outlet>(
     post: &'a Post<W>,
     seat: &mut Seat,
@@ -171,7 +172,7 @@ fn begin<'a, W: Walker, I: Inlet, O: Outlet>(
     (team, ended)
 }
 
-/// Lets all work concurrently.
+/// Runs all workers, the tick worker and the job that writes the log concurrently.
 fn work<
     'a,
     W: Walker + Send,
@@ -210,7 +211,7 @@ where
         × (result.tick_seat ≡ team.entry.tick_seat) × (result.log_seat ≡ team.entry.log_seat)
         × (C.told clock.new ≡ C.told clock.old) × (S.taken out.new ≡ S.taken out.old)) }
 
-    // A crew that does the jobs hasn't failed. If there was no crew, nothing else has failed either.
+    // If the crew does the jobs, its count of failures is unchanged. If not, the counts of the clock and the sink are unchanged.
     ensures calm { MatchOption result.failed
         (P.faults crew.new ≡ P.faults crew.old)
         (λ why. (C.faults clock.new ≡ C.faults clock.old) × (S.faults out.new ≡ S.faults out.old)) }
@@ -248,8 +249,8 @@ where
     }
 }
 
-/// Lets the crew do the jobs of all workers concurrently, with those of the ticker and of the log's writer. These two are lent, and
-/// keep their clock and their sink.
+/// Lets the crew do the jobs of all workers concurrently with the jobs of the ticker and of the log's writer. The crew borrows these two
+/// jobs, so that they keep their clock and their sink.
 fn beside<
     'a,
     'b,
@@ -297,7 +298,7 @@ where
     crew.beside(rt, workers, ticker, logger)
 }
 
-/// Returns the seat of the tick worker after its work, and why it ended. Its clock stays as it is.
+/// Returns the seat of the tick worker after its work, and why the worker ended. The clock is unchanged.
 fn end_ticks<'b, W: Walker, C: Clock>(job: TickJob<'b, W, C>) -> (Seat, WorkEnd)
     ensures seat { result.0 ≡ job.entry.seat }
     ensures end { result.1 ≡ job.entry.end }
@@ -307,7 +308,7 @@ fn end_ticks<'b, W: Walker, C: Clock>(job: TickJob<'b, W, C>) -> (Seat, WorkEnd)
     (seat, end)
 }
 
-/// Returns the seat of the job that has written the log, with the writer, and why it ended. Its sink stays as it is.
+/// Returns the seat and the writer of the job that has written the log, and why the job ended. The sink is unchanged.
 fn end_log<'b, W: Walker, S: Sink, L: Drop>(job: LogJob<'b, W, S, L>) -> (Seat, L, LogEnd)
     ensures seat { result.0 ≡ job.entry.seat }
     ensures writer { result.1 ≡ job.entry.writer }
@@ -323,7 +324,7 @@ fn end_log<'b, W: Walker, S: Sink, L: Drop>(job: LogJob<'b, W, S, L>) -> (Seat, 
     (seat, writer, end)
 }
 
-/// Takes the jobs back, and the reason if there was no crew.
+/// Returns the jobs, and the reason if the crew didn't do them.
 pub fn taken_back<J: Drop>(answer: Result<Vec<J>, CrewFault<J>>) -> (Option<RunWhy>, Vec<J>)
     ensures ok { IfOk answer (λ jobs. (result.0 ≡ None) × (result.1.items ≡ jobs.items)) }
     ensures err { IfErr answer
@@ -336,7 +337,7 @@ pub fn taken_back<J: Drop>(answer: Result<Vec<J>, CrewFault<J>>) -> (Option<RunW
     }
 }
 
-/// Inserts the seats of two further jobs before those of the workers that follow.
+/// Adds the seats of two further jobs to the empty list, before the seats of the workers.
 pub fn with_others(ended: Ended, one: Seat, other: Seat) -> Ended
     requires none { ended.seats.items ≡ [] }
     requires room { 2 ≤ vec_capacity ended.seats }
@@ -350,7 +351,7 @@ pub fn with_others(ended: Ended, one: Seat, other: Seat) -> Ended
     ended
 }
 
-/// Moves the ends of the lanes out of the workers, and joins all seats to one again: first those in the list, then those of the
+/// Moves the ends of the lanes out of the workers, and joins all seats to `seat`: first the seats in `ended`, then the seats of the
 /// workers. Returns why the workers ended, in their order.
 pub fn gather<'a, W: Walker, I: Inlet, O: Outlet>(
     shared: &Shared<W>,

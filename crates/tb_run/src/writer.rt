@@ -19,8 +19,8 @@ use tb_log::Input;
 use tb_process_steps::Walker;
 use tb_tool_line::{SendFault, send_out};
 
-/// Writes all items that are sent on a lane to its outlet, until the bus has shut down and nothing is left. Then it closes the outlet.
-/// If the outlet fails to take an item, the worker reports the item as cut off before it takes the next.
+/// Writes all items that are sent on a lane to its outlet, until the bus has shut down and no item is queued on the lane. Then it closes
+/// the outlet. If the outlet fails to take an item, the worker delivers a `cut` before it takes the next item.
 pub fn write_lane<W: Walker, R: Wait, O: Outlet>(
     rt: &R,
     post: &Post<W>,
@@ -69,8 +69,8 @@ fn write_all<W: Walker, R: Wait, O: Outlet>(
     unreachable!()
 }
 
-/// Sleeps while nothing is there for the writer of a lane from 1 to 16. `heard` is the last known count of rings, 0 at first: the
-/// sleep doesn't miss a ring that comes after that. Whether something is there is a hint.
+/// Sleeps until `calls_for` of the shared bus returns `true` for a lane from 1 to 16. `heard` is the count of rings that the thread read
+/// last, 0 at first. The sleep doesn't miss a ring after this count. The answer of `calls_for` is only a hint.
 pub fn wait_for_call<W: Walker, R: Wait>(rt: &R, post: &Post<W>, lane: u8, heard: &mut u64) {
     for _ in rt.forever() {
         if post.shared.calls_for(lane) {
@@ -114,7 +114,7 @@ fn write_one<W: Walker, R: Wait, O: Outlet>(
     }
 }
 
-/// Reports that a taken item failed to be written, if it did.
+/// Delivers a `cut` if the outlet failed to take an item.
 fn cut_off<W: Walker, R: Wait>(
     rt: &R,
     post: &Post<W>,
@@ -134,7 +134,7 @@ fn cut_off<W: Walker, R: Wait>(
     }
 }
 
-/// After the bus has shut down, a writer goes on until nothing is left in its queue.
+/// Returns `None` for `Down`: after the bus has shut down, a writer goes on until no item is queued on its lane.
 fn going_on(end: Option<WorkEnd>) -> Option<WorkEnd>
     ensures { result ≡ going_on end }
 {

@@ -1,4 +1,4 @@
--- Bodies one after the other, and the first that is too large.
+-- Bodies, one after the other, and the first process whose expansion is too large.
 use Rattle.std.proofs.Common.{◌≡◌, ℕ, zero, suc, ◌+◌, ◌<◌, Bool, true, false, List, [], ◌∷◌, ◌++◌, length, get_or, take, drop, Err, Option, Some, None, find, option_map, refl, sym, ap, subst, ◌∙◌, arith}
 use Rattle.std.specs.List.{AllZip}
 use Rattle.std.specs.Option.{option_or}
@@ -16,7 +16,7 @@ use Rattle.tb_expand.specs.Faults.{HasNoCycle, IsExpansion, IsBodyOf, IsBodyFaul
 use Rattle.tb_script.specs.Programs.{first_too_large}
 use Rattle.tb_script.specs.Helpers.Making.{first_large_of, HasBodies, AreExpansions}
 
--- what stands at a position that is there
+-- the element at a position within the list
 pub standing : {A : Type 0} (xs : List A) (n : ℕ) → n < length xs → (x : A) × (slice_get xs n ≡ Some x)
 standing [] n within = absurd (omega (arith, within))
 standing (x ∷ xs) zero within = (x, refl)
@@ -41,7 +41,7 @@ zip_more R [] (b ∷ ys) x y zip h = absurd zip
 zip_more R (a ∷ xs) [] x y zip h = absurd zip
 zip_more R (a ∷ xs) (b ∷ ys) x y zip h = (zip.0, zip_more R xs ys x y zip.1 h)
 
--- one more pair, of the element that was read
+-- one more pair, with the element that was read
 pub zip_take_more : {A B : Type 0} (R : A → B → Type 0) (xs : List A) (i : ℕ) (x : A) (ys new : List B) (y : B) → i < length xs → x ≡ get_or xs i x → AllZip R (take i xs) ys → R x y → new ≡ ys ++ y ∷ [] → AllZip R (take (i + 1) xs) new
 zip_take_more R xs i x ys new y within read all here pushed =
     let longer : take (i + 1) xs ≡ take i xs ++ x ∷ [] = take_more xs i x within ∙ ap (λ z. take i xs ++ z ∷ []) (sym read) in
@@ -70,7 +70,7 @@ small_more script ds d none small =
     ∙ ap (λ o. option_or o (find (is_large script) (d ∷ []))) (none_named (find (is_large script) ds) none)
     ∙ found_alone script d false small)
 
--- the first bodies, none of which is too large
+-- the first bodies, none of whose expansions is too large
 pub record AreFirst (script : Script) (ds : List ProcDef) (bodies : List Body) : Type 0 where
   pub bodies_are : AllZip (IsExpansion script) ds bodies
   pub small : first_large_of script ds ≡ None
@@ -91,7 +91,7 @@ more_bodies script bodies body position within first is =
       small = small_more script (take position script.procs) at.0 first.small b.small;
     })
 
--- one more of which it is known that it has a body
+-- one more process that has a body
 pub bodies_further : (script : Script) (position : ℕ) → position < length script.procs → (bodies : List Body) × AreFirst script (take position script.procs) bodies
     → ((d : ProcDef) → slice_get script.procs position ≡ Some d → (body : Body) × IsBodyOf script d body)
     → (bodies : List Body) × AreFirst script (take (position + 1) script.procs) bodies
@@ -102,7 +102,7 @@ bodies_further script position within first has =
     = λ d e. subst (λ (x : ProcDef). IsBodyOf script x made.0) (same_Some at.0 d (sym at.1 ∙ e)) made.1 in
     (first.0 ++ made.0 ∷ [], more_bodies script first.0 made.0 position within first.1 is)
 
--- the first that is too large
+-- this process is the first one whose expansion is too large
 pub large_behind : (script : Script) (bodies : List Body) (d : ProcDef) (position : ℕ) → slice_get script.procs position ≡ Some d → AreFirst script (take position script.procs) bodies
     → is_too_large (expansion_of script d) ≡ true → first_too_large script ≡ Some d.name
 large_behind script bodies d position at first large =
@@ -114,7 +114,7 @@ large_behind script bodies d position at first large =
     ∙ ap (λ o. option_or o (find (is_large script) (d ∷ behind))) (none_named (find (is_large script) prefix) first.small)
     ∙ found_first script d behind large)
 
--- the body at this position has a fault
+-- the body at this position has an error
 pub body_failed : (script : Script) (bodies : List Body) (position : ℕ) (f : ExpandFault) → HasNoCycle script → position < length script.procs → AreFirst script (take position script.procs) bodies
     → ((d : ProcDef) → slice_get script.procs position ≡ Some d → IsBodyFault script d f) → HasBodies script (Err f)
 body_failed script bodies position (expand.Recursion names) no_cycle within first is =
@@ -133,7 +133,7 @@ all_taken (x ∷ xs) = ap (λ ys. x ∷ ys) (all_taken xs)
 whole : {A : Type 0} (xs : List A) (n : ℕ) → n ≡ length xs → take n xs ≡ xs
 whole xs n e = ap (λ k. take k xs) e ∙ all_taken xs
 
--- all bodies are there
+-- all bodies are made
 pub all_made : (script : Script) (bodies : List Body) (position : ℕ) → HasNoCycle script → position ≡ length script.procs → AreFirst script (take position script.procs) bodies → AreExpansions script bodies
 all_made script bodies position no_cycle e first =
     let f = subst (λ ds. AreFirst script ds bodies) (whole script.procs position e) first in

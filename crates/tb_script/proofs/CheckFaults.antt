@@ -1,4 +1,4 @@
--- A script fails one condition first.
+-- Only one condition is the first that a script fails.
 use Rattle.std.proofs.Common.{◌≡◌, ◌≢◌, ℕ, refl, sym, ap, ◌∙◌}
 use Rattle.tb_syntax.specs.declared.script.Script.{Script}
 use Rattle.tb_types.specs.declared.violation.Rule.{Rule}
@@ -9,7 +9,7 @@ use Rattle.tb_types.specs.Conditions.{Proper, IsFirst, IsFault}
 use Rattle.tb_types.specs.Helpers.Faults.{fault_at}
 use Rattle.tb_types.proofs.FirstLaws.{one_first, none_first}
 
--- the condition and the token of a fault
+-- the condition and the token of an error
 record Told (script : Script) (f : CheckFault) : Type 0 where
   condition : Rule
   token : ℕ

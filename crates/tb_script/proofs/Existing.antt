@@ -1,4 +1,4 @@
--- That a proper script whose processes have bodies has a program.
+-- A well-formed script whose processes have bodies, and that hasn't too many roots, has a program.
 use Rattle.std.proofs.Common.{◌≡◌, ℕ, ◌≤◌, List, [], ◌∷◌, map, length, Option, Some, None, refl, sym}
 use Rattle.std.specs.List.{AllZip, AllByRecursion}
 use Rattle.std.specs.Option.{IsSome}

@@ -1,4 +1,4 @@
--- What is found of a text, and that nothing else is: by what the parts of the loader answer.
+-- The finding of a source, and that there is no other finding: from the results of the loader's parts.
 use Rattle.std.proofs.Common.{◌≡◌, ◌≢◌, ◌⊎◌, ⊎_elim, ℕ, ◌<◌, ◌≤◌, List, length, Some, None, Result, Ok, Err, sym, ap, subst, ◌∙◌, arith}
 use Rattle.tb_body.specs.declared.program.Program.{Program}
 use Rattle.tb_body.specs.Programs.{most_roots}
@@ -23,7 +23,7 @@ use Rattle.tb_script.specs.Findings.{HasNoTokens, Finding, NoTokens, NoScript, I
 use Rattle.tb_script.proofs.CheckFaults.{one_fault, no_fault}
 use Rattle.tb_script.proofs.OneProgram.{one_program}
 
--- the later findings have a script
+-- each later finding has a script
 
 abbrev HasScript : Finding → Type 0
 HasScript (NoTokens f) = ⊥
@@ -57,7 +57,7 @@ ok-err x f e = absurd cc
 module _ (text : List ℕ) (r : Result (List Token) LexFault)
     (only : (tokens : List Token) → Lexes text tokens → length tokens ≤ 200000 → (r ≡ Ok tokens) ⊎ (r ≡ Err lex.NoMemory))
     (exact : (f : LexFault) → HasLexFault text f → f ≢ lex.NoMemory → (r ≡ Err f) ⊎ (r ≡ Err lex.NoMemory)) where
-  -- these tokens came
+  -- the lexer returned these tokens
   pub tokens_found : (tokens : List Token) → r ≡ Ok tokens → Lexes text tokens → length tokens ≤ 200000 → HasOnlyTokens text tokens
   tokens_found tokens came lexes few = record {
     has_tokens = record { lexes = lexes; few = few };
@@ -90,7 +90,7 @@ module _ (text : List ℕ) (r : Result (List Token) LexFault)
       (λ (e : r ≡ Err lex.NoMemory). absurd (told (err-same f lex.NoMemory (sym came ∙ e))))
       (exact g h.fault_is h.not_memory)
 
-  -- this fault came
+  -- the lexer returned this error
   pub lexing_failed : (f : LexFault) → r ≡ Err f → f ≢ lex.NoMemory → HasLexFault text f → IsFound text (NoTokens f)
   lexing_failed f came told has = record { holds = record { not_memory = told; fault_is = has }; only = rest } where
     rest : (other : Finding) → Holds text other → IsSame (NoTokens f) other
@@ -114,7 +114,7 @@ module _ (tokens : List Token) (r : Result Script ParseFault)
       (λ (e : r ≡ Err parse.NoMemory). ok-err script parse.NoMemory (sym came ∙ e))
       (exact f h told)
 
-  -- this script came
+  -- the parser returned this script
   pub script_found : (script : Script) → r ≡ Ok script → IsScriptOf (kinds_of tokens) script → (text : List ℕ) → HasOnlyTokens text tokens → IsOnlyScript text script
   script_found script came is text lexed = record {
     is_text = record { tokens = tokens; has_tokens = lexed.has_tokens; is_script = is };
@@ -144,7 +144,7 @@ module _ (tokens : List Token) (r : Result Script ParseFault)
       (λ (e : r ≡ Err parse.NoMemory). absurd (told (err-same f parse.NoMemory (sym came ∙ e))))
       (exact g h other)
 
-  -- this fault came
+  -- the parser returned this error
   pub parsing_failed : (f : ParseFault) → r ≡ Err f → f ≢ parse.NoMemory → HasParseFault (kinds_of tokens) f → (text : List ℕ) → HasOnlyTokens text tokens → IsFound text (NoScript f)
   parsing_failed f came told has text lexed = record { holds = record { not_memory = told; tokens = tokens; has_tokens = lexed.has_tokens; fault_is = has }; only = rest } where
     rest : (other : Finding) → Holds text other → IsSame (NoScript f) other
@@ -156,10 +156,10 @@ module _ (tokens : List Token) (r : Result Script ParseFault)
     rest (ManyRoots count) h = absurd (no-spelt f came told text lexed (spelt text (ManyRoots count) tt h))
     rest (Program' program) h = absurd (no-spelt f came told text lexed (spelt text (Program' program) tt h))
 
--- Scripts that are spelt.
+-- The script that a source parses as.
 
 module _ (text : List ℕ) (script : Script) (read : IsOnlyScript text script) where
-  -- what holds of any script of the text holds of this one
+  -- a property of any script that the source parses as is a property of this script
   here : (P : Script → Type 0) (other : Script) → IsTextOf text other → P other → P script
   here P other is h = subst P (read.one other is) h
 

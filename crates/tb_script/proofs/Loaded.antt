@@ -1,4 +1,4 @@
--- What the parts of the loader answered is what is found of the text.
+-- The results of the loader's parts give the finding of the source.
 use Rattle.std.proofs.Common.{ℕ, List, Err}
 use Rattle.tb_body.specs.declared.body.Body.{Body}
 use Rattle.tb_syntax.specs.declared.script.Script.{Script}

@@ -1,4 +1,4 @@
--- A script has one program at most.
+-- A script has at most one program.
 use Rattle.std.proofs.Common.{◌≡◌, ℕ, List, [], ◌∷◌, map, Option, Some, IsTrue, refl, sym, ap, subst, ◌∙◌}
 use Rattle.std.proofs.Math.Bool.{Bool-set}
 use Rattle.std.specs.List.{AllZip}
@@ -19,7 +19,7 @@ use Rattle.tb_syntax.specs.declared.script.Script.{Script}
 use Rattle.tb_expand.specs.Faults.{IsExpansion}
 use Rattle.tb_script.specs.Programs.{IsRootOf, IsProgramOf}
 
--- bodies of one definition are one
+-- the bodies of one definition are equal
 
 record Made : Type 0 where
   tree : Tree
@@ -58,7 +58,7 @@ one_bodies script (d ∷ ds) (b ∷ bs) [] p q = absurd q
 one_bodies script (d ∷ ds) (b ∷ bs) (c ∷ cs) p q =
     ap (λ (x : Body). x ∷ bs) (one_body script d b c p.0 q.0) ∙ ap (λ (xs : List Body). c ∷ xs) (one_bodies script ds bs cs p.1 q.1)
 
--- the roots are given by their names and values
+-- the names and values of the roots determine the roots
 
 abbrev there : Term → Option Term
 there value = Some value
@@ -86,7 +86,7 @@ one_roots script (r ∷ rs) (m ∷ found) [] a b = absurd b
 one_roots script (r ∷ rs) (m ∷ found) (n ∷ other) a b =
     ap (λ (x : Root). x ∷ found) (one_root script r m n a.0 b.0) ∙ ap (λ (xs : List Root). n ∷ xs) (one_roots script rs found other a.1 b.1)
 
--- a program is its bodies, its roots and its tools
+-- the bodies, the roots and the tools determine a program
 
 record Shown : Type 0 where
   bodies : List Body

@@ -20,7 +20,7 @@ behind : (same : Bool) (count : ℕ) (found : Option ℕ) (position : ℕ) → p
 behind true count found position e = refl
 behind false count found position e = ap (λ (n : ℕ). n + 1) e ∙ one_further count found
 
--- the position, or the number of names where none is this one
+-- the position of the name, or the number of names if it isn't among them
 pub position_is : (names : List (List ℕ)) (name : List ℕ) → position_of name names ≡ or_number (length names) (position_if names name)
 position_is [] name = refl
 position_is (first ∷ others) name = behind (bytes_eq first name) (length others) (position_if others name) (position_of name others) (position_is others name)

@@ -1,4 +1,4 @@
--- The program of a proper script is in range.
+-- The program of a well-formed script is in range.
 use Rattle.std.proofs.Common.{◌≡◌, ℕ, suc, ◌+◌, ◌≤◌, Bool, true, false, ◌&&◌, not, List, [], ◌∷◌, ◌++◌, map, length, Option, Some, None, find, Contains, flat_map, refl, sym, ap, subst, ◌∙◌, arith}
 use Rattle.std.specs.Prelude.{if◌then◌else◌, slice_get}
 use Rattle.std.specs.List.{AllZip, AllByRecursion, list_all}
@@ -144,7 +144,7 @@ module _ (script : Script) (proper : Proper script) (bodies : List Body) (zip : 
 
 -- Roots.
 
--- an actual with a value of its formal's sort
+-- an argument with a value of its parameter's type
 record IsValued (formal : Formal) (actual : Ast) : Type 0 where
   value : Term
   is : closed_value actual ≡ Some value
@@ -162,7 +162,7 @@ both_true : (a b : Bool) → a && b ≡ true → b ≡ true
 both_true true b h = h
 both_true false b h = absurd cc
 
--- A result variable may not stand where a value is sent.
+-- A result variable can't be where a value is sent.
 
 abbrev layer_misplaced : layer.AstKind-F AstKind Ast → ℕ → List Violation
 layer_misplaced x token =
@@ -180,7 +180,7 @@ result_misplaced (layer.Result name) token is e = let no : true ≡ false = note
 result_misplaced (layer.Hole sort) token is e = absurd cc
 result_misplaced (layer.List parts) token is e = absurd cc
 
--- no root takes a result: a result variable may not stand there, and nothing else may be its actual
+-- no root takes a result: a result variable can't be an argument there, and nothing else can be the argument of a result parameter
 actual_valued : (script : Script) (formal : Formal) (actual : Ast) (result : Bool)
     → site_faults script [] Sent (if result then exact formal.sort else rooted formal.sort) actual ≡ [] → IsValued formal actual
 actual_valued script formal actual true free =
@@ -190,7 +190,7 @@ actual_valued script formal actual false free =
     let site = free_site script [] Sent (rooted formal.sort) actual free in
     valued formal actual (closed_value actual) refl (both_true _ (has_value_of actual formal.sort) (not_false _ site.fits))
 
--- each actual has a value of its formal's sort
+-- each argument has a value of its parameter's type
 abbrev AreValued : List Formal → List Ast → Type 0
 AreValued [] [] = Unit {0}
 AreValued [] (actual ∷ actuals) = ⊥
@@ -214,7 +214,7 @@ actuals_valued script all (formal ∷ formals) position (actual ∷ actuals) sam
     = λ k. let moved : (position + 1) + k ≡ position + suc k = omega arith in ap (slice_get all) moved ∙ same (suc k) in
     (actual_valued script formal actual formal.result (subst (λ o. asked script actual o ≡ []) here parts.0), actuals_valued script all formals (position + 1) actuals behind (omega (arith, count)) parts.1)
 
--- a root: its process is there, and takes the values
+-- a root: its process exists and takes the values
 record IsRooted (script : Script) (call : Call) : Type 0 where
   called : ProcDef
   is : process_named script.procs call.name ≡ Some called
@@ -247,7 +247,7 @@ have_values script [] h = tt
 have_values script (call ∷ calls) h =
     (All-from_recursion (λ (e : Ast). IsSome (closed_value e)) call.actuals (values_there h.0.called.formals call.actuals h.0.values), have_values script calls h.1)
 
--- each actual of each root has a value
+-- each argument of each root has a value
 pub roots_have_values : (script : Script) → Proper script → HaveValues script.roots
 roots_have_values script proper = All-from_recursion HasValues script.roots (have_values script script.roots (roots_rooted script proper))
 
@@ -262,7 +262,7 @@ same_terms t u ts actual actuals e is =
     let rest : map there ts ≡ map closed_value actuals = cc in
     (same_Some t u (first ∙ is), rest)
 
--- the values of a root: as many as formals, of their sorts, and within the limits
+-- the values of a root: as many as parameters, of their types, and within the limits
 record AreTaken (formals : List Formal) (more : List Sort) (values : List Term) : Type 0 where
   count : length values ≡ length formals
   sorts : have_sorts (sorts_of formals ++ more) values ≡ true
@@ -281,7 +281,7 @@ are_taken (formal ∷ formals) more (actual ∷ actuals) (t ∷ ts) h e =
     let limited : is_within_limits t ≡ true = closed_is_limited (closed actual) t (h.0.is ∙ ap there (sym same.0)) in
     record { count = ap suc rest.count; sorts = and_from _ _ well_sorted rest.sorts; limits = and_from _ _ limited rest.limits }
 
--- the sorts of the slots behind the formals
+-- the types of the slots after those of the parameters
 abbrev more_sorts : Script → ProcDef → List Sort
 more_sorts script d = (expands script (length script.procs) d.body (formals_seen 0 d.formals) 1 (length d.formals)).sorts
 
@@ -314,7 +314,7 @@ in_range script bodies roots proper zip made few =
     (and_from _ _ (all_in_program script proper bodies zip) (le-leb (length roots) 10000 (omega (arith, zip_long (IsRootOf script) script.roots roots made, few))))
     (roots_in_range script bodies zip script.roots roots (roots_rooted script proper) made)
 
--- the program of a proper script is in range
+-- the program of a well-formed script is in range
 pub program_in_range : (script : Script) (bodies : List Body) (roots : List Root) (kinds : List Tool) → Proper script
     → AllZip (IsExpansion script) script.procs bodies → AllZip (IsRootOf script) script.roots roots → kinds ≡ map declared_tool script.tools → length script.roots ≤ 10000
     → is_program_in_range bodies roots kinds ≡ true

@@ -1,4 +1,4 @@
--- The value of a root's actual is within the limits of terms.
+-- The value of a root's argument is within the limits of terms.
 use Rattle.std.proofs.Common.{◌≡◌, ℤ, Bool, true, false, List, [], Option, Some, None, option_and_then, refl, sym, subst, ◌∙◌, rules}
 use Rattle.std.specs.Prelude.{if◌then◌else◌}
 use Rattle.std.proofs.lemmas.Option.{same_Some, none-some}
@@ -45,6 +45,6 @@ by_layer (layer.Appl name parts) t is = and_then_is (all_of parts) (λ ts. term.
 by_layer (layer.Call func parts) t is = call_is (all_of parts) t (apply_of func) (λ ts e. applied_is (given func ts) t e) is
 by_layer (layer.List parts) t is = and_then_is (all_of parts) (λ ts. term.List ts) t is
 
--- where no variable is known
+-- the value of an expression, if no variable has a value
 pub closed_is_limited : (e : Expr) (t : Term) → value_of [] e ≡ Some t → is_within_limits t ≡ true
 closed_is_limited e t is = by_layer (map-Expr Expr (Option Term) (value_of []) (out-Expr e)) t (sym (fold_out-Expr (Option Term) (value_step []) e) ∙ is)

@@ -1,2 +1,2 @@
--- Definitions that proofs and private functions need, and that nobody has to believe.
+-- Definitions for proofs and private functions. Nobody has to trust them.
 pub mod Making

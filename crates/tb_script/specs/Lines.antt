@@ -1,4 +1,4 @@
--- The text of the line of a fault of a script.
+-- The text of the line of an error of a script.
 use Rattle.std.specs.Prelude.{ℕ, List, ◌++◌, codes}
 use Rattle.std.specs.Fmt.{decimal}
 use Rattle.tb_lex.specs.Lines.{lex_line}

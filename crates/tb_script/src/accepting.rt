@@ -1,4 +1,4 @@
-//! The check that a script is accepted, which makes no program.
+//! Checks whether a script is accepted, without making its program.
 ghost use Rattle.std.specs.Prelude.{ℕ, List};
 ghost use Rattle.tb_body.specs.declared.body.Body.{Body};
 ghost use Rattle.tb_types.specs.Conditions.{Proper};
@@ -14,8 +14,8 @@ use tb_body::MOST_ROOTS;
 use tb_syntax::Script;
 use tb_types::{Names, proper_names};
 
-/// Whether a script is accepted, so that `load` gives its program, or what keeps it from being so: the first
-/// of the faults in their order. No program is made.
+/// Checks whether a script is accepted, so that `load` returns its program. If the script is rejected, returns the first error in the
+/// order of the checks. The call makes no program.
 pub fn accept(alloc: Global, bytes: &[u8]) -> Result<(), ScriptFault>
     ensures { HasAccepted bytes.now result }
 {
@@ -34,7 +34,7 @@ fn accept_script(alloc: Global, script: &Script) -> Result<(), ScriptFault>
     }
 }
 
-/// Whether a proper script, whose names these are, is accepted.
+/// Checks whether a well-formed script with these names is accepted.
 fn accept_proper(alloc: Global, names: &Names) -> Result<(), ScriptFault>
     requires { Proper names.now.script.now }
     ensures { (text : List ℕ) → IsOnlyScript text names.now.script.now → HasAccepted text result }
@@ -45,7 +45,7 @@ fn accept_proper(alloc: Global, names: &Names) -> Result<(), ScriptFault>
     }
 }
 
-/// Whether a script whose processes have bodies has no more roots than it may.
+/// Checks that a script whose processes have bodies doesn't have too many roots.
 fn accept_roots(names: &Names) -> Result<(), ScriptFault>
     requires proper { Proper names.now.script.now }
     requires expanded { (bodies : List Body) × AreExpansions names.now.script.now bodies }

@@ -1,4 +1,4 @@
-//! The bodies of the processes of a script.
+//! Makes or checks the bodies of the processes of a script.
 ghost use Rattle.tb_types.specs.Conditions.{Proper};
 ghost use Rattle.tb_expand.specs.Faults.{HasNoCycle};
 ghost use Rattle.tb_script.specs.Helpers.Making.{HasBodies, MayHaveBodies};
@@ -9,7 +9,7 @@ use tb_expand::{ExpandFault, Expansions};
 use tb_terms::Items;
 use tb_types::Names;
 
-/// The bodies of the processes of a proper script, whose names these are, in order of definition.
+/// Returns the bodies of the processes of a well-formed script with these names, in order of definition.
 pub(crate) fn bodies_of(alloc: Global, names: &Names) -> Result<Bodies, ExpandFault>
     requires { Proper names.now.script.now }
     ensures { HasBodies names.now.script.now result }
@@ -34,7 +34,7 @@ fn all_bodies(alloc: Global, expansions: &Expansions) -> Result<Bodies, ExpandFa
     Ok(bodies)
 }
 
-/// Whether the processes of a proper script, whose names these are, have bodies. None is built.
+/// Checks whether the processes of a well-formed script with these names have bodies. The call builds no body.
 pub(crate) fn check_bodies(alloc: Global, names: &Names) -> Result<(), ExpandFault>
     requires { Proper names.now.script.now }
     ensures { MayHaveBodies names.now.script.now result }

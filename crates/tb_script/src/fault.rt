@@ -1,4 +1,4 @@
-//! The reasons why a text has no program.
+//! The reasons why a source has no program.
 ghost use Rattle.std.specs.Prelude.{◌≡◌};
 ghost use Rattle.tb_message.specs.Messages.{message_text};
 ghost use Rattle.tb_script.specs.Lines.{script_line};
@@ -11,29 +11,30 @@ use tb_parse::ParseFault;
 use tb_terms::NoMemory;
 use tb_types::CheckFault;
 
-/// Why a text has no program. Running out of memory is `NoMemory` alone, whichever part it met.
+/// The reason why a source has no program. Each part of the loader reports out of memory as `NoMemory`.
 #[derive(Debug, Drop)]
 pub enum ScriptFault {
-    /// The bytes have no tokens; never because memory ran out.
+    /// The source has no tokens within the limit. The error inside is never `NoMemory`.
     Lex(LexFault),
-    /// The tokens spell no script within the limits; never because memory ran out.
+    /// The tokens don't parse as a script within the limits. The error inside is never `NoMemory`.
     Parse(ParseFault),
-    /// The script fails one of the nine conditions; never because memory ran out.
+    /// The script fails one of the nine conditions. The error inside is never `NoMemory`.
     Check(CheckFault),
-    /// Calls form a cycle, or an expansion is too large; never because memory ran out.
+    /// Calls form a cycle, or an expansion is too large. The error inside is never `NoMemory`.
     Expand(ExpandFault),
-    /// There are this many roots, more than 10,000.
+    /// The script has this many roots, more than 10,000.
     Roots(usize),
-    /// There are this many bytes, more than 1,048,576; `load` never answers so, since it reads any number.
+    /// The source has this many bytes, more than 1,048,576. `load` never returns this error, since it reads any number of bytes.
     TooLong(usize),
-    /// The script has a form that isn't built, whose first token this is, from 0; `load` never answers so: each is.
+    /// The script has a form that isn't implemented. The number is the position of its first token, from 0. `load` never returns this
+    /// error, since each form is implemented.
     NotBuilt(usize),
-    /// There wasn't memory enough; it says nothing of the script.
+    /// Memory ran out. This states nothing about the script.
     NoMemory,
 }
 
 impl ScriptFault {
-    /// The words of its line.
+    /// Returns the text of the error's line.
     pub fn message(&self) -> Message<'_>
         ensures { message_text result ≡ script_line self.now }
     {

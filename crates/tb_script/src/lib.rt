@@ -1,4 +1,4 @@
-//! From the bytes of a script to its program.
+//! Makes the program of a script from its bytes.
 #![tactic(auto)]
 
 mod accepting;

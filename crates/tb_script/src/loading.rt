@@ -1,4 +1,4 @@
-//! The program of a text.
+//! Makes the program of a source.
 ghost use Rattle.std.specs.Prelude.{◌≡◌, ℕ, List};
 ghost use Rattle.tb_types.specs.Conditions.{Proper};
 ghost use Rattle.tb_script.specs.Loading.{HasLoaded};
@@ -14,10 +14,11 @@ use tb_expand::ExpandFault;
 use tb_syntax::Script;
 use tb_types::{CheckFault, Names, proper_names};
 
-/// The program of a script that is accepted, or what keeps the text from having one: the first of the
-/// faults in their order. Any number of bytes is read.
+/// Returns the program of a script that is accepted. If the script is rejected, returns the first error in the order of the checks.
+/// The call reads any number of bytes.
 pub fn load(alloc: Global, bytes: &[u8]) -> Result<Program, ScriptFault>
-    // What comes holds of the text, and nothing else that may be found of a text does.
+    // Unless memory runs out, the result is the only finding of the source. If there are several cycles of calls, it may name any of
+    // them.
     ensures { HasLoaded bytes.now result }
 {
     match read_script(alloc, bytes) {
@@ -35,7 +36,7 @@ fn load_script(alloc: Global, script: &Script) -> Result<Program, ScriptFault>
     }
 }
 
-/// The program of a proper script, whose names these are.
+/// Returns the program of a well-formed script with these names.
 fn load_proper(alloc: Global, names: &Names) -> Result<Program, ScriptFault>
     requires { Proper names.now.script.now }
     ensures { (text : List ℕ) → IsOnlyScript text names.now.script.now → HasLoaded text result }

@@ -1,4 +1,4 @@
-//! The program of a script whose names and bodies are known.
+//! Makes the program of a script from its names and bodies.
 ghost use Rattle.std.specs.Prelude.{◌≡◌, IfOk, map};
 ghost use Rattle.tb_types.specs.Conditions.{Proper};
 ghost use Rattle.tb_script.specs.Programs.{declared_tool};
@@ -12,7 +12,7 @@ use tb_syntax::ToolDef;
 use tb_terms::{Items, NoMemory};
 use tb_types::Names;
 
-/// The program of a proper script, whose names and bodies these are.
+/// Returns the program of a well-formed script with these names and bodies.
 pub(crate) fn program_of(
     alloc: Global,
     names: &Names,

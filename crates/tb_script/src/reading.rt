@@ -1,4 +1,4 @@
-//! The script that a text parses as.
+//! Parses a source as a script.
 ghost use Rattle.std.specs.Prelude.{ℕ, List};
 ghost use Rattle.tb_script.specs.Helpers.Making.{HasOnlyTokens, HasReadScript};
 
@@ -8,7 +8,7 @@ use tb_lex::{LexFault, Tokens, lex};
 use tb_parse::{ParseFault, parse};
 use tb_syntax::Script;
 
-/// The script that a text spells within the limits.
+/// Returns the script that the source parses as, within the limits.
 pub(crate) fn read_script(alloc: Global, bytes: &[u8]) -> Result<Script, ScriptFault>
     ensures { HasReadScript bytes.now result }
 {

@@ -1,4 +1,4 @@
-//! The processes with which a script starts, with the values of their arguments.
+//! Makes the roots of a script: the processes with which it starts, with the values of their arguments.
 ghost use Rattle.std.specs.Prelude.{◌≡◌, ◌<◌, IfOk, IsSome, All, Some, map, length};
 ghost use Rattle.std.specs.List.{AllZip};
 ghost use Rattle.tb_types.specs.Values.{closed_value};
@@ -12,7 +12,7 @@ use tb_syntax::{Ast, Call};
 use tb_terms::{Items, NoMemory, Term, Terms};
 use tb_types::{Names, closed_value};
 
-/// The roots of the script whose names these are, each with the values of its actuals.
+/// Returns the roots of the script with these names, each with the values of its arguments.
 pub(crate) fn roots_of(alloc: Global, names: &Names) -> Result<Roots, NoMemory>
     requires { HaveValues names.now.script.now.roots }
     ensures { IfOk result
@@ -41,7 +41,7 @@ fn root_of(alloc: Global, names: &Names, call: &Call) -> Result<Root, NoMemory>
     Ok(Root { process, actuals })
 }
 
-/// The position of the process of this name, or the number of processes.
+/// Returns the position of the process with this name. If there is none, returns the number of processes.
 fn process_of(names: &Names, name: &[u8]) -> Result<u32, NoMemory>
     ensures { IfOk result (λ position. position ≡ process_of names.now.script.now name.now) }
 {

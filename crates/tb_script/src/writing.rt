@@ -1,4 +1,4 @@
-//! The words of a fault, at the end of some bytes.
+//! Appends the text of an error to bytes.
 
 ghost use Rattle.std.specs.Prelude.{◌≡◌, ◌++◌, ◌∷◌, OnOk, OnErr, decimal};
 ghost use Rattle.std.specs.List.{flat_map, join_with_byte};
@@ -11,7 +11,8 @@ use itoa::Buffer;
 use tb_message::{Message, Rest};
 use tb_terms::{Ident, NoMemory};
 
-/// Writes the words of the line of a fault at the end: those of [`ScriptFault::message`], for a caller that collects bytes.
+/// Appends the text of an error's line, the same as [`ScriptFault::message`], for a caller that collects bytes. If memory runs out,
+/// the bytes remain unchanged.
 pub fn write_fault(fault: &ScriptFault, into: &mut Vec<u8>) -> Result<(), NoMemory>
     ensures ok { OnOk result (into.new.items ≡ into.old.items ++ script_line fault.now) }
     ensures err { OnErr result (into.new.items ≡ into.old.items) }
@@ -34,7 +35,7 @@ fn push_line(line: &Message, into: &mut Vec<u8>) -> Result<(), NoMemory>
     push_rest(&line.rest, into)
 }
 
-/// Writes what stands behind the words.
+/// Appends the rest of the line, after its words.
 fn push_rest(rest: &Rest, into: &mut Vec<u8>) -> Result<(), NoMemory>
     ensures ok { OnOk result (into.new.items ≡ into.old.items ++ rest_text rest.now) }
     ensures err { OnErr result (KeepsPrefix into.old.items into.new.items) }
@@ -55,7 +56,7 @@ fn push_number(number: usize, into: &mut Vec<u8>) -> Result<(), NoMemory>
     Ok(())
 }
 
-/// Writes names with a comma between each two.
+/// Appends names, joined by commas.
 fn push_names(names: &[Ident], into: &mut Vec<u8>) -> Result<(), NoMemory>
     ensures ok { OnOk result (into.new.items ≡ into.old.items ++ join_with_byte 44 names.now) }
     ensures err { OnErr result (KeepsPrefix into.old.items into.new.items) }
@@ -67,7 +68,7 @@ fn push_names(names: &[Ident], into: &mut Vec<u8>) -> Result<(), NoMemory>
     push_more_names(others, into)
 }
 
-/// Writes each name behind a comma.
+/// Appends a comma and the name, for each name.
 fn push_more_names(names: &[Ident], into: &mut Vec<u8>) -> Result<(), NoMemory>
     ensures ok { OnOk result
         (into.new.items ≡ into.old.items ++ flat_map (λ name. 44 ∷ name) names.now) }

@@ -1,4 +1,4 @@
--- What a search finds names rows and actions that there are.
+-- Each candidate that a search finds names rows and actions that exist.
 use Rattle.std.proofs.Common.{◌≡◌, ◌≢◌, ℕ, ◌+◌, ◌<◌, ◌==◌, List, [], ◌∷◌, map, take, drop, length, refl, ap, sym, subst, ◌∙◌, Option, Some, None, Bool, true, false, slice_get, eq-eqb, if◌then◌else◌, option_map, option_to_list, IfSome}
 use Rattle.std.proofs.lemmas.List.Elements.{All-nil, All-cons, All-append, All-map, All-head, All-weaker}
 use Rattle.std.proofs.lemmas.Option.{get_or_from_slice_get, slice_get_within}
@@ -21,7 +21,7 @@ use Rattle.tb_search.specs.declared.candidate.Candidate.TheVariants as candidate
 use Rattle.tb_search.proofs.PartLemmas.{StandAt, stand-whole, stand-drop, stand-take}
 use Rattle.tb_search.proofs.RowLemmas.{ready_at-is, partner_at, first_moves}
 
--- it names an action that receives the terms, of another process than the one with this number
+-- the partner exists, is another process than the one with this number, and its action receives the terms
 abbrev IsPartnerIn : List Row → ℕ → List Term → Partner → Type 0
 IsPartnerIn rows number terms partner =
     (partner.living < length rows) × (partner.received.action < length (row_at rows partner.living).ready)
@@ -118,7 +118,7 @@ module _ (scene : Scene) where
       All-append (IsCandidateIn scene) (candidates_of scene at row) (candidates_from scene (at + 1) some)
       (candidates_among-in at row h.0 0 row.ready (stand-whole row.ready)) (candidates_from-in (at + 1) some h.1)
 
-  -- All that a search in turn finds names rows and actions that there are.
+  -- Each candidate of a search in turn names rows and actions that exist.
   all_in_turn : (last : ℕ) → All (IsCandidateIn scene) (candidates_in_turn scene last)
   unfolding candidates_in_turn
   all_in_turn last =
@@ -140,18 +140,18 @@ module _ (scene : Scene) where
   down-in false candidates h = h
 
 module _ (scene : Scene) (marks : Marks) where
-  -- All that a search finds names scene.rows and actions that there are.
+  -- Each candidate names rows and actions that exist.
   pub all_candidates-in : All (IsCandidateIn scene) (all_candidates scene marks)
   unfolding all_candidates
   all_candidates-in =
       down-in scene marks.down (candidates_while_up scene marks scene.rows) (while_up-in scene marks scene.rows)
 
-  -- What is the first that a search finds is the first move of the bus that is searched.
+  -- The first candidate that a search finds is the first move of the bus.
   pub move_first : (found : Option Candidate) → ascend 0 scene.rows ≡ true → found ≡ first (all_candidates scene marks) →
       (bus : Bus) → IsSearchedFor bus scene marks → option_map (move_of bus scene.rows) found ≡ first (moves bus)
   move_first found a e bus is = ap (option_map (move_of bus scene.rows)) e ∙ first_moves bus scene marks is a
 
-  -- And it names scene.rows and actions that there are.
+  -- The first candidate names rows and actions that exist.
   pub stands_first : (found : Option Candidate) → found ≡ first (all_candidates scene marks) → IfSome found (IsCandidateIn scene)
   stands_first None e = tt
   stands_first (Some found) e = first-all (IsCandidateIn scene) (all_candidates scene marks) found all_candidates-in (sym e)

@@ -1,4 +1,4 @@
--- What the actions that a search found come to on the bus that is searched.
+-- The effects of found actions on the bus.
 use Rattle.std.proofs.Common.{◌≡◌, ℕ, ◌<◌, ◌&&◌, zero, suc, List, [], ◌∷◌, length, refl, ap, sym, subst, ◌∙◌, arith, Option, Some, None, is_some, option_map, Bool, true, false, not, if◌then◌else◌}
 use Rattle.std.specs.List.{list_all}
 use Rattle.std.proofs.lemmas.Option.{same_Some}
@@ -22,7 +22,7 @@ use Rattle.tb_search.specs.declared.candidate.Finding.{Finding}
 use Rattle.tb_search.specs.declared.candidate.Finding.TheVariants as finding
 use Rattle.tb_search.specs.declared.candidate.Candidate.TheVariants as candidate
 
--- what is searched is the bus, as far as an action asks for it
+-- the scene represents the bus, as far as an action needs it
 pub record IsSceneOf (bus : Bus) (scene : Scene) : Type 0 where
   pub bodies_are : bus.program.bodies ≡ scene.bodies
   pub kinds_are : bus.program.tools ≡ scene.kinds
@@ -47,7 +47,7 @@ module _ (bodies : List Body) (now : ℕ) where
   rows-length (row ∷ rows) [] h = absurd h
   rows-length (row ∷ rows) (proc ∷ procs) h = ap suc (rows-length rows procs h.1)
 
-  -- and at each index stands the row of the process there
+  -- the row at an index represents the process at this index
   pub row-at : (rows : List Row) (procs : List Proc) (at : ℕ) → AreRowsOf bodies now rows procs → at < length rows → IsRowOf bodies now (row_at rows at) (proc_at procs at)
   row-at [] procs at h l = absurd (omega arith)
   row-at (row ∷ rows) [] at h l = absurd h
@@ -63,7 +63,7 @@ module _ (bodies : List Body) (now : ℕ) where
       ap (λ inbox. takes_note terms inbox && all_take terms rows) h.0.inbox
       ∙ ap (λ rest. takes_note terms proc.inbox && rest) (all_take-is terms rows procs h.1)
 
--- what may happen is found where it has an effect, and then has this one
+-- an action has a finding if and only if it has an effect, and the finding determines the effect
 
 if-same : {A B : Type 0} (b : Bool) (x : A) (y : B) → is_some (if b then Some x else None) ≡ is_some (if b then Some y else None)
 if-same true x y = refl
@@ -120,7 +120,7 @@ module _ (bus : Bus) (scene : Scene) (is : IsSceneOf bus scene) where
       ∙ ap (λ bench. setting_by bus.program.bodies bus.program.tools bench row.body) (sym is.bench_is)
       ∙ ap (setting_by bus.program.bodies bus.program.tools bus.bench) e
 
-  -- what a process does by itself is found where it has an effect
+  -- an action that a process does by itself has a finding if and only if it has an effect
   pub happens-is : (row : Row) (proc : Proc) → row.inbox ≡ proc.inbox → row.body ≡ proc.body → (own : OwnAction) → is_some (finding_of scene row own) ≡ is_some (own_effect bus proc own)
   happens-is row proc inbox body own.Tau = refl
   happens-is row proc inbox body (own.Set values binds) = refl
@@ -140,7 +140,7 @@ module _ (bus : Bus) (scene : Scene) (is : IsSceneOf bus scene) where
       ∙ map-same finding.Speak (speaking (setting_of bus proc) does) (exchange_for (setting_of bus proc) does)
   happens-is row proc inbox body (own.Shutdown reason) = refl
 
-  -- and as it was found it has this effect
+  -- an action with this finding has this effect
   own-happens : (row : Row) (proc : Proc) → row.inbox ≡ proc.inbox → row.body ≡ proc.body → (own : OwnAction) (found : Finding) → finding_of scene row own ≡ Some found →
       own_effect bus proc own ≡ Some (effect_by bus.next_number proc.inbox (setting_of bus proc) own found)
   own-happens row proc inbox body own.Tau found h = refl
@@ -162,11 +162,11 @@ module _ (bus : Bus) (scene : Scene) (is : IsSceneOf bus scene) where
   own-happens row proc inbox body (own.Shutdown reason) found h = refl
 
 module _ (bus : Bus) (scene : Scene) (marks : Marks) (is : IsSearchedFor bus scene marks) where
-  -- the row at an index is that of the process there
+  -- the row at an index represents the process at this index
   pub found-row : (at : ℕ) → at < length scene.rows → IsRowOf scene.bodies bus.now (row_at scene.rows at) (proc_at bus.procs at)
   found-row at l = row-at scene.bodies bus.now scene.rows bus.procs at is.rows_are l
 
-  -- What a process does by itself has this effect, as it was found.
+  -- The action at an index has the effect of its finding.
   pub own-effect-is : (at index : ℕ) (found : Finding) → IsCandidateIn scene (candidate.Own at index found) → (own : OwnAction) → (ready_at scene.rows at index).action ≡ action.Own own →
       effect_of bus (proc_at bus.procs at) (ready_at scene.rows at index).action ≡ Some (effect_by scene.next_number (row_at scene.rows at).inbox (setting_in scene (row_at scene.rows at)) own found)
   own-effect-is at index found h own e =

@@ -1,4 +1,4 @@
--- Whom an index doesn't name leads to nothing: no partner receives what is sent, and no starter begins anything.
+-- A process that an index doesn't name leads to no candidate: it receives no message, or begins nothing.
 use Rattle.std.proofs.Common.{◌≡◌, ℕ, ◌+◌, ◌<◌, ◌==◌, ◌||◌, List, [], ◌∷◌, ◌++◌, map, length, refl, ap, subst, ◌∙◌, arith, Option, Some, None, Bool, true, false, not, is_some, option_map, option_to_list, if◌then◌else◌, inl, inr, ⊎_elim}
 use Rattle.std.proofs.lemmas.Bool.{both_ways, and_parts, or_cases, or_left, or_right, eqb-true, cases_Bool}
 use Rattle.std.proofs.lemmas.List.{length-append, get_or_append_left, get_or-append-add}
@@ -43,7 +43,7 @@ mark-of : (count head other_count other_head : ℕ) → count ≡ other_count �
 mark-of count head other_count other_head e f =
     ap (λ (n : ℕ). record { count = n; head = head }) e ∙ ap (λ (n : ℕ). record { count = other_count; head = n }) f
 
--- who receives under a mark that meets another receives what is sent under that
+-- a process that receives under a mark receives each message whose mark it meets
 meeting : (index : IndexState) (received sent : Mark) (proc : ℕ) → meets received sent ≡ true → receives index received proc ≡ true → is_receiver index sent proc ≡ true
 meeting index received sent proc m h =
     let t = and_parts (received.count == sent.count) ((received.head == open_head) || (received.head == sent.head)) m in
@@ -81,7 +81,7 @@ module _ (index : IndexState) (terms : List Term) where
   partner-none at true found e = refl
   partner-none at false found e = ap (map (partner_at at)) e
 
-  -- who isn't named as a receiver is nobody's partner
+  -- a process that isn't named as a receiver doesn't receive the message
   pub partner-deaf : (number at : ℕ) (row : Row) → IsIndexed index row → is_receiver index (sent_mark terms) row.number ≡ false → partner_in number terms at row ≡ []
   partner-deaf number at row h deaf =
       partner-none at (row.number == number) (receptions terms 0 row.ready) (receptions-deaf row.number deaf 0 row.ready h.received)
@@ -93,7 +93,7 @@ module _ (index : IndexState) (terms : List Term) where
       (partner-deaf number at row (All-head (IsIndexed index) row rows h) (deaf row.number))
       (partners-deaf number (at + 1) rows (All-tail (IsIndexed index) row rows h) deaf)
 
--- what isn't found leads nowhere
+-- without a finding, there is no candidate
 led-nowhere : {A : Type 0} (f : Finding → Candidate) (g : A → Finding) (found : Option A) → not (is_some found) ≡ true → map f (option_to_list (option_map g found)) ≡ []
 led-nowhere f g None e = refl
 led-nowhere f g (Some x) e = cc
@@ -102,7 +102,7 @@ led-unless : (f : Finding → Candidate) (there : Bool) → there ≡ true → m
 led-unless f true e = refl
 led-unless f false e = cc
 
--- what rests doesn't happen
+-- an action that rests has no candidate
 own-rest : (scene : Scene) (row : Row) (at place : ℕ) (does : OwnAction) → own_rests (setting_in scene row) row.inbox does ≡ true → map (candidate.Own at place) (option_to_list (finding_of scene row does)) ≡ []
 own-rest scene row at place own.Tau c = cc
 own-rest scene row at place (own.Set values binds) c = cc
@@ -139,7 +139,7 @@ module _ (index : IndexState) (scene : Scene) (each : All (IsIndexed index) scen
         (by-rest at place ready.action t.0 (all-left (λ (mark : Mark). sends index mark row.number ≡ true) (sent_by ready.action) (sent_marks others) h))
         (among-rest at (place + 1) others t.1 (all-right (λ (mark : Mark). sends index mark row.number ≡ true) (sent_by ready.action) (sent_marks others) h))
 
-    -- who isn't named as a starter begins nothing
+    -- a process that isn't named as a starter has no candidate
     pub of-asleep : (at : ℕ) → IsIndexed index row → SleepsAtRest (setting_by scene.bodies scene.kinds scene.bench) index row → candidates_of scene at row ≡ []
     of-asleep at h sleeps =
         let asleep : is_awake index row.number ≡ false = ⊎_elim
@@ -148,10 +148,10 @@ module _ (index : IndexState) (scene : Scene) (each : All (IsIndexed index) scen
         (cases_Bool (is_awake index row.number)) in
         among-rest at 0 row.ready (sleeps asleep) h.sent
 
--- each of the rows sleeps at rest
+-- the claim about sleeping processes, for the row at a place
 pub asleep-at : (settings : ℕ → Setting) (index : IndexState) (rows : List Row) (place : ℕ) → All (SleepsAtRest settings index) rows → place < length rows → SleepsAtRest settings index (row_at rows place)
 asleep-at settings index rows place h within = All-get_or (SleepsAtRest settings index) rows place no_row within h
 
--- and is indexed
+-- the claim about the marks, for the row at a place
 pub indexed-at : (index : IndexState) (rows : List Row) (place : ℕ) → All (IsIndexed index) rows → place < length rows → IsIndexed index (row_at rows place)
 indexed-at index rows place h within = All-get_or (IsIndexed index) rows place no_row within h

@@ -1,4 +1,4 @@
--- Places of rows that stand by their numbers, and searches that pass those who lead to nothing.
+-- Places of rows in the order of their numbers, and searches that pass over rows that lead to nothing.
 use Rattle.std.proofs.Common.{◌≡◌, ℕ, ◌+◌, ◌-◌, ◌^◌, ◌<◌, ◌≤◌, zero, suc, List, [], ◌∷◌, ◌++◌, take, drop, length, refl, ap, sym, ◌∙◌, arith, Option, Some, None, Bool, true, false, not, ◌&&◌, nat_lt, nat_le, get_or, ⊎_elim}
 use Rattle.std.proofs.lemmas.Bool.{ltb-true, ltb-false, lt-ltb, lt-leb, le-leb, leb-true, and_from, and_parts, cases_lt}
 use Rattle.std.proofs.lemmas.Bool.Decides.{nat_tests}
@@ -12,7 +12,7 @@ use Rattle.tb_search.specs.Indexed.{IsNextPlace, IsNextOf, IsPlaceOf}
 use Rattle.tb_search.specs.declared.living.Living.{Living}
 use Rattle.tb_search.proofs.TurnLemmas.{ascend-first, ascend-above, ascend-upto, up_to-point}
 
--- who stands behind another has a larger number
+-- a later row has a larger number
 pub ascend-less : (below : ℕ) (rows : List Row) (i j : ℕ) (d : Row) → ascend below rows ≡ true → i < j → j < length rows → (get_or rows i d).number < (get_or rows j d).number
 ascend-less below [] i j d h l m = absurd (omega arith)
 ascend-less below (row ∷ rows) i zero d h l m = absurd (omega arith)
@@ -27,7 +27,7 @@ ascend-take below (suc n) (row ∷ rows) h =
     let t = ascend-first below row rows h in
     and_from (nat_lt below row.number) (ascend row.number (take n rows)) (lt-ltb below row.number t.0) (ascend-take row.number n rows t.1)
 
--- those below a number stand in front
+-- the processes with numbers below a number come first
 pub partitioned-below_number : {W : Type 0} (all : List (Living W)) (number : ℕ) → ascend 0 (rows_of all) ≡ true → IsPartitionedBy (λ living. nat_lt living.number number) all
 partitioned-below_number all number h i j d le within passes =
     let small : (get_or all j d).number < number = ltb-true _ _ passes in
@@ -37,7 +37,7 @@ partitioned-below_number all number h i j d le within passes =
     let upper : (get_or (rows_of all) j (row_of d)).number ≡ (get_or all j d).number = ap (λ (row : Row). row.number) (get_or-map row_of all j d (row_of d) (omega arith)) in
     lt-ltb (get_or all i d).number number (omega arith)
 
--- where one has the number, those up to it end behind that one
+-- if a process has the number, the processes up to the number end after it
 pub upto-exact : {W : Type 0} (all : List (Living W)) (last place : ℕ) (some : Living W) → ascend 0 (rows_of all) ≡ true → place < length all → (get_or all place some).number ≡ last → place + 1 ≡ up_to last (rows_of all)
 upto-exact {W = W} all last place some h within is =
     let many = length-map all row_of in
@@ -56,7 +56,7 @@ upto-exact {W = W} all last place some h within is =
           lt-leb (get_or all k d).number last (omega (arith, lower, upper, there, between)),
     )
 
--- the place of a number that isn't behind the last
+-- the place of a number that isn't above the last one
 pub place-within : (rows : List Row) (last number place : ℕ) → 0 < length rows → (row_at rows (length rows - 1)).number ≡ last → number ≤ last → place ≤ length rows →
     ((k : ℕ) → k < place → (row_at rows k).number < number) → ((k : ℕ) → place ≤ k → k < length rows → number ≤ (row_at rows k).number) → IsPlaceOf rows number (Some place)
 place-within rows last number place some is upto most below above =
@@ -65,12 +65,12 @@ place-within rows last number place some is upto most below above =
     (cases_lt place (length rows)) in
     (within, above place (omega arith) within, below)
 
--- there is none behind the last
+-- there is no place for a number above the last one
 pub place-past : (rows : List Row) (last number : ℕ) → ascend 0 rows ≡ true → (row_at rows (length rows - 1)).number ≡ last → last < number → IsPlaceOf rows number None
 place-past rows last number a is past place within =
     let upper = ascend-upto 0 rows place (length rows - 1) no_row a (omega (arith, within)) (omega (arith, within)) in omega (arith, upper, is, past)
 
--- whether a number is outside of those that were passed over
+-- whether a number wasn't passed over
 abbrev pub is_ahead : ℕ → Option ℕ → ℕ → Bool
 is_ahead from None number = not (nat_le from number && nat_lt number 4294967296)
 is_ahead from (Some found) number = not (nat_le from number && nat_lt number found)
@@ -83,7 +83,7 @@ was-true : (b : Bool) → not b ≡ false → b ≡ true
 was-true true e = refl
 was-true false e = absurd (let t : true ≡ false = e in cc)
 
--- the number found is the next of those ahead
+-- the found number is the next one that wasn't passed over
 pub ahead-next : (Holds : ℕ → Type 0) (from : ℕ) (found : Option ℕ) → NobodyPassed Holds from found → IsNext (is_ahead from found) from found
 ahead-next Holds from None passed = λ number small low. not-true (nat_le from number && nat_lt number 4294967296) (and_from (nat_le from number) (nat_lt number 4294967296) (le-leb from number low) (lt-ltb number 4294967296 small))
 ahead-next Holds from (Some found) passed = (
@@ -92,7 +92,7 @@ ahead-next Holds from (Some found) passed = (
   λ number low less. not-true (nat_le from number && nat_lt number found) (and_from (nat_le from number) (nat_lt number found) (le-leb from number low) (lt-ltb number found less)),
 )
 
--- and whoever isn't ahead is none of those for whom it holds
+-- a number that was passed over doesn't have the property
 pub ahead-none : (Holds : ℕ → Type 0) (from : ℕ) (found : Option ℕ) → NobodyPassed Holds from found → (number : ℕ) → is_ahead from found number ≡ false → Holds number → ⊥
 ahead-none Holds from None passed number behind =
     let t = and_parts (nat_le from number) (nat_lt number 4294967296) (was-true (nat_le from number && nat_lt number 4294967296) behind) in
@@ -103,21 +103,21 @@ ahead-none Holds from (Some found) passed number behind =
 
 module _ (holds : ℕ → Bool) (rows : List Row) (from : ℕ) (a : ascend 0 rows ≡ true) (w : from < length rows) where
   module _ (last : ℕ) (is : (row_at rows (length rows - 1)).number ≡ last) where
-    -- nobody is found
+    -- no number is found
     pub place-none : last < 2 ^ 32 → IsNext holds (row_at rows from).number None → IsNextPlace holds rows from None
     place-none small h place low within =
         let upper = ascend-upto 0 rows place (length rows - 1) no_row a (omega (arith, within)) (omega (arith, w)) in
         let lower = ascend-upto 0 rows from place no_row a low within in
         h (row_at rows place).number (omega (arith, upper, is, small)) lower
 
-    -- who is found isn't alive, and nobody is behind it
+    -- the found process isn't alive, and no process is after it
     pub place-behind : (number : ℕ) → last < number → IsNext holds (row_at rows from).number (Some number) → IsNextPlace holds rows from None
     place-behind number past h place low within =
         let upper = ascend-upto 0 rows place (length rows - 1) no_row a (omega (arith, within)) (omega (arith, w)) in
         let lower = ascend-upto 0 rows from place no_row a low within in
         h.2 (row_at rows place).number lower (omega (arith, upper, is, past))
 
-    -- the place before which the numbers are below the one that is found
+    -- the place before which all numbers are below the found one
     pub place-found : (number place : ℕ) → number ≤ last → place ≤ length rows →
         ((k : ℕ) → k < place → (row_at rows k).number < number) → ((k : ℕ) → place ≤ k → k < length rows → number ≤ (row_at rows k).number) →
         IsNext holds (row_at rows from).number (Some number) → IsNextPlace holds rows from (Some place)
@@ -131,7 +131,7 @@ module _ (holds : ℕ → Bool) (rows : List Row) (from : ℕ) (a : ascend 0 row
         (cases_lt place from) in
         (behind, within, λ k low less. h.2 (row_at rows k).number (ascend-upto 0 rows from k no_row a low (omega (arith, less, within))) (below k less))
 
--- the place of a number that somebody has
+-- the place of a number that a process has
 pub place-exact : (rows : List Row) (number place : ℕ) → ascend 0 rows ≡ true → place < length rows → (row_at rows place).number ≡ number →
     ((k : ℕ) → k < place → (row_at rows k).number < number) × ((k : ℕ) → place ≤ k → k < length rows → number ≤ (row_at rows k).number)
 place-exact rows number place a within is = (
@@ -139,7 +139,7 @@ place-exact rows number place a within is = (
   λ k low in-rows. let large = ascend-upto 0 rows place k no_row a low in-rows in omega (arith, large, is),
 )
 
--- the point between those below a number and the others, of rows
+-- the point between the rows below a number and the others
 pub point-of-rows : {W : Type 0} (all : List (Living W)) (number place : ℕ) (some : Living W) → place ≤ length all →
     IsPartitionPoint (λ living. nat_lt living.number number ≡ true) (λ living. nat_lt living.number number ≡ false) all place →
     ((k : ℕ) → k < place → (row_at (rows_of all) k).number < number) × ((k : ℕ) → place ≤ k → k < length (rows_of all) → number ≤ (row_at (rows_of all) k).number)
@@ -155,14 +155,14 @@ point-of-rows all number place some most h =
           omega (arith, is, large),
     )
 
--- what is read of a process that is alive is its row
+-- the row at the place of a process is that of the process
 pub row-is : {W : Type 0} (all : List (Living W)) (place : ℕ) (living : Living W) → place < length all → living ≡ get_or all place living → row_at (rows_of all) place ≡ row_of living
 row-is all place living within is = get_or-map row_of all place living no_row within ∙ ap row_of (sym is)
 
 pub row-read : {W : Type 0} (all : List (Living W)) (place : ℕ) (some : Living W) → place < length all → row_at (rows_of all) place ≡ row_of (get_or all place some)
 row-read all place some within = get_or-map row_of all place some no_row within
 
--- so where it was read in two steps
+-- the same if the process was read in two steps
 pub row-got : {W : Type 0} (all : List (Living W)) (place : ℕ) (living got : Living W) → place < length all → got ≡ living → living ≡ get_or all place living → row_at (rows_of all) place ≡ row_of got
 row-got all place living got within same is = row-is all place living within is ∙ ap row_of (sym same)
 
@@ -174,7 +174,7 @@ last-read all some within =
     ap (λ (n : ℕ). (row_at (rows_of all) (n - 1)).number) (length-map all row_of)
     ∙ ap (λ (row : Row). row.number) (row-read all (length all - 1) some (omega (arith, within)))
 
--- where those for whom it doesn't hold lead to nothing
+-- if the rows without the property lead to nothing, a search needs only the next row with it
 pub next-of : {A : Type 0} (holds : ℕ → Bool) (leads : ℕ → Row → List A) (rows : List Row) (from : ℕ) →
     ((place : ℕ) → place < length rows → holds (row_at rows place).number ≡ false → leads place (row_at rows place) ≡ []) →
     (result : Option ℕ) → IsNextPlace holds rows from result → IsNextOf leads rows from result
@@ -190,7 +190,7 @@ first-this : {A : Type 0} (xs ys : List A) (x : A) → Some x ≡ first xs → S
 first-this [] ys x e = cc
 first-this (y ∷ xs) ys x e = e
 
--- what rows lead to from one place on: what the first of them does, and then the others
+-- the results of the rows from a place on: those of the first row, and then those of the others
 module _ {A : Type 0} (leads : ℕ → Row → List A) (led : ℕ → List Row → List A) (none : (at : ℕ) → led at [] ≡ [])
     (one : (at : ℕ) (row : Row) (rows : List Row) → led at (row ∷ rows) ≡ leads at row ++ led (at + 1) rows) (rows : List Row) where
   led-first : (at : ℕ) → at < length rows → led at (drop at rows) ≡ leads at (row_at rows at) ++ led (at + 1) (drop (at + 1) rows)
@@ -204,7 +204,7 @@ module _ {A : Type 0} (leads : ℕ → Row → List A) (led : ℕ → List Row �
       ∙ ap (λ xs. xs ++ led (at + 1) (drop (at + 1) rows)) (h at (omega arith) (omega (arith, e)))
       ∙ skipped place n (at + 1) within (omega (arith, e)) (λ k low less. h k (omega (arith, low)) less)
 
-  -- where nobody is found, nothing is led to
+  -- if no row is found, there is no result
   pub led-none : (at : ℕ) → at ≤ length rows → IsNextOf leads rows at None → led at (drop at rows) ≡ []
   led-none at most h =
       skipped (length rows) (length rows - at) at (omega arith) (omega (arith, most)) h
@@ -216,12 +216,12 @@ module _ {A : Type 0} (leads : ℕ → Row → List A) (led : ℕ → List Row �
       let within = h.1 in
       skipped place (place - at) at (omega (arith, within)) (omega (arith, behind)) h.2 ∙ led-first place within
 
-  -- what the one that is found leads to first is the first
+  -- the first result of the found row is the first of all
   pub led-found : (at place : ℕ) (found : A) → IsNextOf leads rows at (Some place) → Some found ≡ first (leads place (row_at rows place)) → Some found ≡ first (led at (drop at rows))
   led-found at place found h e =
       first-this (leads place (row_at rows place)) (led (place + 1) (drop (place + 1) rows)) found e ∙ ap first (sym (led-at at place h))
 
-  -- where it leads to nothing, the others decide
+  -- if the found row leads to nothing, the first result is that of the rows after it
   pub led-passed : (at place : ℕ) → IsNextOf leads rows at (Some place) → None ≡ first (leads place (row_at rows place)) → first (led (place + 1) (drop (place + 1) rows)) ≡ first (led at (drop at rows))
   led-passed at place h e =
       sym (ap first (led-at at place h) ∙ first-other (leads place (row_at rows place)) (led (place + 1) (drop (place + 1) rows)) e)

@@ -1,4 +1,4 @@
--- Rows that stand for the processes of a bus: what a search over them finds is what the bus may do.
+-- Rows that represent the processes of a bus: the candidates that a search finds are the moves of the bus.
 use Rattle.std.proofs.Common.{◌≡◌, ℕ, ◌+◌, ◌<◌, ◌≤◌, ◌==◌, zero, suc, List, [], ◌∷◌, ◌++◌, map, filter, take, drop, refl, ap, sym, ◌∙◌, arith, Option, Some, None, option_map, Bool, true, false, not, nat_lt, nat_le, append-nil, slice_get, slice_index_or, if◌then◌else◌, is_some, option_to_list}
 use Rattle.std.proofs.lemmas.Grind.{flat_map-append}
 use Rattle.std.proofs.lemmas.Bool.{leb-true, leb-false, lt-ltb, le-leb, le-ltb, lt-leb}
@@ -30,14 +30,14 @@ use Rattle.tb_search.proofs.PartLemmas.{StandAt, stand-whole, stand-drop, stand-
 use Rattle.tb_search.proofs.TurnLemmas.{ascend-first}
 use Rattle.tb_search.proofs.EffectLemmas.{IsSceneOf, scene-is, happens-is}
 
--- what stands at an index of a row
+-- the action at an index of a row
 pub ready_at-is : (rows : List Row) (at index : ℕ) (row : Row) (ready : Ready) → slice_get rows at ≡ Some row → slice_get row.ready index ≡ Some ready → ready_at rows at index ≡ ready
 ready_at-is rows at index row ready e f =
     ap (λ (r : Row). slice_index_or r.ready index no_ready) (get_or_from_slice_get rows at row _ e)
     ∙ get_or_from_slice_get row.ready index ready no_ready f
 
--- What is made of each offer with its action can be made of the ready ones alone, where nothing is made of an
--- offer without an action.
+-- A list that is built from each offer with its action can be built from the ready offers alone, if an offer without an action
+-- adds nothing.
 module _ {M : Type 0} (g : Offered → Option Action → List M) (none : (offered : Offered) → g offered None ≡ []) (atoms : List Atom) (now : ℕ) (offs : List Offered) where
   offered-one : (at : ℕ) (offered : Offered) (does : Option Action) → slice_get offs at ≡ Some offered →
       flat_map (λ (ready : Ready). g (slice_index_or offs ready.offer no_offer) (Some ready.action)) (ready_one at offered does) ≡ g offered does
@@ -54,12 +54,12 @@ module _ {M : Type 0} (g : Offered → Option Action → List M) (none : (offere
       flat_map-append (λ (ready : Ready). g (slice_index_or offs ready.offer no_offer) (Some ready.action)) (ready_one at offered (action_of atoms now offered)) (readies atoms now (at + 1) others)
       ∙ both-append _ _ _ _ (offered-one at offered (action_of atoms now offered) h.0) (offered-readies (at + 1) others h.1)
 
--- with whom a process shakes hands, by what a search for a partner found
+-- the handshake with a found partner
 abbrev shaken : List Proc → List Row → Proc → Offered → List Term → Partner → Move
 shaken procs rows sender sent terms partner =
     Handshake sender sent (proc_at procs partner.living) (offer_of procs rows partner.living partner.received.action) terms partner.received.binds
 
--- the receiver at an index
+-- the partner at an index
 abbrev pub partner_at : ℕ → Received → Partner
 partner_at at received = record { living = at; received = received }
 
@@ -77,7 +77,7 @@ module _ (procs : List Proc) (rows : List Row) (sender : Proc) (sent : Offered) 
   shaken-reception at index proc ready e f (action.Send other) = refl
   shaken-reception at index proc ready e f (action.Receive patterns) = shaken-if at index proc ready e f (match_list patterns terms)
 
-  -- the actions of one process that receive are its handshakes
+  -- the receiving actions of a process are its handshakes with the sender
   shaken-receptions : (at : ℕ) (row : Row) (proc : Proc) → slice_get rows at ≡ Some row → slice_get procs at ≡ Some proc → (index : ℕ) (some : List Ready) → StandAt row.ready index some →
       map (λ received. shaken procs rows sender sent terms (partner_at at received)) (receptions terms index some)
       ≡ flat_map (λ (ready : Ready). handshake_of sender sent terms proc (offer_at proc ready.offer) (Some ready.action)) some
@@ -88,7 +88,7 @@ module _ (procs : List Proc) (rows : List Row) (sender : Proc) (sent : Offered) 
       (shaken-reception at index proc ready (get_or_from_slice_get procs at proc no_proc f) (ready_at-is rows at index row ready e h.0) ready.action)
       (shaken-receptions at row proc e f (index + 1) others h.1)
 
--- one process, where it isn't the sender, and the others
+-- one process, unless it is the sender, and the others
 partner-by : (f : Partner → Move) (b : Bool) (found : List Partner) (moves rest : List Move) → map f found ≡ moves → map f (if b then [] else found) ++ rest ≡ (if not b then moves ++ rest else rest)
 partner-by f true found moves rest e = refl
 partner-by f false found moves rest e = ap (λ ms. ms ++ rest) e
@@ -106,7 +106,7 @@ module _ (bus : Bus) (rows : List Row) where
       ∙ ap (flat_map (λ (ready : Ready). handshake_of sender sent terms proc (offer_at proc ready.offer) (Some ready.action))) is.ready
       ∙ offered-readies (handshake_of sender sent terms proc) (λ offered. refl) (atoms_of bus.program.bodies proc.body) bus.now (offers proc.term proc.store) 0 (offers proc.term proc.store) (stand-whole (offers proc.term proc.store))
 
-  -- the partners that a search finds are those with whom there are handshakes
+  -- the partners that a search finds are the receivers of the handshakes
   shaken-partners : (sender : Proc) (sent : Offered) (terms : List Term) (at : ℕ) (some : List Row) (them : List Proc) → StandAt rows at some → StandAt bus.procs at them → AreRowsOf bus.program.bodies bus.now some them →
       map (shaken bus.procs rows sender sent terms) (partners sender.number terms at some) ≡ flat_map (handshakes_with bus sender sent terms) (filter (λ other. not (other.number == sender.number)) them)
   shaken-partners sender sent terms at [] [] e f h = refl
@@ -123,7 +123,7 @@ module _ (bus : Bus) (rows : List Row) where
       ∙ ap (λ n. if not (n == sender.number) then meets proc ++ flat_map meets others else flat_map meets others) h.0.number
       ∙ kept-by meets (not (proc.number == sender.number)) proc others
 
--- what a process does by itself is found where it has an effect
+-- an action that a process does by itself has a finding if and only if it has an effect
 found-by : (view : Candidate → Move) (make : Finding → Candidate) (proc : Proc) (offered : Offered) (effect : Option Effect) (found : Option Finding) →
     ((f : Finding) → view (make f) ≡ own_move proc offered effect) → is_some found ≡ is_some effect → map view (map make (option_to_list found)) ≡ own_if proc offered effect
 found-by view make proc offered None None h e = refl
@@ -136,7 +136,7 @@ module _ (bus : Bus) (scene : Scene) (is : IsSceneOf bus scene) where
   unfolding handshakes
   shaken-all sender sent terms = shaken-partners bus scene.rows sender sent terms 0 scene.rows bus.procs (stand-whole scene.rows) (stand-whole bus.procs) is.rows_are
 
-  -- what the action at an index leads to, where its process makes it by itself
+  -- the move of the action at an index, if the process does it by itself
   move_by-is : (at index : ℕ) (proc : Proc) (ready : Ready) → proc_at bus.procs at ≡ proc → ready_at scene.rows at index ≡ ready → (does : Action) → ready.action ≡ does →
       move_by bus scene.rows at index ≡ own_move proc (offer_at proc ready.offer) (effect_of bus proc does)
   move_by-is at index proc ready e f does d =
@@ -144,7 +144,7 @@ module _ (bus : Bus) (scene : Scene) (is : IsSceneOf bus scene) where
       ∙ ap (λ (r : Ready). own_move proc (offer_at proc r.offer) (effect_of bus proc r.action)) f
       ∙ ap (λ d. own_move proc (offer_at proc ready.offer) (effect_of bus proc d)) d
 
-  -- what one action leads to
+  -- the moves of one action
   moved-by : (at index : ℕ) (row : Row) (proc : Proc) (ready : Ready) → proc_at bus.procs at ≡ proc → ready_at scene.rows at index ≡ ready → IsRowOf bus.program.bodies bus.now row proc → (does : Action) → ready.action ≡ does →
       map (move_of bus scene.rows) (candidates_by scene at row index does) ≡ moves_by bus proc (offer_at proc ready.offer) (Some does)
   moved-by at index row proc ready e f row_is (action.Own own) d =
@@ -160,7 +160,7 @@ module _ (bus : Bus) (scene : Scene) (is : IsSceneOf bus scene) where
       ∙ shaken-all proc (offer_at proc ready.offer) terms
   moved-by at index row proc ready e f row_is (action.Receive patterns) d = refl
 
-  -- what the actions of one process lead to
+  -- the moves of the actions of one process
   moved-among : (at : ℕ) (row : Row) (proc : Proc) → slice_get scene.rows at ≡ Some row → slice_get bus.procs at ≡ Some proc → IsRowOf bus.program.bodies bus.now row proc → (index : ℕ) (some : List Ready) → StandAt row.ready index some →
       map (move_of bus scene.rows) (candidates_among scene at row index some) ≡ flat_map (λ (ready : Ready). moves_by bus proc (offer_at proc ready.offer) (Some ready.action)) some
   moved-among at row proc e f row_is index [] h = refl
@@ -178,7 +178,7 @@ module _ (bus : Bus) (scene : Scene) (is : IsSceneOf bus scene) where
       ∙ ap (flat_map (λ (ready : Ready). moves_by bus proc (offer_at proc ready.offer) (Some ready.action))) row_is.ready
       ∙ offered-readies (moves_by bus proc) (λ offered. refl) (atoms_of bus.program.bodies proc.body) bus.now (offers proc.term proc.store) 0 (offers proc.term proc.store) (stand-whole (offers proc.term proc.store))
 
-  -- what a part of the processes leads to
+  -- the moves of a part of the processes
   moved-from : (at : ℕ) (some : List Row) (them : List Proc) → StandAt scene.rows at some → StandAt bus.procs at them → AreRowsOf bus.program.bodies bus.now some them →
       map (move_of bus scene.rows) (candidates_from scene at some) ≡ flat_map (moves_of bus) them
   moved-from at [] [] e f h = refl
@@ -188,12 +188,12 @@ module _ (bus : Bus) (scene : Scene) (is : IsSceneOf bus scene) where
       map-append (move_of bus scene.rows) (candidates_of scene at row) (candidates_from scene (at + 1) some)
       ∙ both-append _ _ _ _ (moved-of at row proc e.0 f.0 h.0) (moved-from (at + 1) some them e.1 f.1 h.1)
 
--- the first of what is made of each
+-- the first of a mapped list
 pub first-map : {A B : Type 0} (f : A → B) (xs : List A) → option_map f (first xs) ≡ first (map f xs)
 first-map f [] = refl
 first-map f (x ∷ xs) = refl
 
--- one element of a filtered list, by how its test goes
+-- one element of a filtered list, by the result of its test
 filter-in : {A : Type 0} (p : A → Bool) (x : A) (xs : List A) (b : Bool) → b ≡ true → (if b then x ∷ xs else xs) ≡ x ∷ xs
 filter-in p x xs true e = refl
 filter-in p x xs false e = cc
@@ -229,7 +229,7 @@ module _ (bodies : List Body) (now : ℕ) where
   rows-take (suc k) (row ∷ rows) [] h = absurd h
   rows-take (suc k) (row ∷ rows) (proc ∷ procs) h = (h.0, rows-take k rows procs h.1)
 
-  -- where all numbers are above the last starter's, all are after it
+  -- if all numbers are above that of the last starter, all processes are after it
   all-after : (below last : ℕ) (rows : List Row) (procs : List Proc) → last ≤ below → AreRowsOf bodies now rows procs → ascend below rows ≡ true → filter (is_after last) procs ≡ procs
   all-after below last [] [] le h a = refl
   all-after below last [] (proc ∷ procs) le h a = absurd h
@@ -275,7 +275,7 @@ module _ (bodies : List Body) (now : ℕ) where
         dropped (is_up_to last) proc procs there ∙ none-up_to row.number last rows procs (omega (arith, above)) h.1 t.1,
       )
 
-  -- those up to the last starter stand in front, as their rows do
+  -- the processes up to the last starter come first, as their rows do
   turn-parts : (below last : ℕ) (rows : List Row) (procs : List Proc) → AreRowsOf bodies now rows procs → ascend below rows ≡ true →
       (filter (is_after last) procs ≡ drop (up_to last rows) procs) × (filter (is_up_to last) procs ≡ take (up_to last rows) procs)
   turn-parts below last [] [] h a = (refl, refl)
@@ -296,7 +296,7 @@ down-map view true candidates = refl
 down-map view false candidates = refl
 
 module _ (bus : Bus) (scene : Scene) (marks : Marks) (is : IsSearchedFor bus scene marks) (a : ascend 0 scene.rows ≡ true) where
-  -- What a search in turn finds is what the processes may do, in turn.
+  -- The candidates in turn are the moves of the processes in turn.
   moves_in_turn : map (move_of bus scene.rows) (candidates_in_turn scene bus.last_starter) ≡ moves_of_all bus
   unfolding candidates_in_turn moves_of_all
   moves_in_turn =
@@ -323,7 +323,7 @@ module _ (bus : Bus) (scene : Scene) (marks : Marks) (is : IsSearchedFor bus sce
       ∙ ap (λ last. moves_or_halt bus.no_ticks (map view (candidates_in_turn scene last))) (sym is.last_is)
       ∙ ap (moves_or_halt bus.no_ticks) moves_in_turn
 
-  -- What a search finds is what may happen next, in order.
+  -- All candidates are all moves of the bus, in order.
   pub moves_found : map (move_of bus scene.rows) (all_candidates scene marks) ≡ moves bus
   unfolding all_candidates moves
   moves_found =
@@ -331,6 +331,6 @@ module _ (bus : Bus) (scene : Scene) (marks : Marks) (is : IsSearchedFor bus sce
       ∙ ap (λ ms. if marks.down then [] else ms) (while_up-map scene.rows bus.procs is.rows_are)
       ∙ ap (λ down. if down then [] else moves_while_up bus bus.procs) (sym is.down_is)
 
-  -- The first that a search finds is the first move.
+  -- The first candidate is the first move.
   pub first_moves : option_map (move_of bus scene.rows) (first (all_candidates scene marks)) ≡ first (moves bus)
   first_moves = first-map (move_of bus scene.rows) (all_candidates scene marks) ∙ ap first moves_found

@@ -1,4 +1,4 @@
--- The order in which the processes are asked, where they stand by their numbers.
+-- The order in which a search asks the processes, which are in the order of their numbers.
 use Rattle.std.proofs.Common.{◌≡◌, ℕ, ◌<◌, ◌≤◌, zero, suc, List, [], ◌∷◌, ◌++◌, take, drop, length, refl, ap, sym, ◌∙◌, arith, rules, Some, None, Bool, true, false, ◌==◌, nat_lt, nat_le, get_or, if◌then◌else◌, Option}
 use Rattle.std.proofs.lemmas.Bool.{leb-true, le-leb, eqb-true}
 use Rattle.std.proofs.lemmas.List.{drop_all, length-map, get_or-map}
@@ -32,7 +32,7 @@ ascend-upto below (row ∷ rows) (suc i) zero d h l m = absurd (omega arith)
 ascend-upto below (row ∷ rows) zero (suc j) d h l m = let above = ascend-above row.number rows j d (ascend-first below row rows h).1 (omega arith) in omega arith
 ascend-upto below (row ∷ rows) (suc i) (suc j) d h l m = ascend-upto row.number rows i j d (ascend-first below row rows h).1 (omega arith) (omega arith)
 
--- those up to a number stand in front
+-- the processes with numbers up to a number come first
 pub partitioned-by_number : {W : Type 0} (all : List (Living W)) (number : ℕ) → ascend 0 (rows_of all) ≡ true → IsPartitionedBy (λ living. nat_le living.number number) all
 partitioned-by_number all number h i j d le within passes =
     let small : (get_or all j d).number ≤ number = leb-true _ _ passes in
@@ -53,7 +53,7 @@ up_to-within last (living ∷ all) (suc i) le f g =
     let rest : i ≡ up_to last (rows_of all) = up_to-within last all i (omega arith) (λ k d l h. f (suc k) d (omega arith) (omega arith)) (λ k d l h. g (suc k) d (omega arith) (omega arith)) in
     rw e (omega arith)
 
--- the point between those up to a number and the others is how many the former are
+-- the point between the processes up to a number and the others is the number of the former
 pub up_to-point : {W : Type 0} (last : ℕ) (all : List (Living W)) (i : ℕ) → i ≤ length all →
     IsPartitionPoint (λ living. nat_le living.number last ≡ true) (λ living. nat_le living.number last ≡ false) all i → i ≡ up_to last (rows_of all)
 up_to-point last all i le h = up_to-within last all i le h.0 h.1
@@ -70,7 +70,7 @@ none-from_first : {A : Type 0} (xs : List A) → None ≡ first xs → xs ≡ []
 none-from_first [] e = refl
 none-from_first (x ∷ xs) e = cc
 
--- what is found behind the last starter is the first in turn
+-- a candidate that is found after the last starter is the first in turn
 pub turn-found : (scene : Scene) (last start : ℕ) (found : Candidate) → start ≡ up_to last scene.rows → Some found ≡ first (candidates_from scene start (drop start scene.rows)) →
     Some found ≡ first (candidates_in_turn scene last)
 unfolding candidates_in_turn
@@ -78,7 +78,7 @@ turn-found scene last start found e selected =
     let at = up_to last scene.rows in
     first-append_some (candidates_from scene at (drop at scene.rows)) (candidates_from scene 0 (take at scene.rows)) found (rw e at selected)
 
--- where nothing is found there, the first of the others is
+-- if no candidate is found after the last starter, the first one of the others is the first in turn
 pub turn-again : (scene : Scene) (last start : ℕ) → start ≡ up_to last scene.rows → None ≡ first (candidates_from scene start (drop start scene.rows)) →
     first (candidates_from scene 0 (take start scene.rows)) ≡ first (candidates_in_turn scene last)
 unfolding candidates_in_turn
@@ -87,7 +87,7 @@ turn-again scene last start e miss =
     let nothing : candidates_from scene at (drop at scene.rows) ≡ [] = none-from_first (candidates_from scene at (drop at scene.rows)) (rw e at miss) in
     ap (λ k. first (candidates_from scene 0 (take k scene.rows))) e ∙ sym (ap (λ fs. first (fs ++ candidates_from scene 0 (take at scene.rows))) nothing)
 
--- where all have a number up to that of the last starter, nothing is found behind it
+-- if no process is left after the last starter, no candidate is found there
 pub none-behind : (scene : Scene) (start : ℕ) → length scene.rows ≤ start → None ≡ first (candidates_from scene start (drop start scene.rows))
 none-behind scene start most = rw (drop_all start scene.rows most) refl
 
@@ -122,25 +122,25 @@ while_up-none scene marks [] f miss = cc
 while_up-none scene marks (row ∷ rows) f miss = or_halt-none marks.no_ticks (candidates_in_turn scene marks.last_starter) miss
 
 module _ (scene : Scene) (marks : Marks) where
-  -- nothing happens on a bus that is down
+  -- no candidate is found on a bus that has shut down
   pub first_all-down : marks.down ≡ true → None ≡ first (all_candidates scene marks)
   unfolding all_candidates
   first_all-down e = down-by marks.down (candidates_while_up scene marks scene.rows) e
 
-  -- where no process is left, the bus finishes
+  -- if no process is left, the bus finishes
   pub first_all-finish : marks.down ≡ false → (length scene.rows == 0) ≡ true → Some Finish ≡ first (all_candidates scene marks)
   unfolding all_candidates
   first_all-finish e f =
       up-by marks.down (candidates_while_up scene marks scene.rows) (Some Finish) e (while_up-finish scene marks scene.rows f)
 
-  -- what the processes do first happens first
+  -- the first candidate of the processes is the first of all candidates
   pub first_all-some : (found : Candidate) → marks.down ≡ false → (length scene.rows == 0) ≡ false →
       Some found ≡ first (candidates_in_turn scene marks.last_starter) → Some found ≡ first (all_candidates scene marks)
   unfolding all_candidates
   first_all-some found e f selected =
       up-by marks.down (candidates_while_up scene marks scene.rows) (Some found) e (while_up-some scene marks scene.rows found f selected)
 
-  -- where they can do nothing, only the halt is left
+  -- if the processes can do nothing, only the halt is left
   pub first_all-none : marks.down ≡ false → (length scene.rows == 0) ≡ false →
       None ≡ first (candidates_in_turn scene marks.last_starter) → first (candidates_or_halt marks.no_ticks []) ≡ first (all_candidates scene marks)
   unfolding all_candidates

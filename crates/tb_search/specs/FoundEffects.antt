@@ -1,4 +1,4 @@
--- What a process does by itself, as a search found it: its effect.
+-- The effect of an action that a process does by itself, by the finding of a search.
 use Rattle.std.specs.Prelude.{ℕ, List, [], ◌∷◌}
 use Rattle.tb_terms.specs.declared.term.Term.{Term}
 use Rattle.tb_notes.specs.Inboxes.{Held}
@@ -12,25 +12,26 @@ use Rattle.tb_bus.specs.declared.exchange.Exchange.{Exchange}
 use Rattle.tb_search.specs.declared.candidate.Finding.{Finding}
 use Rattle.tb_search.specs.declared.candidate.Finding.TheVariants as finding
 
--- the note that a finding takes, and the exchange that it is; where it is another, one that says nothing
+-- the note that a finding takes; for another finding, a placeholder
 abbrev pub note_found : Finding → Found
 note_found finding.Plain = record { place = 0; binds = [] }
 note_found (finding.Notify indices) = record { place = 0; binds = [] }
 note_found (finding.TakeNote found) = found
 note_found (finding.Speak exchange) = record { place = 0; binds = [] }
 
+-- the exchange that a finding has; for another finding, a placeholder
 abbrev pub exchange_found : Finding → Exchange
 exchange_found finding.Plain = plain_on 0
 exchange_found (finding.Notify indices) = plain_on 0
 exchange_found (finding.TakeNote found) = plain_on 0
 exchange_found (finding.Speak exchange) = exchange
 
--- what a note comes to for which there is room
+-- the effect of a `snd-note` if each queue that wants the note has capacity
 abbrev pub noting : List Term → Effect
 noting terms = record { kind = kind.SndNote; shown = terms; binds = []; change = PutsNote terms }
 
--- The effect of what a process does by itself, as was found, where the next process has this number, its own queue
--- holds this, and it speaks with tools there.
+-- The effect of an action that a process does by itself, by its finding. `next` is the number of the next process, `held` the
+-- inbox of the process, and `setting` where it speaks with tools.
 abbrev pub effect_by : ℕ → Held → Setting → OwnAction → Finding → Effect
 effect_by next held setting Tau found = record { kind = kind.Tau; shown = []; binds = []; change = Nothing }
 effect_by next held setting (Set values binds) found = record { kind = kind.Set; shown = values; binds = binds; change = Nothing }

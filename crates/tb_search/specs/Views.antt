@@ -1,4 +1,4 @@
--- How the rows that a search sees stand for the processes of a bus, and which move a candidate is.
+-- How the rows of a search represent the processes of a bus, and which move of the bus a candidate is.
 use Rattle.std.specs.Prelude.{◌≡◌, ℕ, ◌<◌, ◌≢◌, List, [], ◌∷◌, length, Option, Some, None, slice_index_or, ⊤}
 use Rattle.tb_terms.specs.declared.term.Term.{Term}
 use Rattle.tb_match.specs.declared.bind.Bind.{Bind}
@@ -21,21 +21,21 @@ use Rattle.tb_search.specs.declared.candidate.Finding.{Finding}
 use Rattle.tb_search.specs.declared.candidate.Candidate.{Candidate}
 use Rattle.tb_search.specs.declared.candidate.Candidate.TheVariants as candidate
 
--- a row says of a process which offers are ready for what
+-- a row represents a process: its number, body, and inbox, and its offers that are ready for an action
 pub record IsRowOf (bodies : List Body) (now : ℕ) (row : Row) (proc : Proc) : Type 0 where
   pub number : row.number ≡ proc.number
   pub body : row.body ≡ proc.body
   pub inbox : row.inbox ≡ proc.inbox
   pub ready : row.ready ≡ readies (atoms_of bodies proc.body) now 0 (offers proc.term proc.store)
 
--- as many rows as processes, in their order
+-- there are as many rows as processes, and each row represents the process at its position
 abbrev pub AreRowsOf : List Body → ℕ → List Row → List Proc → Type 0
 AreRowsOf bodies now [] [] = ⊤
 AreRowsOf bodies now [] (proc ∷ procs) = ⊥
 AreRowsOf bodies now (row ∷ rows) [] = ⊥
 AreRowsOf bodies now (row ∷ rows) (proc ∷ procs) = IsRowOf bodies now row proc × AreRowsOf bodies now rows procs
 
--- what stands at indices where nothing does: no search finds them
+-- values for indices at which there is no process, offer, or action; no search finds such an index
 abbrev pub no_proc : Proc
 no_proc = record { number = 0; body = 0; term = At 0 0; store = []; inbox = nothing }
 
@@ -54,7 +54,7 @@ ready_at rows at index = slice_index_or (row_at rows at).ready index no_ready
 abbrev pub offer_at : Proc → ℕ → Offered
 offer_at proc at = slice_index_or (offers proc.term proc.store) at no_offer
 
--- the offer of a process with one of its actions
+-- the offer of one of the actions of a process
 abbrev pub offer_of : List Proc → List Row → ℕ → ℕ → Offered
 offer_of procs rows at index = offer_at (proc_at procs at) (ready_at rows at index).offer
 
@@ -64,13 +64,13 @@ sent_in (action.Own own) = []
 sent_in (action.Send terms) = terms
 sent_in (action.Receive patterns) = []
 
--- what an action does by itself; a tau where it needs another process
+-- the action that a process does by itself; a tau for an action that needs another process
 abbrev pub own_in : Action → OwnAction
 own_in (action.Own does) = does
 own_in (action.Send terms) = own.Tau
 own_in (action.Receive patterns) = own.Tau
 
--- a process goes on by itself with the effect that there is
+-- the move of a process by itself with this effect; `Halt` is only a placeholder if there is no effect
 abbrev pub own_move : Proc → Offered → Option Effect → Move
 own_move proc offered None = Halt
 own_move proc offered (Some effect) = Own proc offered effect
@@ -89,21 +89,21 @@ move_of bus rows (candidate.Handshake at index partner) =
 move_of bus rows candidate.Finish = Finish
 move_of bus rows candidate.Halt = Halt
 
--- an action of a process by itself that may happen, as was found
+-- the process does the action by itself, and the action may happen with this finding
 abbrev pub HappensIn : Scene → Row → Action → Finding → Type 0
 HappensIn scene row does found = (own : OwnAction) × (does ≡ action.Own own) × (finding_of scene row own ≡ Some found)
 
--- the action receives the terms, which bind these
+-- the action receives the terms, with these binds
 abbrev pub Receives : List Term → Action → List Bind → Type 0
 Receives terms (action.Own own) binds = ⊥
 Receives terms (action.Send other) binds = ⊥
 Receives terms (action.Receive patterns) binds = match_list patterns terms ≡ Some binds
 
--- there is a process at the index, and it has such an action
+-- there is a process at the first index, and it has an action at the second one
 abbrev pub IsThere : List Row → ℕ → ℕ → Type 0
 IsThere rows at index = (at < length rows) × (index < length (row_at rows at).ready)
 
--- it names processes that are alive and actions of theirs that may happen so, and two processes differ
+-- the candidate names processes that are alive, and actions of these that may happen as found; the two processes of a handshake differ
 abbrev pub IsCandidateIn : Scene → Candidate → Type 0
 IsCandidateIn scene (candidate.Own at index found) =
     IsThere scene.rows at index × HappensIn scene (row_at scene.rows at) (ready_at scene.rows at index).action found
@@ -115,7 +115,7 @@ IsCandidateIn scene (candidate.Handshake at index partner) =
 IsCandidateIn scene candidate.Finish = ⊤
 IsCandidateIn scene candidate.Halt = ⊤
 
--- This scene is searched for the moves of a bus, with what is marked on it.
+-- The scene and the marks represent the bus.
 pub record IsSearchedFor (bus : Bus) (scene : Scene) (marks : Marks) : Type 0 where
   pub bodies_are : bus.program.bodies ≡ scene.bodies
   pub kinds_are : bus.program.tools ≡ scene.kinds

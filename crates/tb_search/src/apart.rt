@@ -4,7 +4,7 @@ ghost use Rattle.std.specs.Prelude.{◌≡◌, IfOk};
 use std::alloc::{AllocError, Global};
 use std::marker::Model;
 
-/// A value in a piece of memory of its own, which contracts see as the value: so a list of many is moved by addresses.
+/// A value in a piece of memory of its own. So a list of values moves only their addresses. Contracts see an `Apart` as its value.
 #[derive(Drop)]
 pub struct Apart<T> {
     inner: Box<T>,
@@ -23,12 +23,14 @@ impl<T> Apart<T> {
     ghost use Rattle.std.specs.Borrow.{Lends, sem};
     ghost use Rattle.tb_search.specs.contracts.apart.Apart.{the_row};
 
+    /// Lends the value.
     pub fn get(&self) -> &T
         ensures { result.now ≡ self.now }
     {
         &self.inner
     }
 
+    /// Lends the value for writing.
     pub fn get_mut(&mut self) -> &mut T
         ensures* writes_back { sem 𝓛
             (Lends (the_row T.row) T.row self.entry result (λ value. value)) }
@@ -39,6 +41,7 @@ impl<T> Apart<T> {
 }
 
 impl<T: Drop> Apart<T> {
+    /// Moves a value into a piece of memory of its own. If out of memory, the call drops the value.
     pub fn new(alloc: Global, value: T) -> Result<Apart<T>, AllocError>
         ensures { IfOk result (λ apart. apart ≡ value) }
     {

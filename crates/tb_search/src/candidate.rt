@@ -4,25 +4,30 @@ use tb_match::Binds;
 use tb_notes::Found;
 use tb_terms::Items;
 
-/// Where terms were received: the index of an action of a process, and what they bind.
+/// A receive of terms: the index of the action among those of its process, and the binds.
 #[derive(Drop)]
 pub struct Received {
+    /// The index of the action in `Living::ready`.
     pub action: usize,
+    /// The binds of the terms in the patterns of the action.
     pub binds: Binds,
 }
 
-/// Whom a search found to receive terms, by its index among those alive.
+/// The process that receives the terms of a handshake.
 #[derive(Drop)]
 pub struct Partner {
+    /// The index of the process among those that are alive.
     pub living: usize,
+    /// The action that receives, and its binds.
     pub received: Received,
 }
 
-/// What a search finds of what a process does by itself, beside that it may happen.
+/// The further findings of a search about an action that a process does by itself and that may happen.
 #[derive(Drop)]
 pub enum Finding {
+    /// Nothing further.
     Plain,
-    /// Those that want the note, by their indices among those alive; each has room for it.
+    /// The processes that want the note, by their indices among those that are alive. Each of their queues has capacity.
     Notify(Items<usize>),
     /// The note that is taken.
     TakeNote(Found),
@@ -30,13 +35,15 @@ pub enum Finding {
     Speak(Exchange),
 }
 
-/// A move that a search found, by indices among those alive and among their actions.
+/// A move that a search found, by indices of processes that are alive and of their actions.
 #[derive(Drop)]
 pub enum Candidate {
-    /// Who does something by itself, its action, and what was found of it.
+    /// The process that does something by itself, its action, and the finding.
     Own(usize, usize, Finding),
-    /// The sender, its action, and who receives what it sends.
+    /// The sender, its action, and the receiver.
     Handshake(usize, usize, Partner),
+    /// The end of the bus: no process is left.
     Finish,
+    /// The end of the bus: the processes can do nothing, and no more ticks come.
     Halt,
 }

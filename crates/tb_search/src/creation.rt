@@ -6,10 +6,11 @@ use crate::slots::{fits_formals, fits_slot};
 use tb_body::Body;
 use tb_terms::{Term, Terms};
 
-/// How many processes may be alive.
+/// The maximum number of processes that are alive.
 const MOST_ALIVE: usize = 10_000;
 
-/// Whether a process of one body may create one of another, where so many are alive.
+/// Returns whether a process with the body `creator` may create one with the body `process`, if `alive` processes are alive.
+/// The new process would have this number, which the slot of the creator must take.
 pub(crate) fn may_create(
     bodies: &[Body],
     alive: usize,

@@ -1,4 +1,4 @@
-//! How a process may speak with a tool.
+//! The search for an exchange: how a process may speak with a tool.
 
 ghost use Rattle.std.specs.Prelude.{◌≡◌, ◌&&◌, true, IfOk, IsSome, option_map, option_and_then, slice_get};
 ghost use Rattle.std.specs.Option.{ForSome};
@@ -20,18 +20,18 @@ use tb_match::{Bind, match_list};
 use tb_terms::{Items, Name, NoMemory, Patterns, Term, Terms, is_within_limits};
 use tb_tools::{Bench, Stage};
 
-/// A process that may speak with tools: its body among those of a program, and the lanes on which the tools stand.
+/// A process that may speak with tools: its program, its body, and the lanes of the tools.
 #[derive(Clone, Copy)]
 pub struct Speaker<'a> {
-    /// Where the body and the kinds of tools are.
+    /// The program, with the body and the kinds of tools.
     pub program: &'a Program,
     /// The lanes.
     pub bench: &'a Bench,
-    /// The number of the body.
+    /// The index of the body in the program.
     pub body: u32,
 }
 
-/// How an action may happen, where it may.
+/// Returns the exchange by which an action may happen now, or `None` if the action can't happen.
 pub(crate) fn exchange_for(
     alloc: Global,
     speaker: &Speaker,
@@ -106,7 +106,7 @@ fn lane_of(bench: &Bench, terms: &Terms, need: Need) -> Option<u8>
     }
 }
 
-/// On a lane, with nothing bound.
+/// Returns the exchange on a lane without binds, or `None` if there is no lane.
 fn plain_on(alloc: Global, lane: Option<u8>) -> Option<Exchange>
     ensures { result ≡ option_map plain_on lane }
 {
@@ -120,7 +120,7 @@ fn plain_on(alloc: Global, lane: Option<u8>) -> Option<Exchange>
     }
 }
 
-/// The value of a tool that is live or leaving, where it has come and matches.
+/// Returns the exchange that takes the value of a tool. The tool is live or leaving, and its value has come and matches.
 fn value_of(
     alloc: Global,
     bench: &Bench,
@@ -161,7 +161,7 @@ fn value_on(
     }
 }
 
-/// The oldest event of a tool that is live or leaving, of those that wait and match.
+/// Returns the exchange that takes an event of a tool that is live or leaving: the oldest waiting event that matches.
 fn event_of(bench: &Bench, terms: &Terms, patterns: &Patterns) -> Result<Option<Exchange>, NoMemory>
     ensures { IfOk result (λ found. found ≡ option_and_then (event_on patterns.now bench.now)
         (lane_of is_taken_at bench.now terms.now)) }
@@ -186,7 +186,7 @@ fn event_on(bench: &Bench, lane: u8, patterns: &Patterns) -> Result<Option<Excha
     }
 }
 
-/// The oldest event that was received of a live tool with just the terms behind its own.
+/// Returns the exchange that acknowledges an event of a live tool: the oldest received event with exactly the terms after the first one.
 fn received_of(alloc: Global, bench: &Bench, terms: &Terms) -> Result<Option<Exchange>, NoMemory>
     ensures { IfOk result (λ found. found ≡ option_and_then
         (received_on (behind terms.now) bench.now) (lane_of is_live_at bench.now terms.now)) }
@@ -234,7 +234,7 @@ fn copies(alloc: Global, terms: &[Term]) -> Result<Terms, NoMemory>
     Ok(copies)
 }
 
-/// A lane for a new tool of a kind, where the kind has a command, a lane is free, and the slot takes the tool.
+/// Returns the exchange that starts a tool of a kind, if the kind has a command, a lane is free, and the slot takes the tool.
 fn execute(
     alloc: Global,
     speaker: &Speaker,
@@ -253,7 +253,7 @@ fn execute(
     }
 }
 
-/// The first lane that is free, where the slot takes the next tool.
+/// Returns the exchange that starts the next tool on the first free lane, if there is one, and the slot takes the tool.
 fn starting(
     alloc: Global,
     speaker: &Speaker,
@@ -275,7 +275,7 @@ fn starting(
     }
 }
 
-/// Returns the term of the next tool, if it has this name.
+/// Returns the term that the next tool has, if its kind has this name.
 pub fn next_term(alloc: Global, bench: &Bench, name: &Name) -> Result<Term, NoMemory>
     ensures { IfOk result (λ tool. tool ≡ tool_term name.now bench.now.next_tool) }
 {
@@ -284,7 +284,7 @@ pub fn next_term(alloc: Global, bench: &Bench, name: &Name) -> Result<Term, NoMe
     Ok(Term::Appl(name.share()?, parts))
 }
 
-/// The tool of a kind at a stage that has the smallest number, where the slot takes it.
+/// Returns the exchange with a tool of a kind at a stage: the tool with the smallest number, if the slot takes it.
 fn first_of_kind(
     alloc: Global,
     speaker: &Speaker,
@@ -304,7 +304,7 @@ fn first_of_kind(
     }
 }
 
-/// The tool of a lane, where the slot takes it.
+/// Returns the exchange that binds the tool of a lane to the slot, if the slot takes the tool.
 fn taking_tool(
     alloc: Global,
     speaker: &Speaker,
@@ -323,7 +323,7 @@ fn taking_tool(
     }
 }
 
-/// Whether a slot takes a tool, whose term is within the limits.
+/// Returns whether the term of a tool is within the limits, and the slot takes it.
 fn takes(speaker: &Speaker, slot: u32, tool: &Term) -> bool
     ensures { result ≡ is_within_limits tool.now
         && fits_slot (slice_get speaker.now.program.now.bodies speaker.now.body) slot tool.now }
@@ -331,7 +331,7 @@ fn takes(speaker: &Speaker, slot: u32, tool: &Term) -> bool
     is_within_limits(tool) && fits_slot(speaker.program.bodies.as_slice(), speaker.body, slot, tool)
 }
 
-/// On a lane, where a slot takes the tool.
+/// Returns the exchange on a lane that binds the tool to the slot.
 fn bound_on(alloc: Global, lane: u8, slot: u32, tool: Term) -> Result<Exchange, NoMemory>
     ensures { IfOk result (λ exchange. exchange ≡ bound_on slot lane tool) }
 {

@@ -1,4 +1,4 @@
-//! A living process, and its offers that are ready for an action.
+//! A process that is alive, and its offers that are ready for an action.
 use tb_bus::Action;
 use tb_index::Marks;
 use tb_notes::Inbox;
@@ -6,28 +6,31 @@ use tb_notes::Inbox;
 /// An offer of a process that is ready for an action: its index among the offers, and its atom.
 #[derive(Drop)]
 pub struct Ready {
+    /// The index of the offer among all offers of the process.
     pub offer: usize,
+    /// The number of the atom of the offer.
     pub atom: u32,
+    /// The action that the process is ready for.
     pub action: Action,
 }
 
 /// A process that is alive.
 #[derive(Drop)]
 pub struct Living<W> {
-    /// From 1, in the order of the roots, and then of creation.
+    /// The number of the process: from 1, in the order of the roots, and then of creation.
     pub number: u32,
-    /// Which of the bodies it has, from 0.
+    /// The index of its body among the bodies of the program.
     pub body: u32,
-    /// The process on its way through its body.
+    /// The walker: where the process is in its body.
     pub walker: W,
-    /// What it has subscribed to, and the notes that wait for it.
+    /// The subscriptions of the process, and its queue of notes.
     pub inbox: Inbox,
-    /// What it is ready to do, in text order.
+    /// The actions that the process is ready for, in source order.
     pub ready: Vec<Ready>,
-    /// Whether `ready` says what it is ready to do now.
+    /// Whether `ready` is up to date.
     pub fresh: bool,
-    /// What an index keeps of it: the marks of what it sends and receives.
+    /// The marks that an index has of the process: those of its sends and of its receives.
     pub marks: Marks,
-    /// Whether an atom with times may be next, so that a tick may change what it is ready to do.
+    /// Whether an atom with times may be next. Then a tick may change the actions that the process is ready for.
     pub timed: bool,
 }

@@ -1,4 +1,4 @@
-//! Finds the candidate at two given places. Only the processes that the places number are asked.
+//! The search for the candidate at two given places. The search asks only the processes at these places.
 
 ghost use Rattle.std.specs.Prelude.{◌≡◌, ◌<◌, filter, length, IfOk, IsTrue};
 ghost use Rattle.tb_bus.specs.Steps.{first, nowhere};
@@ -41,14 +41,14 @@ fn place_with<W>(all: &[Apart<Living<W>>], number: u32) -> Option<usize>
     }
 }
 
-/// Returns whether a place is none: nothing is received there.
+/// Returns whether a place is `nowhere`, the place of no process.
 fn is_nowhere(to: Place) -> bool
     ensures { result ≡ is_place nowhere to }
 {
     to.proc == 0 && to.atom == 0
 }
 
-/// Returns what an action binds, if it has this atom and receives the terms.
+/// Returns the index of an action and its binds, if the action has this atom and receives the terms.
 fn receive_by(
     alloc: Global,
     index: usize,
@@ -67,7 +67,7 @@ fn receive_by(
     }
 }
 
-/// Returns the first action that has this atom and receives the terms.
+/// Returns the index and the binds of the first action that has this atom and receives the terms.
 fn received_at(
     alloc: Global,
     actions: &[Ready],
@@ -119,7 +119,7 @@ fn partner_at<W>(
     }
 }
 
-/// Returns the candidate of an action that is received at a place.
+/// Returns the first candidate of an action that is received at a place.
 fn candidate_to<W>(
     alloc: Global,
     searched: &Searched<W>,
@@ -154,7 +154,7 @@ fn candidate_to<W>(
     }
 }
 
-/// Returns the candidate of an action that is received at a place, if the action has this atom.
+/// Returns the first candidate of an action that is received at a place, if the action has this atom.
 fn candidate_with<W>(
     alloc: Global,
     searched: &Searched<W>,
@@ -177,7 +177,7 @@ fn candidate_with<W>(
     }
 }
 
-/// Returns the first candidate among the actions of a process that have this atom.
+/// Returns the first candidate, received at a place, among the actions of a process that have this atom.
 fn named_of<W>(
     alloc: Global,
     searched: &Searched<W>,
@@ -201,8 +201,8 @@ fn named_of<W>(
 }
 
 /// Returns the first of all candidates that begins at one place and is received at another. An action that a process does by
-/// itself is received nowhere. The end of the bus has no place, so it is never found here. The call asks only the processes at
-/// these places. `room` keeps its memory, not its content.
+/// itself is received nowhere. The end of the bus has no place, so the call never returns it. The call asks only the processes at these
+/// places. For a `snd-note`, it also asks all queues. `room` lends memory for the binds of a handshake, and can lose its content.
 pub fn candidate_at<W>(
     alloc: Global,
     program: &Program,

@@ -1,4 +1,4 @@
-//! Whether a process has anything to begin by itself, as things stand.
+//! The check that a process can begin nothing by itself now.
 
 ghost use Rattle.std.specs.Prelude.{◌≡◌, IfOk, is_some, not};
 ghost use Rattle.tb_bus.specs.Exchanges.{exchange_for, setting_by};
@@ -14,7 +14,7 @@ use tb_notes::Inbox;
 use tb_terms::{NoMemory, Patterns};
 use tb_tools::Bench;
 
-/// Whether a note in the queue matches.
+/// Returns whether a note in the queue matches.
 #[inline(never)]
 fn has_note(inbox: &Inbox, patterns: &Patterns) -> Result<bool, NoMemory>
     ensures { IfOk result (λ there. there ≡ is_some (oldest_match patterns.now inbox.now.held)) }
@@ -22,7 +22,7 @@ fn has_note(inbox: &Inbox, patterns: &Patterns) -> Result<bool, NoMemory>
     Ok(inbox.find(patterns)?.is_some())
 }
 
-/// Whether an action that speaks with a tool can't happen.
+/// Returns whether an action that speaks with a tool can't happen now.
 #[inline(never)]
 fn is_silent(
     alloc: Global,
@@ -42,8 +42,8 @@ fn is_silent(
     Ok(exchange_for(alloc, &speaker, does)?.is_none())
 }
 
-/// Whether what a process does by itself can't happen as things stand. What takes memory stands apart, since a
-/// function pays at entry for all that it may hold.
+/// Returns whether an action that a process does by itself rests: its own queue or the lanes don't permit it now. The parts that take
+/// memory are separate functions: on entry, a function pays for all values that it may hold.
 fn own_rests<W>(
     alloc: Global,
     program: &Program,
@@ -70,7 +70,7 @@ fn own_rests<W>(
     }
 }
 
-/// Whether an action of a process begins nothing as things stand, but for what it sends.
+/// Returns whether an action rests: it is a send or a receive, or the process's own queue or the lanes don't permit it now.
 fn rests<W>(
     alloc: Global,
     program: &Program,
@@ -88,8 +88,8 @@ fn rests<W>(
     }
 }
 
-/// Returns whether no action that a process is ready for can happen now. Then the process may sleep until another process, a note, or
-/// a tool wakes it.
+/// Returns whether each action that a process is ready for rests: it is a send or a receive, or the process's own queue or the lanes don't
+/// permit it now. Then the process may sleep until another process, a note, or a tool wakes it.
 #[inline(always)]
 pub fn all_rest<W>(
     alloc: Global,

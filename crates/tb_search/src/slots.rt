@@ -1,4 +1,4 @@
-//! The checks that values have the sorts of formals and slots.
+//! The checks that values have the types of parameters and slots.
 ghost use Rattle.std.specs.Prelude.{◌≡◌, slice_get};
 ghost use Rattle.tb_body.specs.Programs.{have_sorts};
 ghost use Rattle.tb_process_steps.specs.Binds.{has_slot_sort};
@@ -8,7 +8,7 @@ use sqlite_items::at;
 use tb_body::Body;
 use tb_terms::{Sort, Term, has_sort};
 
-/// Returns whether the body has that many formals and the values have their sorts. If there is no such body, returns `false`.
+/// Returns whether the body has that many parameters, and the values have their types. If there is no such body, returns `false`.
 pub fn fits_formals(bodies: &[Body], process: u32, actuals: &[Term]) -> bool
     ensures { result ≡ fits_formals (slice_get bodies.now process) actuals.now }
 {
@@ -20,7 +20,7 @@ pub fn fits_formals(bodies: &[Body], process: u32, actuals: &[Term]) -> bool
     }
 }
 
-/// Whether each term has the sort at its position.
+/// Returns whether each term has the type at its position. If there are fewer types than terms, returns `false`.
 fn have_sorts(sorts: &[Sort], terms: &[Term]) -> bool
     ensures { result ≡ have_sorts sorts.now terms.now }
 {
@@ -47,7 +47,7 @@ pub fn fits_slot(bodies: &[Body], process: u32, slot: u32, value: &Term) -> bool
     }
 }
 
-/// Returns whether there is such a slot and the value has its sort.
+/// Returns whether there is such a slot, and the value has its type.
 pub fn has_slot_sort(sorts: &[Sort], slot: u32, value: &Term) -> bool
     ensures { result ≡ has_slot_sort (slice_get sorts.now slot) value.now }
 {

@@ -7,7 +7,7 @@ use crate::living::Living;
 use std::alloc::Global;
 use tb_terms::{Items, NoMemory, Terms};
 
-/// The indices of those that want the note, where each of them has room for it.
+/// Returns the indices of the processes that want the note. If one of their queues is full, returns `None`.
 pub(crate) fn wanting<W>(
     alloc: Global,
     all: &[Apart<Living<W>>],

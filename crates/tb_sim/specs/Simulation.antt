@@ -1,4 +1,5 @@
--- The simulation of a bus and a feed, turn after turn: first the queued items are sent, then the first step is made, then `quiet` and the next input are logged. Also its limits, and how it ends.
+-- The simulation of a bus with a feed, turn by turn, within limits. A turn sends a queued item. If no item is queued, it takes the first
+-- possible step. If no step is possible, it logs `quiet`, and the next turn delivers an input.
 use Rattle.std.specs.Prelude.{◌≡◌, ℕ, ◌+◌, nat_le, List, [], ◌∷◌, ◌++◌, Bool, true, false, if◌then◌else◌, Option, Some, None, option_map, option_and_then, ⊤}
 use Rattle.tb_bus.specs.declared.origin.Origin.{Origin}
 use Rattle.tb_bus.specs.Buses.{Bus}
@@ -20,7 +21,7 @@ pub record Limits : Type 0 where
   pub steps : ℕ
   pub entries : ℕ
 
--- the limits of a core's simulation: its origin has the greatest number of entries
+-- the limits of a core's simulation: the given number of steps, and the number of entries that its origin allows
 abbrev pub limits_of : ℕ → Origin → Limits
 limits_of steps origin = record { steps = steps; entries = origin.limit }
 
@@ -32,33 +33,33 @@ pub record Sim : Type 0 where
   pub quiet : Bool
   pub left : List Input
 
--- what one turn does: it ends the simulation, or it logs an entry and goes on
+-- the result of a turn: the simulation ends, or it logs this entry and has this state
 pub data Turn : Type 0 where
   Ends : SimEnd → Turn
   Makes : Entry → Sim → Turn
 
--- it logs an entry and goes on if the log has capacity for it; if not, it ends
+-- logs this entry if the log has capacity for it; if not, the simulation ends with `Events`
 abbrev pub makes : Limits → Sim → Entry → Sim → Turn
 makes limits sim entry next = if has_room limits.entries sim.log entry then Makes entry (record next { log = sim.log ++ entry ∷ [] }) else Ends Events
 
--- it delivers an input, and this is the rest of the feed then
+-- delivers this input, after which this is the rest of the feed
 abbrev pub input_turn : Limits → Sim → Input → List Input → Turn
 input_turn limits sim input left =
     makes limits sim (Fed input (fed sim.bus input).reply) (record sim { bus = (fed sim.bus input).bus; quiet = false; left = left })
 
--- it delivers the first input of the rest of the feed; if there is none, it reports that no more ticks come
+-- delivers the first input of the rest of the feed; if there is none, delivers the end of ticks
 abbrev pub outside_turn : Limits → Sim → List Input → Turn
 outside_turn limits sim [] = input_turn limits sim NoTicks []
 outside_turn limits sim (input ∷ left) = input_turn limits sim input left
 
--- if no step is possible, it logs `quiet`, and then delivers the next input
+-- the turn if no step is possible: logs `quiet`; if the last entry is `quiet` already, delivers the next input
 abbrev pub quiet_turn : Limits → Sim → Turn
 quiet_turn limits sim =
     if sim.quiet
     then outside_turn limits sim sim.left
     else makes limits sim Quiet (record sim { quiet = true })
 
--- if a step is possible, it ends if the limit of steps is reached, and makes the first step if not
+-- if a step is possible, takes the first one; if the limit of steps is reached, ends with `Steps` instead
 abbrev pub step_turn : Limits → Sim → List Step → Turn
 step_turn limits sim [] = quiet_turn limits sim
 step_turn limits sim (step ∷ rest) =
@@ -66,11 +67,11 @@ step_turn limits sim (step ∷ rest) =
     then Ends Steps
     else makes limits sim (Did step.label) (record sim { bus = step.bus; steps_made = sim.steps_made + 1; quiet = false })
 
--- a bus that has shut down ends it
+-- if the bus has shut down, ends with `Down`; if not, takes a step or goes on as above
 abbrev pub up_turn : Limits → Sim → Turn
 up_turn limits sim = if sim.bus.down then Ends Down else step_turn limits sim (steps sim.bus)
 
--- the item that is sent on a lane
+-- a lane, and the next item that is queued on it
 pub record Handing : Type 0 where
   pub lane : ℕ
   pub out : Out
@@ -78,30 +79,30 @@ pub record Handing : Type 0 where
 abbrev pub handing_on : BenchState → ℕ → Option Handing
 handing_on bench lane = option_map (λ out. record { lane = lane; out = out }) (next_out lane bench)
 
--- the item that is sent first: the next one of the lowest lane with a queued item
+-- the item that is sent next: the first one of the lowest lane with a queued item
 abbrev pub first_handing : BenchState → Option Handing
 first_handing bench = option_and_then (handing_on bench) (first_out bench)
 
--- it sends that item; if nothing is queued, it goes on
+-- sends this item; if nothing is queued, goes on as above
 abbrev pub turn_by : Limits → Sim → Option Handing → Turn
 turn_by limits sim None = up_turn limits sim
 turn_by limits sim (Some handing) =
     makes limits sim (Gave handing.lane handing.out) (record sim { bus = taken_out handing.lane sim.bus; quiet = false })
 
--- What one turn does.
+-- The turn of a simulation in this state.
 abbrev pub turn : Limits → Sim → Turn
 turn limits sim = turn_by limits sim (first_handing sim.bus.bench)
 
--- Turn after turn this log is made, and then the simulation ends so.
+-- From this state, the turns of the simulation log these entries, and then the simulation ends with this end.
 abbrev pub IsSim : Limits → Sim → List Entry → SimEnd → Type 0
 IsSim limits sim [] end = turn limits sim ≡ Ends end
 IsSim limits sim (entry ∷ log) end = (next : Sim) × (turn limits sim ≡ Makes entry next) × IsSim limits next log end
 
--- a simulation begins with an empty log, no steps made, and all of its feed
+-- the first state of a simulation: the log is empty, no step is taken, and the whole feed is left
 abbrev pub sim_start : Bus → List Input → Sim
 sim_start bus feed = record { bus = bus; log = []; steps_made = 0; quiet = false; left = feed }
 
--- Turn after turn the simulation makes this log, and may go on.
+-- From this state, the first turns of the simulation log these entries.
 abbrev pub IsSimPrefix : Limits → Sim → List Entry → Type 0
 IsSimPrefix limits sim [] = ⊤
 IsSimPrefix limits sim (entry ∷ log) = (next : Sim) × (turn limits sim ≡ Makes entry next) × IsSimPrefix limits next log

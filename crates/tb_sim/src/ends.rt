@@ -1,6 +1,6 @@
-//! The ends and the progress of a simulation.
+//! How a simulation ends, and its progress.
 
-/// How a simulation ended.
+/// The end of a simulation.
 #[derive(Clone, Copy, Debug, PartialEq, Eq)]
 pub enum SimEnd {
     /// The bus shut down.
@@ -11,17 +11,20 @@ pub enum SimEnd {
     Events,
 }
 
-/// The progress of a simulation: the number of its steps, and the number of delivered inputs of its feed.
+/// The progress of a simulation.
 #[derive(Clone, Copy)]
 pub struct Progress {
+    /// The number of taken steps.
     pub steps: u64,
+    /// The number of delivered inputs of the feed.
     pub inputs: usize,
 }
 
-/// The result of one iteration of a simulation.
+/// The result of one iteration of the code, which makes one or two turns.
 #[derive(Clone, Copy)]
 pub enum Turned {
     /// The simulation goes on, with this progress.
     On(Progress),
+    /// The simulation has ended.
     End(SimEnd),
 }

@@ -1,4 +1,4 @@
-//! The simulation: a core that is run to its end, always by the first of the steps.
+//! The simulation of a script: a core runs to its end, and always takes the first possible step.
 #![tactic(auto)]
 
 mod ends;

@@ -1,4 +1,4 @@
-//! The simulation of a bus with a feed.
+//! How a core with a feed is simulated, turn by turn.
 ghost use Rattle.std.specs.Prelude.{◌≡◌, ◌&&◌, ◌==◌, ◌≤◌, [], drop, IfOk, IsSome, OnOk, OnErr, IsErrOf, false, None};
 ghost use Rattle.tb_bus.specs.Buses.{start};
 ghost use Rattle.tb_bus.specs.Steps.{steps as steps_of};
@@ -15,7 +15,7 @@ use tb_log::Input;
 use tb_process_steps::Walker;
 use tb_terms::NoMemory;
 
-/// Returns whether the limit of steps is reached, though a step is possible.
+/// Returns whether the limit of steps is reached and another step is possible.
 fn is_at_limit<W: Walker>(core: &mut Core<W>, made: u64, steps: u64) -> Result<bool, NoMemory>
     ensures value { IfOk result
         (λ limit. limit ≡ (made == steps && has_any (steps_of (bus_now core.old)))) }
@@ -27,7 +27,8 @@ fn is_at_limit<W: Walker>(core: &mut Core<W>, made: u64, steps: u64) -> Result<b
     core.has_step()
 }
 
-/// Sends the next item of a lane, makes a step, logs `quiet` and delivers the next input, or reaches the end.
+/// Makes one or two turns: sends the next item of a lane, or takes a step, or logs `quiet` and delivers the next input. Or it reaches
+/// the end, perhaps after `quiet`. Each of these turns logs an entry.
 fn go<W: Walker>(
     core: &mut Core<W>,
     feed: &Feed,
@@ -46,7 +47,7 @@ fn go<W: Walker>(
     }
 }
 
-/// Sends the next item of a lane.
+/// Sends the next item of a lane, or reaches the end `Events`.
 fn hand_out<W: Walker>(core: &mut Core<W>, lane: u8, so_far: Progress) -> Result<Turned, NoMemory>
     requires lane { IsLane lane }
     requires some { IsSome (next_out lane (bus_now core.old).bench) }
@@ -62,7 +63,7 @@ fn hand_out<W: Walker>(core: &mut Core<W>, lane: u8, so_far: Progress) -> Result
     }
 }
 
-/// If nothing is queued for sending, makes a step, logs `quiet` and delivers the next input, or reaches the end.
+/// Does the same if no lane has a queued item: takes a step, or logs `quiet` and delivers the next input, or reaches the end.
 fn go_up<W: Walker>(
     core: &mut Core<W>,
     feed: &Feed,
@@ -91,7 +92,7 @@ fn go_up<W: Walker>(
     }
 }
 
-/// Delivers the next input of the feed. If none is left, it reports that no more ticks come.
+/// Delivers the next input of the feed. If none is left, it delivers the end of ticks.
 fn hand_in_next<W: Walker>(
     core: &mut Core<W>,
     feed: &Feed,
@@ -112,7 +113,7 @@ fn hand_in_next<W: Walker>(
     hand_in(core, input, next)
 }
 
-/// Delivers an input. `next` is the progress after it.
+/// Delivers an input, after which the progress is `next`, or reaches the end `Events`.
 fn hand_in<W: Walker>(core: &mut Core<W>, input: Input, next: Progress) -> Result<Turned, NoMemory>
     requires running { core.old.stopped ≡ false }
     requires in_form { IsInputInShape input }
@@ -126,10 +127,10 @@ fn hand_in<W: Walker>(core: &mut Core<W>, input: Input, next: Progress) -> Resul
     }
 }
 
-/// Runs a core to its end, always by the first of the steps, and makes at most `steps` of them. Before each step, it sends the items
-/// that are queued on the lanes, the lowest lane first. If no step is possible, it delivers the next input of the feed. After the
-/// feed's last input, it reports that no more ticks come. The end is `Events` if the log has no capacity for the next entry. After
-/// an `Err`, the log is a prefix of the one that the simulation makes.
+/// Runs a core to its end. It always takes the first possible step, and takes at most `steps` of them. Before each step, it sends the
+/// items that are queued on the lanes, the lowest lane first. If no step is possible, it logs `quiet`, and then delivers the next input
+/// of the feed. After the feed's last input, it delivers the end of ticks. The end is `Events` if the log has no capacity for the next
+/// entry. After an `Err`, the log is a prefix of the simulation's log.
 pub fn simulate<W: Walker>(core: &mut Core<W>, feed: &Feed, steps: u64) -> Result<SimEnd, NoMemory>
     requires fresh { core.old.log ≡ [] }
     requires running { core.old.stopped ≡ false }

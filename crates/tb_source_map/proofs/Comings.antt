@@ -35,7 +35,7 @@ zip_append R (x ∷ xs) [] ys es p q = absurd p
 zip_append R (x ∷ xs) (d ∷ ds) ys es p q = (p.0, zip_append R xs ds ys es p.1 q)
 
 module _ (script : Script) where
-  -- whatever is seen, and wherever the atoms and slots begin
+  -- for all variables in scope, and for all numbers of the first atom and the first slot
   abbrev pub AreFrom : Expands → List AtomDef → Type 0
   AreFrom x defs = (scope : Scope) (atom slot : ℕ) → AllZip (Becomes script) (x scope atom slot).atoms defs
 
@@ -97,7 +97,7 @@ module _ (script : Script) where
       marks = refl;
     }
 
-    -- processes that are the script's, and their bodies
+    -- processes that the script defines, and their bodies
     all_placed : (ds : List ProcDef) (bodies : List Body) → ((d : ProcDef) → Contains ds d → Contains script.procs d) → AllZip (IsExpansion script) ds bodies
         → AllZip (IsPlaced tokens script) bodies (map (place_of tokens script) ds)
     all_placed [] [] defined is = tt

@@ -1,4 +1,4 @@
--- The places of atoms in a row, part by part.
+-- The marks of a sequence of atoms, part by part.
 use Rattle.std.proofs.Common.{◌≡◌, List, ◌++◌}
 use Rattle.std.proofs.lemmas.List.{map-append}
 use Rattle.tb_lex.specs.declared.token.Token.{Token}

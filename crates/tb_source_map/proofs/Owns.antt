@@ -1,4 +1,4 @@
--- The atoms in the expansion of a process stand in bodies of the script.
+-- The atoms in the expansion of a process are in bodies of the script.
 use Rattle.std.proofs.Common.{◌≡◌, ℕ, zero, suc, ◌⊎◌, inl, inr, Bool, true, false, cond, List, [], ◌∷◌, ◌++◌, length, Contains, All, Option, Some, None, refl, subst, bytes_eq}
 use Rattle.std.proofs.lemmas.List.Elements.{All-contains_itself, All-weaker, Contains-append_cases, Contains-append_left, Contains-append_right}
 use Rattle.tb_syntax.specs.declared.proc.AtomDef.{AtomDef}
@@ -12,7 +12,7 @@ use Rattle.tb_expand.proofs.Readings.{contains_here, contains_there, none_in}
 use Rattle.tb_source_map.specs.Places.{IsAtomOf}
 use Rattle.tb_source_map.specs.Sites.{own_atoms, own_step, sites, sites_called, sites_of, sites_step, sites_with}
 
--- a process that is found by its name is one of those
+-- a process that is found by its name is one of the processes
 found_there : (procs : List ProcDef) (name : List ℕ) (d : ProcDef) → process_named procs name ≡ Some d → Contains procs d
 found_there [] name d found = absurd cc
 found_there (first ∷ procs) name d found = step (bytes_eq first.name name) found (λ h. found_there procs name d h) where
@@ -23,7 +23,7 @@ found_there (first ∷ procs) name d found = step (bytes_eq first.name name) fou
   step false h ih = contains_there first procs d (ih h)
 
 module _ (script : Script) where
-  -- each atom is one of a body's own, or stands in the body of some process of the script
+  -- each atom is in the body itself, or in the body of some process of the script
   abbrev AreOwn : List AtomDef → List AtomDef → Type 0
   AreOwn sites own = (def : AtomDef) → Contains sites def → Contains own def ⊎ IsAtomOf script def
 
@@ -44,7 +44,7 @@ module _ (script : Script) where
   none_own : AreOwn [] []
   none_own def there = inl there
 
-  -- the atoms of the expansions of all processes, to some depth, are the script's
+  -- the atoms of the expansions of all processes, to some depth, are atoms of the script
   abbrev AreKnown : (Proc → List AtomDef) → Type 0
   AreKnown body = (d : ProcDef) → Contains script.procs d → (def : AtomDef) → Contains (body d.body) def → IsAtomOf script def
 

@@ -11,11 +11,11 @@ spot_at line column = record { line = line; column = column }
 abbrev begins : ℕ → Bool
 begins byte = not (goes_on byte)
 
--- where the next byte stands, by what the byte is
+-- the line and the column of the next byte, by whether this byte is a newline or continues a character
 abbrev after_by : Bool → Bool → Spot → Spot
 after_by newline on s = cond newline (spot_at (s.line + 1) 1) (cond on s (spot_at s.line (s.column + 1)))
 
--- what a filter keeps, by whether it keeps the first
+-- the number of elements that a filter keeps, by whether it keeps the first one
 abbrev kept_by : Bool → ℕ → List ℕ → ℕ
 kept_by keep byte others = length (cond keep (byte ∷ others) others)
 

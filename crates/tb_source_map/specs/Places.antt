@@ -1,4 +1,4 @@
--- Where the processes of a script and their atoms stand, and which atom of the script an atom of a body is.
+-- The places of the processes of a script and of their atoms, and the atom of the script from which an atom of a body comes.
 use Rattle.std.specs.Prelude.{◌≡◌, ℕ, List, map, Contains}
 use Rattle.std.specs.List.{AllZip}
 use Rattle.tb_body.specs.declared.atom.Atom.{Atom}
@@ -19,10 +19,11 @@ use Rattle.tb_source_map.specs.Marks.{mark_at}
 use Rattle.tb_source_map.specs.Sites.{marks_of, own_atoms, sites_of}
 use Rattle.tb_source_map.specs.declared.places.ProcessPlace.{ProcessPlace}
 
+-- the place of a process: its name, the first token of its definition, and the first tokens of the atoms of its expansion
 abbrev pub place_of : List Token → Script → ProcDef → ProcessPlace
 place_of tokens script d = record { name = d.name; mark = mark_at tokens d.token; atoms = marks_of tokens (sites_of script d) }
 
--- the text has tokens, these spell a script, and each of its processes has its place
+-- the source has tokens, the tokens parse as a script, and these are the places of its processes, in order of definition
 pub record ArePlaces (text : List ℕ) (places : List ProcessPlace) : Type 0 where
   pub tokens : List Token
   pub script : Script
@@ -30,20 +31,21 @@ pub record ArePlaces (text : List ℕ) (places : List ProcessPlace) : Type 0 whe
   pub is_script : IsScriptOf (kinds_of tokens) script
   pub are : places ≡ map (place_of tokens script) script.procs
 
--- the text is accepted: a program is found of it, and no fault
+-- the source is accepted: its finding is a program, and not an error
 abbrev pub IsAcceptedText : List ℕ → Type 0
 IsAcceptedText text = (program : Program) × IsFound text (Program' program)
 
--- the script defines a process in whose own body the atom stands
+-- the atom is in the body of a process that the script defines
 abbrev pub IsAtomOf : Script → AtomDef → Type 0
 IsAtomOf script def = (d : ProcDef) × Contains script.procs d × Contains (own_atoms d.body) def
 
--- an atom of a body is what this atom of the script becomes where some variables are seen
+-- the atom of a body is the one that this atom of the script becomes, with some variables in scope
 abbrev pub Becomes : Script → Atom → AtomDef → Type 0
 Becomes script atom def = (scope : Scope) × (atom ≡ atom_of script scope def)
 
--- The body is the expansion of a process that the script defines, and the place is that of this process. Each atom of the body
--- is what the atom of the script becomes that stands there in the expansion, and its mark is the first token of that atom.
+-- The body is the expansion of a process that the script defines, and the place is that of this process. Each atom of the script that
+-- is in the expansion becomes the body's atom at the same position. The mark of the body's atom is the first token of the script's
+-- atom.
 pub record IsPlaced (tokens : List Token) (script : Script) (body : Body) (place : ProcessPlace) : Type 0 where
   pub d : ProcDef
   pub defined : Contains script.procs d

@@ -1,4 +1,4 @@
--- Which atoms of the script stand in the expansion of a process, in the order of the expansion's own atoms.
+-- The atoms of the script that are in the expansion of a process, in the order of the atoms of the expansion.
 use Rattle.std.specs.Prelude.{ℕ, zero, suc, List, [], ◌∷◌, ◌++◌, map, length, Option, Some, None}
 use Rattle.tb_lex.specs.declared.token.Token.{Token}
 use Rattle.tb_syntax.specs.declared.proc.AtomDef.{AtomDef}
@@ -11,16 +11,17 @@ use Rattle.tb_types.specs.Names.{process_named}
 use Rattle.tb_source_map.specs.Marks.{mark_at}
 use Rattle.tb_source_map.specs.declared.mark.Mark.{Mark}
 
--- the atoms of a called process, where it is known which those of a body are
+-- the atoms of a called process, with `body` for the atoms of a body; none if no process has the name
 abbrev pub sites_called : (Proc → List AtomDef) → Option ProcDef → List AtomDef
 sites_called body None = []
 sites_called body (Some d) = body d.body
 
--- those of the side behind `else`, where there is one
+-- the atoms of the branch after `else`, if there is one
 abbrev pub sites_else : Option (List AtomDef) → List AtomDef
 sites_else None = []
 sites_else (Some sites) = sites
 
+-- the atoms of a process, from the atoms of its parts
 abbrev pub sites_step : Script → (Proc → List AtomDef) → Proc-F (List AtomDef) → List AtomDef
 sites_step script body (Atom def) = def ∷ []
 sites_step script body (CallOf call) = sites_called body (process_named script.procs call.name)
@@ -32,18 +33,20 @@ sites_step script body (Disrupt x y) = x ++ y
 sites_step script body (If test x y) = x ++ sites_else y
 sites_step script body (Let vars x) = x
 
+-- the atoms of a process, with `body` for the atoms of the body of a called process
 abbrev pub sites_with : Script → (Proc → List AtomDef) → Proc → List AtomDef
 sites_with script body p = fold-Proc (List AtomDef) (sites_step script body) p
 
--- with so many bodies in each other, the outermost counted
+-- the atoms of a body, if at most this many bodies are nested, this body included
 abbrev pub sites : Script → ℕ → Proc → List AtomDef
 sites script zero p = []
 sites script (suc depth) p = sites_with script (sites script depth) p
 
--- an atom of a process that is called stands there once for each call
+-- the atoms of the expansion of a process; an atom of a called process is there once for each call
 abbrev pub sites_of : Script → ProcDef → List AtomDef
 sites_of script d = sites script (length script.procs) d.body
 
+-- the atoms of a process without those of the processes that it calls, from the atoms of its parts
 abbrev pub own_step : Proc-F (List AtomDef) → List AtomDef
 own_step (Atom def) = def ∷ []
 own_step (CallOf call) = []
@@ -55,14 +58,14 @@ own_step (Disrupt x y) = x ++ y
 own_step (If test x y) = x ++ sites_else y
 own_step (Let vars x) = x
 
--- the atoms that stand in a body itself, without those of the processes that it calls
+-- the atoms in a body itself, without those of the processes that it calls
 abbrev pub own_atoms : Proc → List AtomDef
 own_atoms p = fold-Proc (List AtomDef) own_step p
 
--- the bytes of an atom's first token
+-- the bytes of the first token of an atom
 abbrev pub mark_of_atom : List Token → AtomDef → Mark
 mark_of_atom tokens def = mark_at tokens def.token
 
--- the same of atoms in a row
+-- the bytes of the first tokens of atoms, in order
 abbrev pub marks_of : List Token → List AtomDef → List Mark
 marks_of tokens defs = map (mark_of_atom tokens) defs

@@ -1,4 +1,4 @@
-//! The places of a script: lines and columns of bytes, and where in the script each atom of a process is.
+//! The places of a script: the line and the column of each byte, and the place of each atom of a process in the script.
 #![tactic(auto)]
 
 mod laws;

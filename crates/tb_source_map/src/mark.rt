@@ -5,14 +5,17 @@ ghost use Rattle.tb_source_map.specs.Marks.{mark_at, mark_of_token, end_of, end_
 use sqlite_items::at;
 use tb_lex::Token;
 
-/// Bytes of a script: from `from` to before `to`, counted from 0.
+/// Bytes of a script: from `from` to before `to`, both counted from 0.
 #[derive(Clone, Copy, Debug, Drop, PartialEq, Eq)]
 pub struct Mark {
+    /// The position of the first byte.
     pub from: usize,
+    /// The position after the last byte.
     pub to: usize,
 }
 
-/// The bytes of the token at this position. After all tokens it is the empty place where the last one ends.
+/// Returns the bytes of the token at this position. For a position after all tokens, returns the empty place where the last token
+/// ends.
 pub fn mark_at(tokens: &[Token], token: usize) -> Mark
     ensures { result ≡ mark_at tokens.now token }
 {
@@ -25,7 +28,7 @@ pub fn mark_at(tokens: &[Token], token: usize) -> Mark
     }
 }
 
-/// The empty place after the last token.
+/// Returns the empty place where the last token ends, or the start of the source if there are no tokens.
 fn end_of(tokens: &[Token]) -> Mark
     ensures { result ≡ end_of tokens.now }
 {

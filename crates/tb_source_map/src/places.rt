@@ -1,4 +1,4 @@
-//! The places of all processes of a script.
+//! Finds the places of all processes of a script.
 ghost use Rattle.std.specs.Prelude.{◌≡◌, ◌++◌, ℕ, List, IfOk, IfErr, OnOk, map};
 ghost use Rattle.tb_script.specs.Loading.{HasFault};
 ghost use Rattle.tb_source_map.specs.Places.{ArePlaces, IsAcceptedText, place_of};
@@ -14,20 +14,21 @@ use tb_syntax::{ProcDef, Script};
 use tb_terms::{Ident, Items, NoMemory};
 use tb_types::Names;
 
-/// Where a process and its atoms are in the script.
+/// The places of a process and of its atoms in the script.
 #[derive(Drop)]
 pub struct ProcessPlace {
+    /// The name of the process.
     pub name: Ident,
     /// The word `process` of its definition.
     pub mark: Mark,
-    /// The first token of each atom of its body: that of the atom with number n is at position n - 1.
+    /// The first token of each atom of its expansion. The atom with number n has its token at position n - 1.
     pub atoms: Items<Mark>,
 }
 
-/// Where the processes of a script are, in order of definition, as the bodies of its program.
+/// The places of the processes of a script, in order of definition. The bodies of its program have the same order.
 pub type Places = Items<ProcessPlace>;
 
-/// The places of a script that is accepted, or the reason why it is rejected.
+/// Returns the places of a script that is accepted, or the reason why the script is rejected.
 pub fn all_places(alloc: Global, bytes: &[u8]) -> Result<Places, ScriptFault>
     ensures ok { IfOk result (ArePlaces bytes.now) }
     ensures accepted { IfOk result (λ places. IsAcceptedText bytes.now) }
@@ -39,7 +40,7 @@ pub fn all_places(alloc: Global, bytes: &[u8]) -> Result<Places, ScriptFault>
     }
 }
 
-/// The places of a script that is accepted.
+/// Returns the places of a script that is accepted.
 fn places_of_bytes(alloc: Global, bytes: &[u8]) -> Result<Places, NoMemory>
     ensures { IfOk result (ArePlaces bytes.now) }
 {

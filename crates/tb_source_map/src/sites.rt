@@ -1,4 +1,4 @@
-//! The places of the atoms of one process.
+//! Finds the places of the atoms of one process.
 ghost use Rattle.std.specs.Prelude.{◌≡◌, ◌++◌, OnOk, option_map};
 ghost use Rattle.std.specs.Option.{option_copied};
 ghost use Rattle.tb_types.specs.Names.{process_named};
@@ -11,7 +11,8 @@ use tb_syntax::{Call, Proc, ProcDef};
 use tb_terms::{Boxed, Items, NoMemory};
 use tb_types::Names;
 
-/// Adds where the atoms of a process are. Calls within it are expanded up to this depth and one more.
+/// Adds the first tokens of the atoms of a process. In each call, at most `depth` bodies are nested, the body of the called process
+/// included.
 #[cycle(sites)]
 #[tactic(auto, using(crate::proofs::MarkLemmas::marks_append))]
 fn push_sites(
@@ -92,7 +93,8 @@ fn push_else(
     }
 }
 
-/// Adds where the atoms of the called process are, if there is one.
+/// Adds the first tokens of the atoms of the called process, if a process has this name. At most `depth` bodies are nested, its body
+/// included.
 #[cycle(sites)]
 fn push_called(
     names: &Names,
@@ -112,7 +114,7 @@ fn push_called(
     Ok(())
 }
 
-/// Adds where the atoms of a body are, in which calls are expanded up to this depth.
+/// Adds the first tokens of the atoms of a body. At most `depth` bodies are nested, this body included.
 #[cycle(sites)]
 pub(crate) fn push_body(
     names: &Names,
@@ -131,7 +133,7 @@ pub(crate) fn push_body(
     Ok(())
 }
 
-/// The definition of the process of this name.
+/// Returns the definition of the process with this name.
 #[tactic(auto, using(tb_expand::proofs::Lookups::defined_at, tb_expand::proofs::Lookups::not_defined))]
 fn definition_of<'a>(names: &Names<'a>, name: &[u8]) -> Option<&'a ProcDef>
     ensures { option_copied result ≡ process_named names.now.script.now.procs name.now }

@@ -1,4 +1,4 @@
--- In each spelling the parentheses close as they open.
+-- The parentheses of each spelling are balanced.
 use Rattle.std.proofs.Common.{◌≡◌, ℕ, zero, suc, ◌+◌, ◌-◌, ◌<◌, ◌≤◌, ◌⊎◌, Bool, true, false, cond, List, [], ◌∷◌, ◌++◌, length, take, Option, Some, None, codes, refl, ap, sym, ◌∙◌, subst, inl, inr, arith, append_assoc, min}
 use Rattle.std.proofs.Math.Seq.{take-append-add}
 use Rattle.std.proofs.lemmas.Bool.{cases_lt}
@@ -24,7 +24,7 @@ use Rattle.tb_syntax.specs.declared.script.ToolDef.{ToolDef}
 use Rattle.tb_syntax.specs.Parens.{is_left_paren, is_right_paren, left_parens, right_parens, IsBalanced, IsEnclosed}
 use Rattle.tb_syntax.specs.Spelling.{in_parens, Parted, InRow, InParens, SpellsSort, SpellsKind, SpellsExpr, SpellsArguments, SpellsExprs, SpellsCall, SpellsAct, SpellsTime, SpellsAtom, SpellsVar, SpellsProc, mark, SpellsFormal, SpellsProcDef, command_tokens, SpellsToolDef, SpellsDefinitions, SpellsRoots, Spells}
 
--- Rows that are put together.
+-- Concatenated sequences.
 
 left-append : (a b : List TokenKind) → left_parens (a ++ b) ≡ left_parens a + left_parens b
 left-append a b = sum_by-append (λ k. cond (is_left_paren k) 1 0) a b
@@ -38,7 +38,7 @@ NoneEarly ks = right_parens ks ≤ left_parens ks
 behind_balanced : (a b : List TokenKind) → right_parens a ≡ left_parens a → NoneEarly b → NoneEarly (a ++ b)
 behind_balanced a b e h = rw (right-append a b, left-append a b, e) (omega arith)
 
--- so many of the tokens are all of the first row and some of the other
+-- a prefix that contains all of the first sequence, and a prefix of the other
 take_both : (a b : List TokenKind) (count : ℕ) → length a < count → take count (a ++ b) ≡ a ++ take (count - length a) b
 take_both a b count h =
     let is : count ≡ length a + (count - length a) = omega arith in
@@ -78,7 +78,7 @@ behind k ks p q = joined (k ∷ []) ks (single k p) q
 apart : (a : List TokenKind) (k : TokenKind) (b : List TokenKind) → IsOther k → IsBalanced a → IsBalanced b → IsBalanced (a ++ k ∷ b)
 apart a k b p q r = joined a (k ∷ b) q (behind k b p r)
 
--- What stands in parentheses.
+-- Tokens in parentheses.
 
 abbrev closed : List TokenKind → List TokenKind
 closed ks = ks ++ Sign RightParen ∷ []
@@ -86,7 +86,7 @@ closed ks = ks ++ Sign RightParen ∷ []
 left-open : (ks : List TokenKind) → left_parens (Sign LeftParen ∷ ks) ≡ 1 + left_parens ks
 left-open ks = left-append (Sign LeftParen ∷ []) ks
 
--- one parenthesis at most closes too many
+-- at most one parenthesis closes without an open one
 closed_by : (ks : List TokenKind) → IsBalanced ks → (count : ℕ) → (length ks < count) ⊎ (count ≤ length ks) → right_parens (take count (closed ks)) ≤ 1 + left_parens (take count (closed ks))
 closed_by ks p count (inl h) =
     let rest = take (count - length ks) (Sign RightParen ∷ []) in

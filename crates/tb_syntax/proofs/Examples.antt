@@ -1,4 +1,4 @@
--- Scripts that are spelt, worked out by hand from the grammar.
+-- Examples of scripts with spellings, derived by hand from the grammar.
 use Rattle.std.proofs.Common.{◌≡◌, ℕ, ◌+◌, List, [], ◌∷◌, ◌++◌, true, refl, subst, sym, codes}
 use Rattle.tb_lex.specs.declared.kind.TokenKind.{TokenKind}
 use Rattle.tb_lex.specs.declared.kind.TokenKind.TheVariants.{Lower, Upper, Symbol as Sign}
@@ -37,7 +37,7 @@ delta = Lower (codes "delta") ∷ []
 abbrev choice : ℕ → Proc
 choice at = tree.Alt (tree.Atom (plain (codes "tau") at)) (tree.Seq (tree.Atom (plain (codes "tau") (at + 2))) (tree.Atom (plain (codes "delta") (at + 4))))
 
--- tau + tau . delta: what is chosen is the first, or the other two in sequence
+-- tau + tau . delta: the choice is between the first atom and the sequence of the other two
 choice_spelt : SpellsProc level.Proc 3 (choice 3) (tau ++ Sign Plus ∷ (tau ++ Sign Point ∷ delta))
 choice_spelt =
     let first : SpellsProc level.Seq 3 (tree.Atom (plain (codes "tau") 3)) tau = SpellsProc.one_star (SpellsProc.one_prim (plain_spelt (codes "tau") 3 refl)) in
@@ -48,7 +48,7 @@ choice_spelt =
 abbrev transfer : ℕ → Proc
 transfer at = tree.Disrupt (tree.Par (tree.Atom (plain (codes "tau") at)) (tree.Atom (plain (codes "tau") (at + 2)))) (tree.Atom (plain (codes "delta") (at + 4)))
 
--- tau || tau >> delta: what is disrupted is the merge
+-- tau || tau >> delta: `delta` disrupts the merge
 transfer_spelt : SpellsProc level.Proc 3 (transfer 3) ((tau ++ Sign Bars ∷ tau) ++ Sign Angles ∷ delta)
 transfer_spelt =
     let first : SpellsProc level.Alt 3 (tree.Atom (plain (codes "tau") 3)) tau = SpellsProc.one_seq (SpellsProc.one_star (SpellsProc.one_prim (plain_spelt (codes "tau") 3 refl))) in

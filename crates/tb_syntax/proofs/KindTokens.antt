@@ -1,4 +1,4 @@
--- What is printed for each kind of expression.
+-- The tokens that are printed for each kind of expression.
 use Rattle.std.proofs.Common.{◌≡◌, ℕ, ℤ, List, [], ◌∷◌, map, ap, ◌∙◌}
 use Rattle.tb_terms.specs.declared.sort.Sort.{Sort}
 use Rattle.tb_lex.specs.declared.kind.TokenKind.{TokenKind}

@@ -1,4 +1,4 @@
--- The text that is printed for tokens has just these tokens.
+-- The printed text of tokens has exactly these tokens.
 use Rattle.std.proofs.Common.{◌≡◌, ℕ, ◌+◌, Bool, true, false, if◌then◌else◌, List, [], ◌∷◌, ◌++◌, length, map, refl, ap, sym, ◌∙◌, inl, append_assoc}
 use Rattle.std.proofs.lemmas.Bool.{and_parts}
 use Rattle.std.specs.List.{list_all, prefix_len}
@@ -29,7 +29,7 @@ spelled (Lower name) e = (e, refl)
 spelled (Upper name) e = (e, refl)
 spelled (Sign s) e = refl
 
--- a byte with which no name, numeral or symbol goes on
+-- a byte that can't continue a name, a numeral, or a symbol
 pub data Breaks : List ℕ → Type 0 where
   newline : (rest : List ℕ) → Breaks (10 ∷ rest)
   blank : (rest : List ℕ) → Breaks (32 ∷ rest)
@@ -89,7 +89,7 @@ no_point rest b p = let e : ◌≡◌ {A = Bool} false true = sym (no_point_begi
 abbrev ending : List ℕ
 ending = 10 ∷ []
 
--- a line or a blank before a word
+-- a newline or a space before a word
 word_breaks : (b : Bool) (name more : List ℕ) → Breaks ((((if b then 10 ∷ [] else 32 ∷ []) ++ name) ++ more) ++ ending)
 word_breaks true name more = Breaks.newline _
 word_breaks false name more = Breaks.blank _
@@ -121,7 +121,7 @@ other_breaks (Lower name) more = word_breaks (is_among definition_words name) na
 other_breaks (Upper name) more = Breaks.blank _
 other_breaks (Sign s) more = symbol_breaks s more
 
--- what is printed behind a name doesn't go on with it
+-- the text that is printed after a name can't continue it
 sign_stops : (s : Symbol) (more : List ℕ) → prefix_len is_name_byte (((space_after_name (Sign s) ++ symbol_text s) ++ more) ++ ending) ≡ 0
 sign_stops symbol.LeftParen more = refl
 sign_stops symbol.RightParen more = refl
@@ -149,7 +149,7 @@ name_stops (Lower name) more = no_name _ (other_breaks (Lower name) more)
 name_stops (Upper name) more = no_name _ (other_breaks (Upper name) more)
 name_stops (Sign s) more = sign_stops s more
 
--- what stands behind a token that is no opening sign breaks it off
+-- the text after a token that isn't an opening symbol can't continue it
 behind_other : (ks : List TokenKind) → Breaks (text_from Other ks ++ ending)
 behind_other [] = Breaks.newline _
 behind_other (k ∷ ks) = other_breaks k (text_from (before_next k) ks)

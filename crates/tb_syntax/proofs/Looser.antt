@@ -1,4 +1,4 @@
--- What binds looser than where it stands stands in parentheses.
+-- A process that binds looser than its position allows is in parentheses.
 use Rattle.std.proofs.Common.{◌≡◌, ℕ, true, false, List, Some, None, ap, ◌∙◌, sym, refl}
 use Rattle.tb_lex.specs.declared.kind.TokenKind.{TokenKind}
 use Rattle.tb_syntax.specs.declared.level.Level.{Level}
@@ -10,7 +10,7 @@ use Rattle.tb_syntax.specs.Parens.{StandsInParens}
 use Rattle.tb_syntax.specs.Spelling.{SpellsProc}
 use Rattle.tb_syntax.proofs.Balanced.{proc_balanced, in_parens_enclosed}
 
--- what is looser than a level is looser than a tighter one
+-- a construct that is looser than a level is looser than each tighter level
 proc_par : (own : Level) → is_looser own level.Proc ≡ true → is_looser own level.Par ≡ true
 proc_par level.Proc e = refl
 proc_par level.Par e = e

@@ -1,4 +1,4 @@
--- The steps of loops that put things in a row, with commas between them or without.
+-- The steps of loops that add elements, with or without commas between them.
 use Rattle.std.proofs.Common.{◌≡◌, ℕ, zero, suc, ◌+◌, ◌<◌, List, [], ◌∷◌, ◌++◌, map, length, get_or, take, refl, ap, sym, ◌∙◌, arith, append_assoc, add-one}
 use Rattle.std.proofs.Math.Seq.{take-suc}
 use Rattle.std.proofs.lemmas.List.{map-append}
@@ -20,7 +20,7 @@ parted-turn f (x ∷ xs) (suc i) d h =
     ∙ ap (λ ys. parted (f x ∷ ys)) (map-append f (take i xs) (get_or xs i d ∷ []))
     ∙ parted-push (f x) (map f (take i xs)) (f (get_or xs i d))
 
--- the step of a loop that puts things with commas between them
+-- the step of a loop that adds elements with commas between them
 pub parted-more : {A : Type 0} (f : A → List TokenKind) (a b e g : List TokenKind) (xs : List A) (i : ℕ) (x : A) → b ≡ a ++ parted (map f (take i xs)) → e ≡ b ++ comma_before i → g ≡ e ++ f x → i < length xs → x ≡ get_or xs i x → g ≡ a ++ parted (map f (take (i + 1) xs))
 parted-more f a b e g xs i x hb he hg below at =
     let parts = parted (map f (take i xs)) in

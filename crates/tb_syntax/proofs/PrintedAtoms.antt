@@ -1,4 +1,4 @@
--- What is printed for a call, an atom or a variable that is spelt somewhere spells it but for positions, wherever it stands.
+-- If a call, an atom, or a variable has a spelling, its printed tokens spell it at each position, except for token positions.
 use Rattle.std.proofs.Common.{ℕ, ◌+◌, List, length, map, refl}
 use Rattle.std.specs.List.{flat_map}
 use Rattle.tb_lex.specs.declared.kind.TokenKind.{TokenKind}

@@ -1,4 +1,4 @@
--- What is printed for a sort or an expression that is spelt somewhere spells it but for positions, wherever it stands.
+-- If a type or an expression has a spelling, its printed tokens spell it at each position, except for token positions.
 use Rattle.std.proofs.Common.{◌≡◌, ℕ, ◌+◌, Bool, true, false, List, [], ◌∷◌, ◌++◌, length, map, refl, ap, sym, ◌∙◌, subst, codes}
 use Rattle.tb_terms.specs.declared.sort.Sort.{Sort, out-Sort, roll-Sort, roll-out-Sort}
 use Rattle.tb_terms.specs.declared.sort.Sort.TheVariants as sort
@@ -58,7 +58,7 @@ sort_printed (SpellsSort.list_of {s = s} d) to =
     (r.0, subst (SpellsSort to (sort.List s) r.0) (sym (tokens_of_list s)) r.1)
 sort_printed (SpellsSort.tool at name free other) to = (to, subst (SpellsSort to (sort.Tool name) to) (sym (tokens_of_tool name)) (SpellsSort.tool to name free other))
 
--- What is printed for a row of one part at least.
+-- The tokens that are printed for a list of at least one part.
 parts_printed : {at : ℕ} {parts : List Ast} {ks : List TokenKind} → SpellsExprs at parts ks → (first : List TokenKind) → parted (first ∷ map expr_tokens parts) ≡ first ++ Sign Comma ∷ parted (map expr_tokens parts)
 parts_printed (SpellsExprs.last d) first = refl
 parts_printed (SpellsExprs.more d ds) first = refl

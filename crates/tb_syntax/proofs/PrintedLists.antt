@@ -1,4 +1,4 @@
--- What is printed for several things spells them but for positions, where this holds of each.
+-- The printed tokens of a list spell it, except for token positions, if this holds of each element.
 use Rattle.std.proofs.Common.{◌≡◌, ℕ, ◌+◌, List, [], ◌∷◌, ◌++◌, length, map, refl, sym, subst}
 use Rattle.std.specs.List.{flat_map}
 use Rattle.tb_lex.specs.declared.kind.TokenKind.{TokenKind}
@@ -7,7 +7,7 @@ use Rattle.tb_lex.specs.declared.symbol.Symbol.TheVariants.{Comma}
 use Rattle.tb_syntax.specs.Spelling.{in_parens, Parted, InRow, InParens}
 use Rattle.tb_syntax.specs.Helpers.Canonical.{parted, optional}
 
--- wherever something stands, these tokens spell it but for positions
+-- at each position, these tokens spell the construct, except for token positions
 abbrev pub IsPrinted : {A : Type 0} → (A → A) → (ℕ → A → List TokenKind → Type 0) → A → List TokenKind → Type 0
 IsPrinted {A} bare Spells x ks = (to : ℕ) → (y : A) × (bare y ≡ bare x) × Spells to y ks
 

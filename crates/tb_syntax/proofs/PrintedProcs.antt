@@ -1,4 +1,4 @@
--- What is printed for a process that is spelt somewhere spells it but for positions, wherever and at whatever level it stands.
+-- If a process has a spelling, its printed tokens spell it at each position and level, except for token positions.
 use Rattle.std.proofs.Common.{◌≡◌, if◌then◌else◌, ℕ, ◌+◌, Bool, true, false, List, [], ◌∷◌, ◌++◌, length, map, Some, None, refl, ap, sym, ◌∙◌, subst, codes, append_assoc}
 use Rattle.tb_lex.specs.declared.kind.TokenKind.{TokenKind}
 use Rattle.tb_lex.specs.declared.kind.TokenKind.TheVariants.{Lower, Symbol as Sign}
@@ -21,7 +21,7 @@ use Rattle.tb_syntax.proofs.PrintedAtoms.{call_printed, atom_printed, var_printe
 use Rattle.tb_syntax.proofs.PrintedExprs.{ExprPrinted, expr_printed}
 use Rattle.tb_syntax.proofs.PrintedLists.{IsPrinted, parted_printed}
 
--- what stands by itself may stand at every level
+-- a construct of level `Prim` can be at a position of each level
 from_prim : {at : ℕ} {p : Proc} {ks : List TokenKind} (m : Level) → SpellsProc level.Prim at p ks → SpellsProc m at p ks
 from_prim level.Prim d = d
 from_prim level.Star d = SpellsProc.one_prim d
@@ -30,7 +30,7 @@ from_prim level.Alt d = SpellsProc.one_seq (SpellsProc.one_star (SpellsProc.one_
 from_prim level.Par d = SpellsProc.one_alt (SpellsProc.one_seq (SpellsProc.one_star (SpellsProc.one_prim d)))
 from_prim level.Proc d = SpellsProc.one_par (SpellsProc.one_alt (SpellsProc.one_seq (SpellsProc.one_star (SpellsProc.one_prim d))))
 
--- what stands at a level may stand at each that isn't tighter
+-- a construct at a position of a level can be at each level that isn't tighter
 loosened : {at : ℕ} {p : Proc} {ks : List TokenKind} (own m : Level) → is_looser own m ≡ false → SpellsProc own at p ks → SpellsProc m at p ks
 loosened level.Prim m e d = from_prim m d
 loosened level.Star level.Star e d = d
@@ -116,7 +116,7 @@ star_at x y h k to =
     let s = k level.Prim (to + length (proc_tokens x level.Star) + 1) in
     (tree.Star r.0 s.0, bare_of_star r.0 s.0 ∙ (λ i. tree.Star (r.1 i) (s.1 i)) ∙ sym (bare_of_star x y), SpellsProc.turns r.2 s.2)
 
--- what stands by itself, printed at a level
+-- a construct of level `Prim`, printed at a level
 prim_at : (m : Level) (p : Proc) (ks : List TokenKind) → proc_tokens p m ≡ ks → At level.Prim p ks → At m p (proc_tokens p m)
 prim_at m p ks e h to = let r = h to in (r.0, r.1, subst (SpellsProc m to r.0) (sym e) (from_prim m r.2))
 

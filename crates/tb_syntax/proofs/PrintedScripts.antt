@@ -1,4 +1,4 @@
--- What is printed for a script that is spelt spells it but for positions.
+-- If a script has a spelling, its printed tokens spell it, except for token positions.
 use Rattle.std.proofs.Common.{◌≡◌, ℕ, ◌+◌, List, [], ◌∷◌, ◌++◌, length, map, refl, sym, subst, arith, append_assoc}
 use Rattle.std.proofs.lemmas.List.{length-append}
 use Rattle.std.specs.List.{flat_map}

@@ -1,4 +1,4 @@
--- What is printed for each kind of process.
+-- The tokens that are printed for each kind of process.
 use Rattle.std.proofs.Common.{◌≡◌, List, ◌∷◌, ◌++◌, map, Option, Some, None, option_map, ap, ◌∙◌, sym, append_assoc}
 use Rattle.tb_lex.specs.declared.kind.TokenKind.{TokenKind}
 use Rattle.tb_lex.specs.declared.kind.TokenKind.TheVariants.{Symbol as Sign}
@@ -50,7 +50,7 @@ tokens_of_if test x (Some y) at = opened at _ _ (outs-If test x (Some y))
 pub tokens_of_let : (vars : List Var) (x : Proc) (at : Level) → proc_tokens (tree.Let vars x) at ≡ let_tokens (parted (map var_tokens vars)) (proc_tokens x level.Proc)
 tokens_of_let vars x at = opened at _ _ (outs-Let vars x)
 
--- the two halves of a test, one behind the other
+-- the two halves of a test, one after the other
 pub tokens_behind : (a b c : List TokenKind) (test : Ast) (x : Proc) (y : Option Proc) (at : Level) → b ≡ a ++ then_tokens (expr_tokens test) (proc_tokens x level.Proc) → c ≡ b ++ else_tokens (option_map proc_tokens y)
     → c ≡ a ++ proc_tokens (tree.If test x y) at
 tokens_behind a b c test x y at e f =

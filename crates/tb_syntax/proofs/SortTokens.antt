@@ -1,4 +1,4 @@
--- What is printed for each kind of sort.
+-- The tokens that are printed for each kind of type.
 use Rattle.std.proofs.Common.{◌≡◌, ℕ, List, sym, ap, ◌∙◌, codes}
 use Rattle.tb_terms.specs.declared.sort.Sort.{Sort, out-Sort}
 use Rattle.tb_terms.specs.declared.sort.Sort.TheVariants as sort

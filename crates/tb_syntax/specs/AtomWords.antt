@@ -1,4 +1,4 @@
--- The words of atoms and of times, one case each: their texts, and how many arguments an atom takes.
+-- The words of atoms and of time conditions, one case each: their texts, and how many arguments an atom takes.
 use Rattle.std.specs.Prelude.{ℕ, Bool, true, false, List, [], ◌∷◌, Option, is_some, codes}
 use Rattle.std.specs.List.{find}
 use Rattle.std.specs.Str.{bytes_eq}
@@ -7,7 +7,7 @@ use Rattle.tb_syntax.specs.declared.atom_words.AtomWord.TheVariants as atom
 use Rattle.tb_syntax.specs.declared.atom_words.TimeWord.{TimeWord}
 use Rattle.tb_syntax.specs.declared.atom_words.TimeWord.TheVariants as time
 
--- the atoms that are written as a word with arguments, `create` apart
+-- the atoms that are written as a word with arguments; `create` isn't among them, because it takes a call
 abbrev pub atom_text : AtomWord → List ℕ
 atom_text atom.Delta = codes "delta"
 atom_text atom.Tau = codes "tau"
@@ -30,7 +30,7 @@ atom_text atom.SndAckEvent = codes "snd-ack-event"
 atom_text atom.SndTerminate = codes "snd-terminate"
 atom_text atom.Shutdown = codes "shutdown"
 
--- each of them once
+-- each atom word once
 abbrev pub atom_words : List AtomWord
 atom_words =
     atom.Delta ∷ atom.Tau ∷ atom.Printf ∷ atom.SndMsg ∷ atom.RecMsg ∷ atom.SndNote
@@ -38,14 +38,14 @@ atom_words =
     ∷ atom.RecDisconnect ∷ atom.SndEval ∷ atom.RecValue ∷ atom.SndDo ∷ atom.RecEvent ∷ atom.SndAckEvent
     ∷ atom.SndTerminate ∷ atom.Shutdown ∷ []
 
--- the word that a name is
+-- the atom word with this text
 abbrev pub atom_word : List ℕ → Option AtomWord
 atom_word name = find (λ word. bytes_eq name (atom_text word)) atom_words
 
 abbrev pub is_atom_word : List ℕ → Bool
 is_atom_word name = is_some (atom_word name)
 
--- the fewest arguments of the atom
+-- the least number of arguments of the atom
 abbrev pub fewest : AtomWord → ℕ
 fewest atom.Delta = 0
 fewest atom.Tau = 0
@@ -68,7 +68,7 @@ fewest atom.SndAckEvent = 2
 fewest atom.SndTerminate = 2
 fewest atom.Shutdown = 1
 
--- whether the atom may have more
+-- whether the atom can have more arguments than the fewest
 abbrev pub takes_more : AtomWord → Bool
 takes_more atom.Delta = false
 takes_more atom.Tau = false
@@ -97,11 +97,11 @@ time_text time.Timeout = codes "timeout"
 time_text time.AbsDelay = codes "abs-delay"
 time_text time.AbsTimeout = codes "abs-timeout"
 
--- each of them once
+-- each time word once
 abbrev pub time_words : List TimeWord
 time_words = time.Delay ∷ time.Timeout ∷ time.AbsDelay ∷ time.AbsTimeout ∷ []
 
--- the time that a name is
+-- the time word with this text
 abbrev pub time_word : List ℕ → Option TimeWord
 time_word name = find (λ word. bytes_eq name (time_text word)) time_words
 

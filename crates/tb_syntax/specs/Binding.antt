@@ -1,11 +1,11 @@
--- How tightly each construct is bound by itself, and which is too loose for where it stands.
+-- How tightly each construct binds, and whether it is too loose for its place.
 use Rattle.std.specs.Prelude.{ℕ, Bool, nat_lt}
 use Rattle.tb_syntax.specs.declared.level.Level.{Level}
 use Rattle.tb_syntax.specs.declared.level.Level.TheVariants as level
 use Rattle.tb_syntax.specs.declared.proc.Proc.{Proc, out-Proc}
 use Rattle.tb_syntax.specs.declared.proc.Proc.TheOpen as tree
 
--- from the loosest level to the tightest
+-- the levels, from the loosest to the tightest
 abbrev pub rank : Level → ℕ
 rank level.Proc = 0
 rank level.Par = 1

@@ -1,4 +1,4 @@
--- Definitions that proofs and private functions need, and that nobody has to believe.
+-- Definitions for proofs and private functions. A reader of the contracts of public calls needn't trust them.
 pub mod Canonical
 pub mod ProperKinds
 pub mod TokenText

@@ -1,4 +1,4 @@
--- How high a process body is, how many brackets tokens leave open, and what first passes each limit.
+-- The height of a process body, the number of open brackets, and the first definition or token beyond each limit.
 use Rattle.std.specs.Prelude.{ℕ, ◌+◌, ◌-◌, ◌<◌, ◌≤◌, Bool, true, false, nat_lt, List, [], ◌∷◌, length, take, fold, max, find, option_map, unwrap_or, Option, codes, if◌then◌else◌}
 use Rattle.tb_lex.specs.declared.kind.TokenKind.{TokenKind}
 use Rattle.tb_lex.specs.declared.kind.TokenKind.TheVariants.{Int, Str, Lower, Upper, Symbol as Sign}
@@ -10,7 +10,7 @@ use Rattle.tb_syntax.specs.declared.proc.Proc.TheFolds.{fold-Proc}
 use Rattle.tb_syntax.specs.declared.script.ProcDef.{ProcDef}
 use Rattle.tb_syntax.specs.Words.{is_among}
 
--- an atom or a call has height 1, every other construct 1 more than its greatest part
+-- an atom or a call has height 1; each other construct is 1 higher than its highest part
 abbrev pub height_step : Proc-F ℕ → ℕ
 height_step (Atom atom) = 1
 height_step (Call call) = 1
@@ -25,7 +25,7 @@ height_step (Let vars x) = 1 + x
 abbrev pub height : Proc → ℕ
 height = fold-Proc ℕ height_step
 
--- how high the body of a process may be
+-- the greatest height of a process body
 abbrev pub most_height : ℕ
 most_height = 400
 
@@ -36,7 +36,7 @@ is_too_high definition = nat_lt most_height (height definition.body)
 abbrev pub first_too_high : List ProcDef → Option ℕ
 first_too_high definitions = option_map (λ (definition : ProcDef). definition.token) (find is_too_high definitions)
 
--- one token opens, closes, or does neither
+-- `(`, `[`, `let`, and `if` open a bracket; `)`, `]`, `endlet`, and `fi` close one
 abbrev pub opens : TokenKind → Bool
 opens (Int number) = false
 opens (Str text) = false
@@ -59,18 +59,18 @@ closes (Sign symbol) = is_closing symbol where
   is_closing sign.RightBracket = true
   is_closing _ = false
 
--- how many are open behind a token; one that closes where none is open changes nothing
+-- the number of open brackets after a token; a closing token changes nothing if none is open
 abbrev pub open_step : ℕ → TokenKind → ℕ
 open_step count kind = if opens kind then count + 1 else (if closes kind then count - 1 else count)
 
 abbrev pub open_brackets : List TokenKind → ℕ
 open_brackets kinds = fold open_step 0 kinds
 
--- how many brackets may be open
+-- the greatest number of open brackets
 abbrev pub most_open : ℕ
 most_open = 128
 
--- the first token behind which more are open
+-- the position of the first token after which more brackets are open than the limit
 pub record IsTooDeep (kinds : List TokenKind) (position : ℕ) : Type 0 where
   pub is_position : position < length kinds
   pub is_over : most_open < open_brackets (take (position + 1) kinds)

@@ -1,4 +1,4 @@
--- A script without the positions of its tokens: two scripts are the same but for these where they are equal without them.
+-- A script whose token positions are all 0. Two scripts are equal except for positions if these versions of them are equal.
 use Rattle.std.specs.Prelude.{map}
 use Rattle.tb_syntax.specs.declared.ast.Ast.{Ast}
 use Rattle.tb_syntax.specs.declared.ast.AstKind.{AstKind}
@@ -20,6 +20,7 @@ use Rattle.tb_syntax.specs.declared.script.ProcDef.{ProcDef}
 use Rattle.tb_syntax.specs.declared.script.Script.{Script}
 use Rattle.tb_syntax.specs.declared.script.ToolDef.{ToolDef}
 
+-- each bare definition keeps all parts and sets the positions to 0
 abbrev pub bare_kind_step : open_ast.AstKind-F AstKind Ast → AstKind
 bare_kind_step (open_ast.Int number) = ast.Int number
 bare_kind_step (open_ast.Str text) = ast.Str text

@@ -1,4 +1,4 @@
--- What a printed script is: a text whose tokens spell the script but for positions.
+-- The printed text of a script: its tokens spell the script, except for token positions.
 use Rattle.std.specs.Prelude.{◌≡◌, ℕ, List}
 use Rattle.tb_lex.specs.Tokens.{Lexes}
 use Rattle.tb_lex.specs.declared.kind.TokenKind.{TokenKind}
@@ -7,11 +7,11 @@ use Rattle.tb_syntax.specs.declared.script.Script.{Script}
 use Rattle.tb_syntax.specs.Spelling.{Spells, kinds_of}
 use Rattle.tb_syntax.specs.Positions.{without_positions}
 
--- some tokens spell it
+-- some tokens spell the script
 abbrev pub IsSpelt : Script → Type 0
 IsSpelt script = (kinds : List TokenKind) × Spells script kinds
 
--- these tokens spell it but for positions
+-- the tokens spell the script, except for token positions
 pub record SpellsButPositions (script : Script) (kinds : List TokenKind) : Type 0 where
   pub other : Script
   pub is_same : without_positions other ≡ without_positions script

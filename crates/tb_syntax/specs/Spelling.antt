@@ -1,4 +1,5 @@
--- Which lists of tokens spell a script: the grammar, one case a line. A construct stands at a position, that of its first token, counted from 0 in the script's tokens.
+-- The token sequences that spell a script: the grammar, one case a line. The position of a construct is that of its first token,
+-- counted from 0 in the script's tokens.
 use Rattle.std.specs.Prelude.{◌≡◌, ℕ, ◌+◌, ℤ, Bool, true, false, List, [], ◌∷◌, ◌++◌, length, map, Option, Some, None, codes}
 use Rattle.tb_terms.specs.declared.sort.Sort.{Sort}
 use Rattle.tb_terms.specs.declared.sort.Sort.TheVariants as sort
@@ -32,24 +33,24 @@ in_parens ks = Sign LeftParen ∷ (ks ++ Sign RightParen ∷ [])
 abbrev pub word : List ℕ → List TokenKind
 word name = Lower name ∷ []
 
--- one thing or more, with a comma between each two
+-- one element or more, with a comma between each two
 pub data Parted {A : Type 0} (Spells : ℕ → A → List TokenKind → Type 0) : ℕ → List A → List TokenKind → Type 0 where
   last : {at : ℕ} {x : A} {ks : List TokenKind} → Spells at x ks → Parted Spells at (x ∷ []) ks
   more : {at : ℕ} {x : A} {ks : List TokenKind} {xs : List A} {rest : List TokenKind} → Spells at x ks → Parted Spells (at + length ks + 1) xs rest
       → Parted Spells at (x ∷ xs) (ks ++ Sign Comma ∷ rest)
 
--- any number of things, one behind the other
+-- any number of elements, one after the other
 pub data InRow {A : Type 0} (Spells : ℕ → A → List TokenKind → Type 0) : ℕ → List A → List TokenKind → Type 0 where
   none : (at : ℕ) → InRow Spells at [] []
   more : {at : ℕ} {x : A} {ks : List TokenKind} {xs : List A} {rest : List TokenKind} → Spells at x ks → InRow Spells (at + length ks) xs rest
       → InRow Spells at (x ∷ xs) (ks ++ rest)
 
--- things in parentheses, which are left out where there are none
+-- elements in parentheses, or no tokens if there are no elements
 pub data InParens {A : Type 0} (Spells : ℕ → A → List TokenKind → Type 0) : ℕ → List A → List TokenKind → Type 0 where
   none : (at : ℕ) → InParens Spells at [] []
   some : {at : ℕ} {xs : List A} {ks : List TokenKind} → Parted Spells (at + 1) xs ks → InParens Spells at xs (in_parens ks)
 
--- the sorts that have a word
+-- the types that have a word
 pub data IsSortWord : Sort → List ℕ → Type 0 where
   bool : IsSortWord sort.Bool (codes "bool")
   int : IsSortWord sort.Int (codes "int")
@@ -57,7 +58,7 @@ pub data IsSortWord : Sort → List ℕ → Type 0 where
   list : IsSortWord (sort.List sort.Any) (codes "list")
   term : IsSortWord sort.Any (codes "term")
 
--- sort = lower [ "(" sort ")" ], the parentheses behind `list` alone, and the position of the innermost name
+-- sort = lower [ "(" sort ")" ]. Only `list` can have the parentheses. The second position is that of the innermost name.
 pub data SpellsSort : ℕ → Sort → ℕ → List TokenKind → Type 0 where
   plain : {s : Sort} {name : List ℕ} (at : ℕ) → IsSortWord s name → SpellsSort at s at (word name)
   list_of : {at : ℕ} {s : Sort} {inner : ℕ} {ks : List TokenKind} → SpellsSort (at + 2) s inner ks
@@ -132,7 +133,7 @@ pub record SpellsVar (at : ℕ) (var : Var) (ks : List TokenKind) : Type 0 where
   pub is_sort : SpellsSort (at + 2) var.sort var.sort_token sort
   pub is : ks ≡ Upper var.name ∷ Sign Colon ∷ sort
 
--- a process where it is bound as tightly as the level says
+-- a process at a place of this level: without parentheses, it has only operators of this level or tighter ones
 pub data SpellsProc : Level → ℕ → Proc → List TokenKind → Type 0 where
   -- proc = par [ ">>" proc ]
   one_par : {at : ℕ} {x : Proc} {xs : List TokenKind} → SpellsProc level.Par at x xs → SpellsProc level.Proc at x xs
@@ -173,7 +174,7 @@ pub data SpellsProc : Level → ℕ → Proc → List TokenKind → Type 0 where
       → SpellsProc level.Proc (at + length es + 2) x xs → SpellsProc level.Proc (at + length es + length xs + 3) y ys
       → SpellsProc level.Prim at (tree.If e x (Some y)) (Lower (codes "if") ∷ (es ++ Lower (codes "then") ∷ (xs ++ Lower (codes "else") ∷ (ys ++ Lower (codes "fi") ∷ []))))
 
--- what marks a result formal
+-- the mark of a result parameter
 abbrev pub mark : Bool → List TokenKind
 mark true = Sign Question ∷ []
 mark false = []
@@ -194,7 +195,7 @@ pub record SpellsProcDef (at : ℕ) (definition : ProcDef) (ks : List TokenKind)
   pub is_body : SpellsProc level.Proc (at + length formals + 3) definition.body body
   pub is : ks ≡ Lower (codes "process") ∷ Upper definition.name ∷ (formals ++ Lower (codes "is") ∷ body)
 
--- what stands in the braces of a tool
+-- the tokens in the braces of a tool
 abbrev pub command_tokens : Option (List ℕ) → List TokenKind
 command_tokens None = []
 command_tokens (Some command) = Lower (codes "command") ∷ Sign Equals ∷ Str command ∷ []
@@ -226,6 +227,6 @@ pub record Spells (script : Script) (ks : List TokenKind) : Type 0 where
   pub are_roots : SpellsRoots (length definitions + 2) script.roots roots
   pub is : ks ≡ definitions ++ Lower (codes "toolbus") ∷ in_parens roots
 
--- what the tokens are, without their positions in the text
+-- the kinds of the tokens, without their positions in the source
 abbrev pub kinds_of : List Token → List TokenKind
 kinds_of tokens = map (λ (token : Token). token.kind) tokens

@@ -6,25 +6,31 @@ use tb_terms::{Ident, Items, Name, Sort, Text};
 #[derive(Drop)]
 #[cycle(ast)]
 pub struct Ast {
+    /// What the expression is.
     pub kind: AstKind,
+    /// The position of its first token.
     pub token: usize,
 }
 
-/// What an expression is.
+/// The kind of an expression, with its parts.
 #[derive(Drop)]
 #[cycle(ast)]
 pub enum AstKind {
+    /// A whole number.
     Int(i64),
+    /// A string.
     Str(Text),
-    /// A name with its arguments, or with none.
+    /// A name with its arguments, of which there can be none.
     Appl(Name, Asts),
+    /// A variable.
     Var(Ident),
-    /// A variable that takes what stands in its place.
+    /// A result variable, which is written with a `?`: it takes the value at its place.
     Result(Ident),
-    /// Any term of this sort.
+    /// A placeholder for any term of this type.
     Hole(Sort),
+    /// A list of expressions.
     List(Asts),
 }
 
-/// Expressions in a row.
+/// Expressions in order.
 pub type Asts = Items<Ast>;

@@ -1,36 +1,56 @@
-//! The words of atoms and of times: their texts, and how many arguments an atom takes.
+//! The words of atoms and of time conditions: their texts, and how many arguments an atom takes.
 
 ghost use Rattle.std.specs.Prelude.{◌≡◌};
 ghost use Rattle.std.specs.List.{find};
 ghost use Rattle.std.specs.Str.{bytes_eq};
 ghost use Rattle.tb_syntax.specs.AtomWords.{atom_text, atom_words, atom_word, is_atom_word, fewest, takes_more, time_text, time_words, time_word, is_time_word};
 
-/// The word of an atom that is written as a word with arguments. `create` isn't here: it takes a call.
+/// The word of an atom that is written as a word with arguments. `create` isn't among them: it takes a call.
 #[derive(Clone, Copy, Debug, PartialEq, Eq)]
 pub enum AtomWord {
+    /// `delta`
     Delta,
+    /// `tau`
     Tau,
+    /// `printf`
     Printf,
+    /// `snd-msg`
     SndMsg,
+    /// `rec-msg`
     RecMsg,
+    /// `snd-note`
     SndNote,
+    /// `rec-note`
     RecNote,
+    /// `no-note`
     NoNote,
+    /// `subscribe`
     Subscribe,
+    /// `unsubscribe`
     Unsubscribe,
+    /// `execute`
     Execute,
+    /// `rec-connect`
     RecConnect,
+    /// `rec-disconnect`
     RecDisconnect,
+    /// `snd-eval`
     SndEval,
+    /// `rec-value`
     RecValue,
+    /// `snd-do`
     SndDo,
+    /// `rec-event`
     RecEvent,
+    /// `snd-ack-event`
     SndAckEvent,
+    /// `snd-terminate`
     SndTerminate,
+    /// `shutdown`
     Shutdown,
 }
 
-/// Each word of an atom once.
+/// All atom words, each once.
 static ATOM_WORDS: [AtomWord; 20] = [
     AtomWord::Delta,
     AtomWord::Tau,
@@ -54,14 +74,14 @@ static ATOM_WORDS: [AtomWord; 20] = [
     AtomWord::Shutdown,
 ];
 
-/// The word of an atom that this name is, if any.
+/// Returns the atom word with this text, if there is one.
 pub fn atom_word(name: &[u8]) -> Option<AtomWord>
     ensures { result ≡ atom_word name.now }
 {
     find_atom(&ATOM_WORDS, name)
 }
 
-/// Whether a name is the word of an atom.
+/// Returns whether a name is an atom word.
 pub fn is_atom_word(name: &[u8]) -> bool
     ensures { result ≡ is_atom_word name.now }
 {
@@ -80,7 +100,7 @@ fn find_atom(words: &[AtomWord], name: &[u8]) -> Option<AtomWord>
 }
 
 impl AtomWord {
-    /// The text of the word.
+    /// Returns the text of the word.
     pub fn text(self) -> &'static str
         ensures { result.now ≡ atom_text self }
     {
@@ -108,7 +128,7 @@ impl AtomWord {
         }
     }
 
-    /// The fewest arguments that the atom takes.
+    /// Returns the least number of arguments that the atom takes.
     pub fn fewest(self) -> usize
         ensures { result ≡ fewest self }
     {
@@ -135,7 +155,7 @@ impl AtomWord {
         }
     }
 
-    /// Whether the atom takes more arguments than the fewest.
+    /// Returns whether the atom can take more arguments than `fewest`.
     pub fn takes_more(self) -> bool
         ensures { result ≡ takes_more self }
     {
@@ -164,16 +184,20 @@ impl AtomWord {
     }
 }
 
-/// The word of a time of an atom.
+/// The word of a time condition of an atom.
 #[derive(Clone, Copy, Debug, PartialEq, Eq)]
 pub enum TimeWord {
+    /// `delay`
     Delay,
+    /// `timeout`
     Timeout,
+    /// `abs-delay`
     AbsDelay,
+    /// `abs-timeout`
     AbsTimeout,
 }
 
-/// Each word of a time once.
+/// All words of time conditions, each once.
 static TIME_WORDS: [TimeWord; 4] = [
     TimeWord::Delay,
     TimeWord::Timeout,
@@ -181,14 +205,14 @@ static TIME_WORDS: [TimeWord; 4] = [
     TimeWord::AbsTimeout,
 ];
 
-/// The word of a time that this name is, if any.
+/// Returns the word of a time condition with this text, if there is one.
 pub fn time_word(name: &[u8]) -> Option<TimeWord>
     ensures { result ≡ time_word name.now }
 {
     find_time(&TIME_WORDS, name)
 }
 
-/// Whether a name is the word of a time.
+/// Returns whether a name is the word of a time condition.
 pub fn is_time_word(name: &[u8]) -> bool
     ensures { result ≡ is_time_word name.now }
 {
@@ -207,7 +231,7 @@ fn find_time(words: &[TimeWord], name: &[u8]) -> Option<TimeWord>
 }
 
 impl TimeWord {
-    /// The text of the word.
+    /// Returns the text of the word.
     pub fn text(self) -> &'static str
         ensures { result.now ≡ time_text self }
     {

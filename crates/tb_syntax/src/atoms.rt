@@ -1,4 +1,4 @@
-//! The tokens of atoms with their times, of calls and of variables.
+//! The tokens of atoms with their time conditions, of calls, and of variables.
 
 ghost use Rattle.std.specs.Prelude.{◌≡◌, ◌++◌, ◌∷◌, OnOk, map};
 ghost use Rattle.std.specs.List.{flat_map};
@@ -24,7 +24,7 @@ pub(crate) fn push_call<'a>(
     Ok(())
 }
 
-/// An atom with its times.
+/// Adds the tokens of an atom and of its time conditions.
 pub(crate) fn push_atom<'a>(
     alloc: Global,
     atom: &'a AtomDef,
@@ -118,7 +118,7 @@ fn push_time<'a>(
     Ok(())
 }
 
-/// Variables with their sorts, with commas between them.
+/// Adds variables with their types, with a comma between each two.
 pub(crate) fn push_vars<'a>(
     vars: &'a [Var],
     into: &mut Items<TokenKind<'a>>,

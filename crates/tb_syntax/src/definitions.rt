@@ -14,7 +14,7 @@ use std::alloc::Global;
 use tb_lex::{Symbol, TokenKind};
 use tb_terms::{Items, NoMemory, Text};
 
-/// The tokens that are printed for a script: its tools, its processes and its roots.
+/// Returns the tokens that are printed for a script: its tools, its processes, and its roots, in this order.
 pub(crate) fn tokens_of(alloc: Global, script: &Script) -> Result<Items<TokenKind<'_>>, NoMemory>
     ensures { IfOk result (λ tokens. tokens ≡ script_tokens script.now) }
 {
@@ -100,7 +100,7 @@ fn push_process<'a>(
     Ok(())
 }
 
-/// Formals in parentheses, or nothing where there are none.
+/// Adds parameters in parentheses, or nothing if there are none.
 fn push_formals<'a>(formals: &'a [Formal], into: &mut Items<TokenKind<'a>>) -> Result<(), NoMemory>
     ensures { OnOk result (into.new ≡ into.old ++ optional (map formal_tokens formals.now)) }
 {
@@ -136,7 +136,7 @@ fn push_formal<'a>(formal: &'a Formal, into: &mut Items<TokenKind<'a>>) -> Resul
     Ok(())
 }
 
-/// What marks a result formal.
+/// Adds the `?` that marks a result parameter.
 fn push_mark(is_result: bool, into: &mut Items<TokenKind>) -> Result<(), NoMemory>
     ensures { OnOk result (into.new ≡ into.old ++ mark is_result) }
 {

@@ -97,7 +97,7 @@ fn push_hole<'a>(sort: &'a Sort, into: &mut Items<TokenKind<'a>>) -> Result<(), 
     Ok(())
 }
 
-/// Arguments in parentheses, or nothing where there are none.
+/// Adds arguments in parentheses, or nothing if there are none.
 #[cycle(exprs)]
 pub(crate) fn push_arguments<'a>(
     alloc: Global,

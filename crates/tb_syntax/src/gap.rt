@@ -1,4 +1,4 @@
-//! What stands between two tokens of a printed script.
+//! The space between two tokens of a printed script.
 
 ghost use Rattle.std.specs.Prelude.{◌≡◌};
 ghost use Rattle.tb_syntax.specs.Helpers.TokenText.{gap, before_next, symbol_before, space, is_closing, is_joining, space_after_name};
@@ -6,18 +6,20 @@ ghost use Rattle.tb_syntax.specs.Helpers.TokenText.{gap, before_next, symbol_bef
 use crate::words::{begins_line, is_leading};
 use tb_lex::{Symbol, TokenKind};
 
-/// What stands in front of a token, as far as the space between the two goes.
+/// The token before another one, as far as it determines the space between the two.
 #[derive(Clone, Copy, PartialEq, Eq)]
 pub(crate) enum Before {
+    /// No token: the text begins here.
     Nothing,
-    /// An opening sign.
+    /// `(`, `[`, or `<`.
     Opening,
-    /// A name, or a word that no process follows.
+    /// A name, or a word other than `is`, `in`, `then`, and `else`, which a process can follow.
     Name,
+    /// Every other token.
     Other,
 }
 
-/// The space between two tokens.
+/// Returns the space before a token: nothing, a space, or a newline.
 pub(crate) fn gap(before: Before, kind: &TokenKind) -> &'static [u8]
     ensures { result.now ≡ gap before kind.now }
 {
@@ -63,7 +65,7 @@ fn is_closing(symbol: Symbol) -> bool
     )
 }
 
-/// What a token is to the one behind it.
+/// Returns what a token is to the token after it.
 pub(crate) fn before_next(kind: &TokenKind) -> Before
     ensures { result ≡ before_next kind.now }
 {

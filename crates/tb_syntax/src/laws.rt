@@ -1,4 +1,4 @@
-//! What holds of every spelling. These calls change nothing: their contracts are the laws.
+//! Theorems about all spellings. These calls change nothing: their contracts are the theorems.
 
 ghost use Rattle.std.specs.Prelude.{◌≡◌, ℕ, List, Some, true};
 ghost use Rattle.tb_lex.specs.declared.kind.TokenKind.{TokenKind};
@@ -12,15 +12,15 @@ ghost use Rattle.tb_syntax.specs.Binding.{is_looser, own_level};
 ghost use Rattle.tb_syntax.specs.Parens.{IsBalanced, StandsInParens};
 ghost use Rattle.tb_syntax.specs.Spelling.{SpellsProc, Spells};
 
-/// What binds looser than where it stands, as a choice within a sequence, stands in parentheses: the one that
-/// opens at its first token closes at its last, and not before.
+/// States that a process that binds looser than its place allows, as a choice within a sequence, is in parentheses. The
+/// parenthesis at its first token closes at its last token, and not before.
 pub fn looser_stands_in_parens()
     ensures { (at : Level) (position : ℕ) (p : Proc) (kinds : List TokenKind)
         → SpellsProc at position p kinds
         → is_looser (own_level p) at ≡ true → StandsInParens position p kinds }
 {}
 
-/// The parentheses of a process, wherever it stands, close as they open; so do those of a script.
+/// States that the parentheses of a process are balanced at each level, and also those of a script.
 pub fn parens_are_balanced()
     ensures proc { (at : Level) (position : ℕ) (p : Proc) (kinds : List TokenKind)
         → SpellsProc at position p kinds → IsBalanced kinds }
@@ -28,8 +28,8 @@ pub fn parens_are_balanced()
         → Spells script kinds → IsBalanced kinds }
 {}
 
-/// The text of each atom and of each time is read as this atom and this time. So no word is left out, and no
-/// two words have one text.
+/// States that the text of each atom word and of each time word is read as this word. So no word is left out, and no two words have
+/// the same text.
 pub fn each_word_is_read()
     ensures atom { (word : AtomWord) → atom_word (atom_text word) ≡ Some word }
     ensures time { (word : TimeWord) → time_word (time_text word) ≡ Some word }

@@ -1,18 +1,18 @@
 //! How tightly the operators bind.
 
-/// How tightly a process is bound where it stands, from the loosest to the tightest.
+/// The level of a place: the operators that a process there can have without parentheses. From the loosest to the tightest.
 #[derive(Clone, Copy, Debug, PartialEq, Eq)]
 pub enum Level {
-    /// A whole process: what stands in parentheses, or on the right of `>>`.
+    /// A whole process: a body, a process in parentheses, or the right side of `>>`.
     Proc,
-    /// On the left of `>>`, or on the right of `||`.
+    /// The left side of `>>`, or the right side of `||`.
     Par,
-    /// On the left of `||`, or on the right of `+`.
+    /// The left side of `||`, or the right side of `+`.
     Alt,
-    /// On the left of `+`, or on the right of `.`.
+    /// The left side of `+`, or the right side of `.`.
     Seq,
-    /// On the left of `.` or of `*`.
+    /// The left side of `.` or of `*`.
     Star,
-    /// On the right of `*`: what stands by itself.
+    /// The right side of `*`: no operator without parentheses.
     Prim,
 }

@@ -1,4 +1,4 @@
-//! Scripts as trees, which token lists spell them, and their printed text.
+//! Scripts as trees, the token sequences that spell them, and their printed text.
 #![tactic(auto)]
 
 mod ast;

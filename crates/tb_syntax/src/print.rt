@@ -1,4 +1,4 @@
-//! The text that is printed for a script.
+//! The printed text of a script.
 
 ghost use Rattle.std.specs.Prelude.{IfOk};
 ghost use Rattle.tb_syntax.specs.Printing.{IsSpelt, IsPrintOf};
@@ -10,8 +10,8 @@ use crate::text::text_of;
 use std::alloc::Global;
 use tb_terms::NoMemory;
 
-/// The text that is printed for a script which some tokens spell. It has tokens, and these spell a script
-/// that is equal but for the positions of its tokens.
+/// Returns the printed text of a script that has a spelling. The tokens of the text spell a script that is equal except for the
+/// positions of its tokens. Fails only if memory runs out.
 pub fn print_script(alloc: Global, script: &Script) -> Result<Vec<u8>, NoMemory>
     requires { IsSpelt script.now }
     ensures { IfOk result (λ text. IsPrintOf script.now text.items) }

@@ -14,7 +14,7 @@ use std::alloc::Global;
 use tb_lex::{Symbol, TokenKind};
 use tb_terms::{Boxed, Items, NoMemory};
 
-/// An operator, how tightly it binds, and how tightly what stands on its two sides is bound.
+/// An operator with its own level and the levels of its two sides.
 #[derive(Clone, Copy)]
 struct Infix {
     symbol: Symbol,
@@ -58,7 +58,7 @@ const DISRUPT: Infix = Infix {
     right: Level::Proc,
 };
 
-/// The tokens of a process where it is bound as tightly as the level says.
+/// Adds the tokens of a process at a place of this level.
 #[cycle(procs)]
 pub(crate) fn push_proc<'a>(
     alloc: Global,
@@ -109,7 +109,7 @@ pub(crate) fn push_proc<'a>(
     }
 }
 
-/// Two processes with an operator between them, in parentheses where the position wants them.
+/// Adds two processes with an operator between them, in parentheses if the operator is looser than the position.
 #[cycle(procs)]
 fn push_placed<'a>(
     alloc: Global,
@@ -168,7 +168,7 @@ fn rank(level: Level) -> u8
     }
 }
 
-/// The test and the process for where it holds.
+/// Adds `if`, the test, `then`, and the process for a true test.
 #[cycle(procs)]
 fn push_then<'a>(
     alloc: Global,
@@ -186,7 +186,7 @@ fn push_then<'a>(
     Ok(())
 }
 
-/// The process for where the test doesn't hold, if there is one, and the end.
+/// Adds `else` and the process for a false test, if there is one, and then `fi`.
 #[cycle(procs)]
 fn push_else<'a>(
     alloc: Global,

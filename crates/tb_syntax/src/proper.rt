@@ -1,4 +1,4 @@
-//! What proofs may use of tokens whose parts they don't see. The calls change nothing.
+//! Functions that show proofs the invariants of a token's parts. The calls change nothing.
 
 ghost use Rattle.std.specs.Prelude.{IsTrue};
 ghost use Rattle.std.specs.List.{list_all};
@@ -9,7 +9,7 @@ ghost use Rattle.tb_syntax.specs.Helpers.ProperKinds.{is_proper_kind};
 use tb_lex::TokenKind;
 use tb_terms::Text;
 
-/// All tokens are proper.
+/// Shows that each token is well-formed: its number, string, or name meets the invariant of its type.
 pub(crate) fn show_proper(kinds: &[TokenKind])
     ensures { IsTrue (list_all is_proper_kind kinds.now) }
 {

@@ -1,4 +1,4 @@
-//! Tokens of one kind, each added to a list.
+//! Functions that add one token to a list.
 
 ghost use Rattle.std.specs.Prelude.{◌≡◌, ◌++◌, ◌∷◌, [], IsTrue, OnOk};
 ghost use Rattle.tb_terms.specs.Names.{is_name};
@@ -40,7 +40,7 @@ pub(crate) fn push_ident<'a>(
     Ok(())
 }
 
-/// The comma before what stands at this position of a list.
+/// Adds the comma before the element at this position of a list. The first element has none.
 pub(crate) fn push_comma(position: usize, into: &mut Items<TokenKind>) -> Result<(), NoMemory>
     ensures { OnOk result (into.new ≡ into.old ++ comma_before position) }
 {

@@ -3,49 +3,62 @@
 use crate::{Calls, Proc};
 use tb_terms::{Ident, Items, Name, Sort, Text};
 
-/// A formal of a process.
+/// A parameter of a process.
 #[derive(Drop)]
 pub struct Formal {
+    /// The name of the parameter.
     pub name: Ident,
+    /// The type of the parameter.
     pub sort: Sort,
-    /// Whether it is a result formal, which is written with a `?`.
+    /// Whether it is a result parameter, which is written with a `?`.
     pub result: bool,
+    /// The position of the name.
     pub token: usize,
-    /// The token of the sort's innermost name.
+    /// The position of the innermost name of the type.
     pub sort_token: usize,
 }
 
-/// Formals in a row.
+/// Parameters in order.
 pub type Formals = Items<Formal>;
 
 /// The definition of a process.
 #[derive(Drop)]
 pub struct ProcDef {
+    /// The name of the process.
     pub name: Ident,
+    /// The parameters, in order.
     pub formals: Formals,
+    /// The process that a call runs.
     pub body: Proc,
+    /// The position of the word `process`.
     pub token: usize,
 }
 
-/// Definitions of processes in their order.
+/// Definitions of processes, in the order of the script.
 pub type ProcDefs = Items<ProcDef>;
 
 /// The declaration of a tool.
 #[derive(Drop)]
 pub struct ToolDef {
+    /// The name of the tool.
     pub name: Name,
+    /// The command that starts the tool, if it is given.
     pub command: Option<Text>,
+    /// The position of the word `tool`.
     pub token: usize,
 }
 
-/// Declarations of tools in their order.
+/// Declarations of tools, in the order of the script.
 pub type ToolDefs = Items<ToolDef>;
 
-/// A script: what it defines, and the processes with which it starts. Each `token` is the position of
-/// the construct's first token in the script's tokens, counted from 0.
+/// A script: its definitions, and the processes with which it starts. Each `token` is the position of the construct's first token
+/// in the script's tokens, counted from 0.
 #[derive(Drop)]
 pub struct Script {
+    /// The definitions of processes.
     pub procs: ProcDefs,
+    /// The declarations of tools.
     pub tools: ToolDefs,
+    /// The calls of the processes with which the script starts.
     pub roots: Calls,
 }

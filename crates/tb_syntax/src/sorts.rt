@@ -1,4 +1,4 @@
-//! The tokens of sorts.
+//! The tokens of types.
 
 ghost use Rattle.std.specs.Prelude.{◌≡◌, ◌++◌, ◌∷◌, [], IsTrue, OnOk, codes, if◌then◌else◌};
 ghost use Rattle.tb_terms.specs.declared.sort.Sort.{out-Sort};
@@ -43,7 +43,7 @@ pub(crate) fn push_sort<'a>(sort: &'a Sort, into: &mut Items<TokenKind<'a>>) -> 
     }
 }
 
-/// Lists of any terms are `list` alone.
+/// Adds the tokens of a list type. The type of lists of any terms is `list` alone.
 #[cycle(sorts)]
 fn push_list<'a>(members: &'a Sort, into: &mut Items<TokenKind<'a>>) -> Result<(), NoMemory>
     ensures { OnOk result (into.new
@@ -65,7 +65,7 @@ fn is_any(sort: &Sort) -> bool
     matches!(sort, Sort::Any)
 }
 
-/// The one word of a sort that a placeholder may have.
+/// Adds the word of a type in a placeholder.
 pub(crate) fn push_hole_word<'a>(
     sort: &'a Sort,
     into: &mut Items<TokenKind<'a>>,

@@ -1,4 +1,4 @@
-//! The text of tokens.
+//! The printed text of tokens.
 
 ghost use Rattle.std.specs.Prelude.{◌≡◌, ◌++◌, OnOk, IfOk};
 ghost use Rattle.tb_lex.specs.Tokens.{symbol_text};
@@ -9,7 +9,7 @@ use std::alloc::Global;
 use tb_lex::{Symbol, TokenKind};
 use tb_terms::{NoMemory, Term, write_term};
 
-/// The text of tokens: a definition a line, and a blank between tokens where one is wanted.
+/// Returns the text of tokens. Each definition begins a line, a newline ends the text, and `gap` decides where a space is.
 pub(crate) fn text_of(alloc: Global, kinds: &[TokenKind]) -> Result<Vec<u8>, NoMemory>
     ensures { IfOk result (λ text. text.items ≡ tokens_text kinds.now) }
 {

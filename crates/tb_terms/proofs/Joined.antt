@@ -1,4 +1,4 @@
--- One more text, joined to those before it, and what is in front of what a writer left.
+-- One more text, joined to the texts before it, and the prefix that a failed write keeps.
 use Rattle.std.proofs.Common.{◌≡◌, ℕ, zero, suc, ◌+◌, ◌<◌, List, [], ◌∷◌, ◌++◌, map, length, get_or, take, refl, ap, sym, ◌∙◌, arith, append_assoc, add-one, rules}
 use Rattle.std.proofs.Math.Seq.{take-suc}
 use Rattle.std.proofs.lemmas.List.{map-append}
@@ -6,7 +6,7 @@ use Rattle.tb_terms.specs.Texts.{term_text, joined}
 use Rattle.tb_terms.specs.Helpers.Prefixes.{comma_before}
 use Rattle.tb_terms.specs.declared.term.Term.{Term}
 
--- behind texts of which there is one at least
+-- after at least one text
 joined-push : (x : List ℕ) (xs : List (List ℕ)) (y : List ℕ) → joined (x ∷ xs ++ y ∷ []) ≡ joined (x ∷ xs) ++ (44 ∷ y)
 joined-push x [] y = refl
 joined-push x (z ∷ zs) y = ap (λ t. x ++ (44 ∷ t)) (joined-push z zs y) ∙ sym (append_assoc x (44 ∷ joined (z ∷ zs)) (44 ∷ y))
@@ -28,7 +28,7 @@ joined-more a b e f ts i t hb he hf below at =
     joined-turn ts i t below ∙ ap (λ u. parts ++ (comma_before i ++ term_text u)) (sym at) in
     rw (add-one, turn, hf, he, hb) (append_assoc (a ++ parts) (comma_before i) (term_text t) ∙ append_assoc a parts (comma_before i ++ term_text t))
 
--- what keeps a longer front keeps a shorter one
+-- bytes that keep a longer prefix keep a shorter one
 kept_longer : (a more c : List ℕ) → take (length (a ++ more)) c ≡ a ++ more → take (length a) c ≡ a
 kept_longer [] more c h = search rules
 kept_longer (x ∷ a) more [] h = cc

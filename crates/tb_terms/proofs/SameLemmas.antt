@@ -1,4 +1,4 @@
--- The test for sameness decides equality.
+-- The test `is_same` decides equality.
 use Rattle.std.proofs.Common.{◌≡◌, Bool, true, false, ◌&&◌, refl, ap, sym, ◌∙◌, arith, rules, IsTrue, ◌↔◌}
 use Rattle.std.specs.Coded.{Coded}
 use base.Stored.{Gv, gnil, gnum, gcons}
@@ -33,7 +33,7 @@ is_same_code-sound (gcons a b) (gnum n) h = cc
 pub is_same-refl : {A : Type 0} (coded : Coded A) (x : A) → is_same coded x x ≡ true
 is_same-refl coded x = is_same_code-refl (coded.code x)
 
--- and of no others
+-- the test is true only of equal values
 pub is_same-sound : {A : Type 0} (coded : Coded A) (x y : A) → is_same coded x y ≡ true → x ≡ y
 is_same-sound coded x y h = coded.inj x y (is_same_code-sound (coded.code x) (coded.code y) h)
 

@@ -1,4 +1,4 @@
--- How long the text of a term is against its size, and the texts in front of others against all.
+-- Bounds of the length of a text: by the size of its term, and by the length of the joined texts that it is in.
 use Rattle.std.proofs.Common.{◌≡◌, ℕ, ℤ, pos, negsuc, zero, suc, ◌+◌, ◌*◌, ◌^◌, ◌≤◌, ◌<◌, Bool, true, ◌&&◌, List, [], ◌∷◌, ◌++◌, map, sum, length, get_or, take, Option, Some, None, refl, ap, sym, ◌∙◌, arith, length-append, vec_len}
 use Rattle.std.specs.Global.{Vec}
 use Rattle.std.proofs.lemmas.Bool.{and_parts, ltb-true}
@@ -17,7 +17,7 @@ use Rattle.tb_terms.specs.declared.term.Term.TheVariants as term
 use Rattle.tb_terms.proofs.Induction.{term_induction, fold-Int, fold-Str, fold-Appl, fold-List}
 use Rattle.tb_terms.proofs.Joined.{joined-turn}
 
--- Texts in front of others.
+-- Texts within joined texts.
 
 joined-cons : (t u : Term) (ts : List Term) → length (joined (map term_text (t ∷ u ∷ ts))) ≡ length (term_text t) + (1 + length (joined (map term_text (u ∷ ts))))
 joined-cons t u ts =
@@ -39,7 +39,7 @@ joined-front (suc (suc k)) (t ∷ u ∷ ts) =
     let part : length (joined (map term_text (take (suc (suc k)) (t ∷ u ∷ ts)))) ≡ length (term_text t) + (1 + length (joined (map term_text (take (suc k) (u ∷ ts))))) = joined-cons t u (take k ts) in
     omega (arith, rest, whole, part)
 
--- with those before it and its comma, a text is no longer than all
+-- a text, with the texts before it and its comma, is no longer than all joined texts
 pub joined-room : (ts : List Term) (i : ℕ) (d : Term) → i < length ts → length (joined (map term_text (take i ts))) + (length (comma_before i) + length (term_text (get_or ts i d))) ≤ length (joined (map term_text ts))
 joined-room ts i d below =
     let front = joined-front (suc i) ts in
@@ -47,7 +47,7 @@ joined-room ts i d below =
     let turn : length (joined (map term_text (take (suc i) ts))) ≡ length (parts ++ (comma_before i ++ term_text (get_or ts i d))) = ap length (joined-turn ts i d below) in
     omega (arith, front, turn, length-append parts (comma_before i ++ term_text (get_or ts i d)), length-append (comma_before i) (term_text (get_or ts i d)))
 
--- Where room was missing for a text or its comma, it was missing for all.
+-- If the capacity is too small for a text or its comma, it is too small for all joined texts.
 pub comma-full : (ts : List Term) (i : ℕ) (t : Term) (cap before len now : ℕ) → i < length ts → cap ≤ before → now ≡ len + length (joined (map term_text (take i ts))) → before < now + length (comma_before i) → cap < len + length (joined (map term_text ts))
 comma-full ts i t cap before len now below kept at full =
     let room = joined-room ts i t below in
@@ -64,11 +64,11 @@ escaped-full bytes i cap before len now below kept at full =
     let room = length-flat_map-take escaped bytes i 0 below in
     omega arith
 
--- the length of a buffer behind which more was written
+-- the length of a buffer after more was written at its end
 pub len-after : (old new : Vec ℕ) (more : List ℕ) → new.items ≡ old.items ++ more → vec_len new ≡ vec_len old + length more
 len-after old new more e = new.ok.0 ∙ ap length e ∙ length-append old.items more ∙ ap (λ n. n + length more) (sym old.ok.0)
 
--- The text of a term against its size.
+-- The length of the text of a term, by the size of the term.
 
 number-short : (z : ℤ) → has_64_bits z ≡ true → length (signed_decimal z) ≤ 20
 number-short (pos n) h =
@@ -92,7 +92,7 @@ escaped-short (byte ∷ bytes) =
 quoted-short : (bytes : List ℕ) → length (quoted bytes) ≤ 2 + 2 * length bytes
 quoted-short bytes = omega (arith, escaped-short bytes, length-append (34 ∷ flat_map escaped bytes) (34 ∷ []))
 
--- fewer than 21 bytes for each one of its size
+-- the text of the term has fewer than 21 bytes for each unit of its size
 abbrev IsShort : Term → Type 0
 IsShort t = is_proper t ≡ true → length (term_text t) < 21 * term_size t
 
@@ -111,7 +111,7 @@ parts-short (t ∷ u ∷ ts) all h =
     let size : sum (map term_size (t ∷ u ∷ ts)) ≡ term_size t + sum (map term_size (u ∷ ts)) = sum_by-cons (λ n. n) (term_size t) (map term_size (u ∷ ts)) in
     omega (arith, one, rest, whole, size)
 
--- an application of parts: two bytes more than the name and the parts have
+-- the text of a name with arguments has at most two bytes more than the name and the joined arguments
 appl-long : (name : List ℕ) (parts : List (List ℕ)) → length (appl_text name parts) ≤ length name + (2 + length (joined parts))
 appl-long name [] = omega arith
 appl-long name (part ∷ parts) = omega (arith, length-append (name ++ 40 ∷ joined (part ∷ parts)) (41 ∷ []), length-append name (40 ∷ joined (part ∷ parts)))

@@ -1,2 +1,2 @@
--- Definitions that proofs and private functions need, and that nobody has to believe who believes the program's call.
+-- Definitions for proofs, for private functions, and for an error of `push_quoted`. A reader of the program's contract needn't trust them.
 pub mod Prefixes

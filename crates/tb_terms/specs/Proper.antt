@@ -1,4 +1,4 @@
--- What each term of a program is: its numbers have 64 bits, its strings and names are such.
+-- Proper terms: numbers have 64 bits, and strings and names are well-formed.
 use Rattle.std.specs.Prelude.{◌^◌, ℤ, pos, negsuc, Bool, ◌&&◌, nat_lt}
 use Rattle.std.specs.List.{list_all}
 use Rattle.tb_terms.specs.Names.{is_name, is_string}

@@ -1,4 +1,4 @@
--- Whether two values are the same: one test for every type, which compares their codes.
+-- Whether two values are equal: one test for every type, which compares their codes.
 use Rattle.std.specs.Prelude.{Bool, true, false, ◌&&◌, ◌==◌, List}
 use Rattle.std.specs.Coded.{Coded, coded_list}
 use base.Stored.{Gv, gnil, gnum, gcons}

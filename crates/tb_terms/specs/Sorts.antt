@@ -1,4 +1,4 @@
--- Which terms have a sort, and the value with which a variable of a sort begins.
+-- Which terms have a type, and the initial value of a variable of a type.
 use Rattle.std.specs.Prelude.{ℕ, pos, Bool, true, false, ◌||◌, ◌&&◌, List, [], ◌∷◌, codes}
 use Rattle.std.specs.List.{list_all}
 use Rattle.std.specs.Str.{bytes_eq}
@@ -9,7 +9,7 @@ use Rattle.tb_terms.specs.declared.sort.Sort.{Sort, out-Sort}
 use Rattle.tb_terms.specs.declared.sort.Sort.TheOpen as sort
 use Rattle.tb_terms.specs.declared.sort.Sort.TheFolds.{fold-Sort}
 
--- a name without arguments
+-- this name, without arguments
 abbrev pub is_word : List ℕ → Term-F Term → Bool
 is_word word (Int number) = false
 is_word word (Str bytes) = false
@@ -35,19 +35,20 @@ is_list_of is_member (Str bytes) = false
 is_list_of is_member (Appl name parts) = false
 is_list_of is_member (ListOf parts) = list_all is_member parts
 
--- one argument, which is a number
+-- the arguments are one number
 abbrev pub is_one_int : List Term → Bool
 is_one_int [] = false
 is_one_int (part ∷ []) = is_int (out-Term part)
 is_one_int (part ∷ other ∷ parts) = false
 
+-- a term of this tool: its name with one number
 abbrev pub is_tool : List ℕ → Term-F Term → Bool
 is_tool tool (Int number) = false
 is_tool tool (Str bytes) = false
 is_tool tool (Appl name parts) = bytes_eq name tool && is_one_int parts
 is_tool tool (ListOf parts) = false
 
--- one sort, with the test for the members' sort in its place
+-- the terms of one type, given the test for the type of the members
 abbrev pub sort_step : sort.Sort-F (Term → Bool) → Term → Bool
 sort_step sort.Bool term = is_word (codes "true") (out-Term term) || is_word (codes "false") (out-Term term)
 sort_step sort.Int term = is_int (out-Term term)
@@ -59,6 +60,7 @@ sort_step (sort.Tool name) term = is_tool name (out-Term term)
 abbrev pub term_test : Sort → Term → Bool
 term_test = fold-Sort (Term → Bool) sort_step
 
+-- the term has this type
 abbrev pub has_sort : Term → Sort → Bool
 has_sort term sort = term_test sort term
 

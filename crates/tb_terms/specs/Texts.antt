@@ -1,4 +1,4 @@
--- The one text of a term, and of terms joined by commas.
+-- The text of a term, and the texts of terms joined by commas.
 use Rattle.std.specs.Prelude.{ℕ, List, [], ◌∷◌, ◌++◌, map, Option, Some, None, ◌==◌, if◌then◌else◌}
 use Rattle.std.specs.List.{join_with_byte, flat_map}
 use Rattle.std.specs.Fmt.{signed_decimal}
@@ -6,7 +6,7 @@ use Rattle.tb_terms.specs.declared.term.Term.{Term}
 use Rattle.tb_terms.specs.declared.term.Term.TheOpen.{Term-F, Int, Str, Appl, List as ListOf}
 use Rattle.tb_terms.specs.declared.term.Term.TheFolds.{fold-Term}
 
--- the letter that stands behind a backslash for this byte, where it is written so
+-- the letter that represents this byte after a backslash, or none if the byte is written as it is
 abbrev pub escape_letter : ℕ → Option ℕ
 escape_letter byte =
     if byte == 92 then Some 92
@@ -25,11 +25,11 @@ escaped byte = with_letter byte (escape_letter byte)
 abbrev pub quoted : List ℕ → List ℕ
 quoted bytes = 34 ∷ flat_map escaped bytes ++ 34 ∷ []
 
--- texts with a comma between each two
+-- texts, joined by commas
 abbrev pub joined : List (List ℕ) → List ℕ
 joined texts = join_with_byte 44 texts
 
--- an application of parts that have been written: the name alone where there are none
+-- the text of a name with arguments, given the texts of these: without arguments, the name alone
 abbrev pub appl_text : List ℕ → List (List ℕ) → List ℕ
 appl_text name [] = name
 appl_text name (part ∷ parts) = name ++ 40 ∷ joined (part ∷ parts) ++ 41 ∷ []
@@ -37,7 +37,7 @@ appl_text name (part ∷ parts) = name ++ 40 ∷ joined (part ∷ parts) ++ 41 �
 abbrev pub list_text : List (List ℕ) → List ℕ
 list_text parts = 91 ∷ joined parts ++ 93 ∷ []
 
--- one node, with the text of each part in the part's place
+-- the text of one node, given the texts of its parts
 abbrev pub text_step : Term-F (List ℕ) → List ℕ
 text_step (Int number) = signed_decimal number
 text_step (Str bytes) = quoted bytes

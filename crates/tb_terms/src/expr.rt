@@ -4,57 +4,85 @@ ghost use Rattle.std.specs.Prelude.{◌≡◌, IfOk};
 use crate::{Items, Name, NoMemory, Sort, Text};
 use std::alloc::Global;
 
-/// The functions that expressions may apply.
+/// A function that an expression can apply.
 #[derive(Clone, Copy, Debug, PartialEq, Eq)]
 pub enum Func {
+    /// Tests whether two terms are equal.
     Equal,
+    /// Tests whether two terms differ.
     NotEqual,
+    /// Negates a truth value.
     Not,
+    /// Returns whether both truth values are `true`.
     And,
+    /// Returns whether at least one truth value is `true`.
     Or,
+    /// Adds two numbers.
     Add,
+    /// Subtracts the second number from the first.
     Sub,
+    /// Multiplies two numbers.
     Mul,
+    /// Divides the first number by the second, rounded toward zero.
     Div,
+    /// Returns the remainder of `Div`.
     Mod,
+    /// Tests whether the first number is less than the second.
     Less,
+    /// Tests whether the first number is at most the second.
     LessEqual,
+    /// Tests whether the first number is greater than the second.
     Greater,
+    /// Tests whether the first number is at least the second.
     GreaterEqual,
+    /// Returns the number of members of a list.
     Size,
+    /// Returns the first member of a list.
     First,
+    /// Returns a list without its first member.
     Next,
+    /// Appends the second list to the first.
     Join,
+    /// Tests whether the first argument is a member of the second, a list.
     Member,
+    /// Returns the member of a list at a position, counted from 1.
     Index,
+    /// Returns the ticks, of a tenth of a second, of a time in milliseconds, rounded up.
     Msec,
+    /// Returns the ticks of a time in seconds.
     Sec,
+    /// Returns the ticks of a time in minutes.
     Min,
+    /// Returns the ticks of a time in hours.
     Hour,
 }
 
-/// What a script writes where a term is meant. A variable goes by its slot.
+/// An expression of a script. A variable is given by its slot.
 #[derive(Drop)]
 pub enum Expr {
+    /// A number.
     Int(i64),
+    /// A string.
     Str(Text),
     /// The value of a variable.
     Var(u32),
-    /// The variable that takes what stands here.
+    /// A result variable: the variable takes the term at this place.
     Result(u32),
-    /// Any term of this sort.
+    /// A placeholder: any term of this type.
     Hole(Sort),
-    /// A name with its arguments, or with none.
+    /// A name, with or without arguments.
     Appl(Name, Exprs),
+    /// A function, applied to arguments.
     Call(Func, Exprs),
+    /// A list of expressions.
     List(Exprs),
 }
 
-/// Expressions in a row.
+/// A list of expressions.
 pub type Exprs = Items<Expr>;
 
 impl Expr {
-    /// The same expression in memory of its own.
+    /// Returns the same expression in memory of its own.
     #[cycle(copy)]
     pub fn copy(&self, alloc: Global) -> Result<Expr, NoMemory>
         ensures { IfOk result (λ copy. copy ≡ self.now) }
@@ -75,7 +103,7 @@ impl Expr {
     }
 }
 
-/// A copy of these expressions, in their order.
+/// Returns a copy of these expressions, in the same order.
 pub fn copy_exprs(alloc: Global, exprs: &Exprs) -> Result<Exprs, NoMemory>
     ensures { IfOk result (λ copies. copies ≡ exprs.now) }
 {

@@ -7,8 +7,8 @@ use crate::name::are_name_bytes;
 use std::alloc::Global;
 use std::marker::Model;
 
-/// The name of a process or a variable: an upper-case ASCII letter, followed by ASCII letters,
-/// digits, `-` and `_`. Contracts see it as its bytes.
+/// The name of a process or a variable: an upper-case ASCII letter, followed by ASCII letters, digits, `-`, and `_`.
+/// Contracts see it as its bytes.
 #[derive(Debug, Drop)]
 pub struct Ident {
     bytes: Vec<u8>,
@@ -26,7 +26,7 @@ impl Model for Ident {
 }
 
 impl Ident {
-    /// The name with these bytes, of which `is_ident_bytes` says whether they are one.
+    /// Returns the name with these bytes. `is_ident_bytes` tests whether bytes form a name.
     pub fn new(alloc: Global, bytes: &[u8]) -> Result<Ident, NoMemory>
         requires { IsTrue (is_ident bytes.now) }
         ensures { IfOk result (λ ident. ident ≡ bytes.now) }
@@ -35,7 +35,7 @@ impl Ident {
         Ok(Ident { bytes })
     }
 
-    /// The name with these bytes, where they are one.
+    /// Returns the name with these bytes, or `None` if they don't form a name.
     pub fn from_bytes(alloc: Global, bytes: &[u8]) -> Result<Option<Ident>, NoMemory>
         ensures { IfOk result
             (λ ident. ident ≡ (if is_ident bytes.now then Some bytes.now else None)) }
@@ -46,7 +46,7 @@ impl Ident {
         Ok(Some(Ident::new(alloc, bytes)?))
     }
 
-    /// The name with these bytes, where they are one. Takes no memory.
+    /// Returns the name with these bytes, or `None` if they don't form a name. Takes no memory.
     pub fn from_vec(bytes: Vec<u8>) -> Option<Ident>
         ensures { result ≡ (if is_ident bytes.items then Some bytes.items else None) }
     {
@@ -56,14 +56,14 @@ impl Ident {
         Some(Ident { bytes })
     }
 
-    /// Its bytes, given back without taking memory.
+    /// Returns the bytes of the name. Takes no memory.
     pub fn into_vec(self) -> Vec<u8>
         ensures { result.items ≡ self }
     {
         self.bytes
     }
 
-    /// Its bytes.
+    /// Returns the bytes of the name.
     pub fn as_bytes(&self) -> &[u8]
         ensures value { result.now ≡ self.now }
         ensures form { IsTrue (is_ident self.now) }
@@ -71,14 +71,14 @@ impl Ident {
         self.bytes.as_slice()
     }
 
-    /// Whether both have the same bytes.
+    /// Returns whether both names have the same bytes.
     pub fn is_same(&self, other: &Ident) -> bool
         ensures { IsTrue result ↔ (self.now ≡ other.now) }
     {
         self.as_bytes() == other.as_bytes()
     }
 
-    /// The same name in memory of its own.
+    /// Returns the same name in memory of its own.
     pub fn copy(&self, alloc: Global) -> Result<Ident, NoMemory>
         ensures { IfOk result (λ copy. copy ≡ self.now) }
     {
@@ -86,7 +86,7 @@ impl Ident {
     }
 }
 
-/// Whether the name of a process or a variable may have these bytes.
+/// Returns whether these bytes form the name of a process or a variable.
 pub fn is_ident_bytes(bytes: &[u8]) -> bool
     ensures { result ≡ is_ident bytes.now }
 {

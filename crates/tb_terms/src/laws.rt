@@ -1,4 +1,4 @@
-//! What holds of texts whatever the terms are. The call changes nothing: its contract is the law.
+//! A theorem about the texts of terms. The call changes nothing: its contract is the theorem.
 
 ghost use Rattle.std.specs.Prelude.{◌*◌, ◌<◌, ◌≤◌, List, length, map, sum, IsTrue};
 ghost use Rattle.std.specs.List.{list_all};
@@ -7,8 +7,8 @@ ghost use Rattle.tb_terms.specs.Proper.{is_proper};
 ghost use Rattle.tb_terms.specs.Sizes.{term_size};
 ghost use Rattle.tb_terms.specs.Texts.{term_text, terms_text};
 
-/// A text is short against the size: fewer than 21 bytes for each one of it, which is what the
-/// longest number and a comma have.
+/// States that the text of a term has fewer than 21 bytes for each unit of its size, and joined texts at most 21. The longest number
+/// and a comma have 21 bytes.
 pub fn texts_are_short()
     ensures term { (term : Term) → IsTrue (is_proper term)
         → length (term_text term) < 21 * term_size term }

@@ -1,5 +1,4 @@
-//! Terms and their parts: names, strings, lists, sorts, the one text of a term; and the expressions
-//! and patterns of scripts.
+//! Terms with their parts, types, and text, and the expressions and patterns of scripts.
 #![tactic(auto)]
 
 mod expr;

@@ -1,17 +1,17 @@
-//! The size and the levels of a term, and their limits.
+//! The size and the depth of a term, and their limits.
 ghost use Rattle.std.specs.Prelude.{◌≡◌, ◌+◌, ◌↔◌, IsTrue, length, min, map, sum};
 ghost use Rattle.std.specs.List.{All, list_all};
 ghost use Rattle.tb_terms.specs.Sizes.{term_size, term_levels, greatest, is_within_limits, IsWithinLimits};
 
 use crate::Term;
 
-/// How large a term may be.
+/// The greatest size of a term, in nodes plus bytes.
 pub const MOST_TERM_SIZE: usize = 65_536;
 
-/// How many levels a term may have.
+/// The greatest depth of a term, in levels.
 pub const MOST_TERM_LEVELS: usize = 64;
 
-/// Whether a term is within the limits of size and levels.
+/// Returns whether a term is within the limits of size and depth.
 #[tactic(auto, unfolding(crate::specs::Sizes::is_within_limits))]
 pub fn is_within_limits(term: &Term) -> bool
     ensures test { result ≡ is_within_limits term.now }
@@ -25,7 +25,7 @@ pub fn is_within_limits(term: &Term) -> bool
     }
 }
 
-/// Whether each of these terms is within the limits of size and levels.
+/// Returns whether each of these terms is within the limits of size and depth.
 pub fn are_within_limits(terms: &[Term]) -> bool
     ensures test { result ≡ list_all is_within_limits terms.now }
     ensures limits { IsTrue result ↔ All IsWithinLimits terms.now }
@@ -38,7 +38,7 @@ pub fn are_within_limits(terms: &[Term]) -> bool
     true
 }
 
-/// The sizes of these terms together. The greatest `usize` stands for all greater numbers.
+/// Returns the sum of the sizes of these terms. If the sum is greater than `usize::MAX`, returns `usize::MAX`.
 pub fn total_size(terms: &[Term]) -> usize
     ensures { result ≡ min (sum (map term_size terms.now)) usize.MAX }
 {
@@ -49,8 +49,8 @@ pub fn total_size(terms: &[Term]) -> usize
     total
 }
 
-/// One for each node, and the bytes of the names and strings. The greatest `usize` stands for all
-/// greater numbers.
+/// Returns the size of a term: the number of its nodes plus the bytes of its names and strings. If the size is greater than
+/// `usize::MAX`, returns `usize::MAX`.
 pub fn size(term: &Term) -> usize
     ensures { result ≡ min (term_size term.now) usize.MAX }
 {
@@ -86,8 +86,8 @@ fn sum_of_sizes(terms: &[Term]) -> usize
     total
 }
 
-/// How many levels a term has: one, and one more for each part within a part. The greatest `usize`
-/// stands for all greater numbers.
+/// Returns the depth of a term: one more than the depth of its deepest part, or 1 if it has no parts. If the depth is greater than
+/// `usize::MAX`, returns `usize::MAX`.
 #[cycle(depth)]
 pub fn depth(term: &Term) -> usize
     ensures { result ≡ min (term_levels term.now) usize.MAX }

@@ -1,8 +1,7 @@
-//! The answer to want of memory.
+//! The error for out of memory.
 use std::alloc::{AllocError, AllocFailed};
 
-/// Memory ran out. What the call was lent for writing is as before, unless its contract says
-/// otherwise.
+/// An error: out of memory. After this error, only what the contract of a call states of its `&mut` arguments is certain.
 #[derive(Clone, Copy, Debug, PartialEq, Eq)]
 pub struct NoMemory;
 

@@ -1,4 +1,4 @@
-//! Names of terms, tools, sorts and atoms.
+//! Names of terms, tools, types, and atoms.
 ghost use Rattle.std.specs.Prelude.{◌≡◌, ◌↔◌, IsTrue, IfOk, Some, None, length, if◌then◌else◌};
 ghost use Rattle.std.specs.List.{list_all};
 ghost use Rattle.tb_terms.specs.Names.{is_name, is_name_byte};
@@ -8,14 +8,14 @@ use std::alloc::Global;
 use std::marker::Model;
 use std::sync::Arc;
 
-/// The name of a term, a tool, a sort or an atom: a lower-case ASCII letter, followed by ASCII
-/// letters, digits, `-` and `_`. Contracts see it as its bytes. Its copies share the bytes.
+/// The name of a term, a tool, a type, or an atom: a lower-case ASCII letter, followed by ASCII letters, digits, `-`, and `_`.
+/// Contracts see it as its bytes. The copies of a name share its bytes.
 #[derive(Drop)]
 pub struct Name {
     bytes: Arc<Vec<u8>>,
 }
 
-/// Names in a row.
+/// A list of names.
 pub type Names = Items<Name>;
 
 impl Model for Name {
@@ -31,7 +31,7 @@ impl Model for Name {
 }
 
 impl Name {
-    /// The name with these bytes, of which `is_name_bytes` says whether they are one.
+    /// Returns the name with these bytes. `is_name_bytes` tests whether bytes form a name.
     pub fn new(alloc: Global, bytes: &[u8]) -> Result<Name, NoMemory>
         requires { IsTrue (is_name bytes.now) }
         ensures { IfOk result (λ name. name ≡ bytes.now) }
@@ -40,7 +40,7 @@ impl Name {
         Ok(Name { bytes })
     }
 
-    /// The name with these bytes, where they are one.
+    /// Returns the name with these bytes, or `None` if they don't form a name.
     pub fn from_bytes(alloc: Global, bytes: &[u8]) -> Result<Option<Name>, NoMemory>
         ensures { IfOk result
             (λ name. name ≡ (if is_name bytes.now then Some bytes.now else None)) }
@@ -51,7 +51,7 @@ impl Name {
         Ok(Some(Name::new(alloc, bytes)?))
     }
 
-    /// Its bytes.
+    /// Returns the bytes of the name.
     pub fn as_bytes(&self) -> &[u8]
         ensures value { result.now ≡ self.now }
         ensures form { IsTrue (is_name self.now) }
@@ -59,14 +59,14 @@ impl Name {
         self.bytes.as_slice()
     }
 
-    /// Whether both have the same bytes.
+    /// Returns whether both names have the same bytes.
     pub fn is_same(&self, other: &Name) -> bool
         ensures { IsTrue result ↔ (self.now ≡ other.now) }
     {
         self.as_bytes() == other.as_bytes()
     }
 
-    /// The same name, which shares the bytes and takes no memory. An error only where 2^63 names share them.
+    /// Returns the same name, which shares the bytes. Takes no memory. Returns an error only if 2^63 names share the bytes.
     pub fn share(&self) -> Result<Name, NoMemory>
         ensures { IfOk result (λ copy. copy ≡ self.now) }
     {
@@ -75,7 +75,7 @@ impl Name {
     }
 }
 
-/// Whether a name may have these bytes.
+/// Returns whether these bytes form a name.
 pub fn is_name_bytes(bytes: &[u8]) -> bool
     ensures { result ≡ is_name bytes.now }
 {

@@ -1,29 +1,29 @@
-//! Patterns, which terms are matched against.
+//! Patterns, against which terms are matched.
 ghost use Rattle.std.specs.Prelude.{◌≡◌, ◌↔◌, IsTrue, IfOk};
 
 use crate::{Items, Name, NoMemory, Sort, Term, same};
 use std::alloc::Global;
 
-/// What a term is matched against.
+/// A pattern, against which terms are matched.
 #[derive(Drop)]
 pub enum Pattern {
-    /// This term alone.
+    /// Only this term.
     Fixed(Term),
-    /// Any term of this sort.
+    /// A placeholder: any term of this type.
     Hole(Sort),
-    /// A term of this sort, which the variable with this slot takes.
+    /// A result variable: any term of this type. The variable with this slot takes the term.
     Result(u32, Sort),
-    /// An application of this name to as many parts, each of which matches.
+    /// A name with arguments. A term matches if it has this name and as many arguments, each of which matches its pattern.
     Appl(Name, Patterns),
-    /// A list of as many parts, each of which matches.
+    /// A list. A term matches if it is a list with as many members, each of which matches its pattern.
     List(Patterns),
 }
 
-/// Patterns in a row.
+/// A list of patterns.
 pub type Patterns = Items<Pattern>;
 
 impl Pattern {
-    /// The same pattern in memory of its own.
+    /// Returns the same pattern in memory of its own.
     #[cycle(copy)]
     pub fn copy(&self, alloc: Global) -> Result<Pattern, NoMemory>
         ensures { IfOk result (λ copy. copy ≡ self.now) }
@@ -40,7 +40,7 @@ impl Pattern {
         }
     }
 
-    /// Whether two patterns are the same pattern.
+    /// Returns whether two patterns are equal.
     #[cycle(same)]
     pub fn is_same(&self, other: &Pattern) -> bool
         ensures { IsTrue result ↔ (self.now ≡ other.now) }
@@ -55,7 +55,7 @@ impl Pattern {
     }
 }
 
-/// A copy of these patterns, in their order.
+/// Returns a copy of these patterns, in the same order.
 pub fn copy_patterns(alloc: Global, patterns: &Patterns) -> Result<Patterns, NoMemory>
     ensures { IfOk result (λ copies. copies ≡ patterns.now) }
 {
@@ -73,7 +73,7 @@ fn copy_all(alloc: Global, patterns: &[Pattern]) -> Result<Patterns, NoMemory>
     Ok(copies)
 }
 
-/// Whether two lists of patterns are the same list.
+/// Returns whether two lists of patterns are equal.
 pub fn same_pattern_lists(a: &Patterns, b: &Patterns) -> bool
     ensures { IsTrue result ↔ (a.now ≡ b.now) }
 {

@@ -1,4 +1,4 @@
-//! Each term is proper.
+//! A theorem: each term is proper.
 ghost use Rattle.std.specs.Prelude.{map, IsTrue};
 ghost use Rattle.std.specs.List.{list_all};
 ghost use Rattle.tb_terms.specs.Proper.{is_proper, has_64_bits};
@@ -6,8 +6,8 @@ ghost use Rattle.tb_terms.specs.Names.{is_string};
 
 use crate::{Term, Text};
 
-/// Every term is proper. The call walks the term and changes nothing: its contract is what a proof
-/// may use of a term whose parts it doesn't see.
+/// States that the term is proper: its numbers have 64 bits, and its strings and names are well-formed. The call walks the term and
+/// changes nothing. A proof uses this contract for a term whose parts it doesn't see.
 #[cycle(proper)]
 pub fn show_proper(term: &Term)
     ensures { IsTrue (is_proper term.now) }

@@ -1,28 +1,31 @@
-//! Sorts of variables.
+//! Types of variables.
 ghost use Rattle.std.specs.Prelude.{◌≡◌, ◌↔◌, IsTrue, IfOk};
 
 use crate::{Boxed, Items, Name, NoMemory};
 use std::alloc::Global;
 
-/// What a variable may hold.
+/// A type: the terms that a variable can hold.
 #[derive(Drop)]
 pub enum Sort {
+    /// The terms `true` and `false`.
     Bool,
+    /// Numbers.
     Int,
+    /// Strings.
     Str,
-    /// Lists whose members have this sort. The sort `list` is that of lists of any terms.
+    /// Lists whose members have this type. The type `list` of scripts is `List(Any)`.
     List(Boxed<Sort>),
-    /// Every term.
+    /// All terms.
     Any,
-    /// The terms of a tool: its name with one number.
+    /// The terms of a tool: the name of the tool with one number as its argument.
     Tool(Name),
 }
 
-/// Sorts in a row.
+/// A list of types.
 pub type Sorts = Items<Sort>;
 
 impl Sort {
-    /// The same sort in memory of its own.
+    /// Returns the same type in memory of its own.
     pub fn copy(&self, alloc: Global) -> Result<Sort, NoMemory>
         ensures { IfOk result (λ copy. copy ≡ self.now) }
     {
@@ -39,7 +42,7 @@ impl Sort {
         }
     }
 
-    /// Whether two sorts are the same sort.
+    /// Returns whether two types are equal.
     pub fn is_same(&self, other: &Sort) -> bool
         ensures { IsTrue result ↔ (self.now ≡ other.now) }
     {

@@ -1,24 +1,27 @@
-//! Terms, and their copies.
+//! Terms, with their copies and comparisons.
 ghost use Rattle.std.specs.Prelude.{◌≡◌, ◌↔◌, IsTrue, IfOk};
 
 use crate::{Items, Name, NoMemory, Text};
 use std::alloc::Global;
 
-/// What messages and tool lines are made of.
+/// A term: the value that messages and tool lines consist of.
 #[derive(Drop)]
 pub enum Term {
+    /// A number.
     Int(i64),
+    /// A string.
     Str(Text),
-    /// A name with its arguments, or with none.
+    /// A name, with or without arguments.
     Appl(Name, Terms),
+    /// A list of terms.
     List(Terms),
 }
 
-/// Terms in a row: the parts of a term, or what a message carries.
+/// A list of terms: the parts of a term, or the arguments of a message.
 pub type Terms = Items<Term>;
 
 impl Term {
-    /// The same term in memory of its own.
+    /// Returns the same term in memory of its own.
     pub fn copy(&self, alloc: Global) -> Result<Term, NoMemory>
         ensures { IfOk result (λ copy. copy ≡ self.now) }
     {
@@ -45,7 +48,7 @@ impl Term {
     }
 }
 
-/// A copy of these terms, in their order.
+/// Returns a copy of these terms, in the same order.
 pub fn copy_terms(alloc: Global, terms: &Terms) -> Result<Terms, NoMemory>
     ensures { IfOk result (λ copies. copies ≡ terms.now) }
 {
@@ -63,7 +66,7 @@ fn copy_all(alloc: Global, terms: &[Term]) -> Result<Terms, NoMemory>
     Ok(Items::from_vec(copies))
 }
 
-/// Whether two terms are the same term.
+/// Returns whether two terms are equal.
 #[cycle(same)]
 pub fn same(a: &Term, b: &Term) -> bool
     ensures { IsTrue result ↔ (a.now ≡ b.now) }
@@ -76,7 +79,7 @@ pub fn same(a: &Term, b: &Term) -> bool
     }
 }
 
-/// Whether two lists of terms are the same list.
+/// Returns whether two lists of terms are equal.
 pub fn same_terms(a: &Terms, b: &Terms) -> bool
     ensures { IsTrue result ↔ (a.now ≡ b.now) }
 {

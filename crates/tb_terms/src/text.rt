@@ -7,14 +7,14 @@ use crate::{Items, NoMemory};
 use std::alloc::Global;
 use std::marker::Model;
 
-/// A string as scripts and terms have it: well-formed UTF-8 in which no byte is below 32 but tab,
-/// newline and carriage return. Contracts see it as its bytes.
+/// A string of a script or a term: well-formed UTF-8. Of the bytes below 32, it can have only tab, newline, and carriage return.
+/// Contracts see it as its bytes.
 #[derive(Debug, Drop)]
 pub struct Text {
     text: String,
 }
 
-/// Strings in a row.
+/// A list of strings.
 pub type Texts = Items<Text>;
 
 impl Model for Text {
@@ -29,7 +29,7 @@ impl Model for Text {
 }
 
 impl Text {
-    /// A text with no bytes, which takes no memory.
+    /// Returns the string without bytes. Takes no memory.
     pub fn empty(alloc: Global) -> Text
         ensures { result ≡ [] }
     {
@@ -38,7 +38,7 @@ impl Text {
         }
     }
 
-    /// This text, where it has no byte that a string may not have.
+    /// Returns the string with these bytes, or `None` if a string can't have one of them.
     pub fn from_str(alloc: Global, text: &str) -> Result<Option<Text>, NoMemory>
         ensures { IfOk result (λ made. made ≡ (if is_text text.now then Some text.now else None)) }
     {
@@ -49,7 +49,7 @@ impl Text {
         Ok(Some(Text { text }))
     }
 
-    /// The text with these bytes, where they are one. Takes no memory.
+    /// Returns the string with these bytes, or `None` if they aren't the bytes of a string. Takes no memory.
     pub fn from_vec(bytes: Vec<u8>) -> Option<Text>
         ensures { result ≡ (if is_string bytes.items then Some bytes.items else None) }
     {
@@ -62,7 +62,7 @@ impl Text {
         }
     }
 
-    /// Its characters.
+    /// Returns the string as a `str`.
     pub fn as_str(&self) -> &str
         ensures value { result.now ≡ self.now }
         ensures form { IsTrue (is_text self.now) }
@@ -70,28 +70,28 @@ impl Text {
         self.text.as_str()
     }
 
-    /// Its bytes, given back without taking memory.
+    /// Returns the bytes of the string. Takes no memory.
     pub fn into_vec(self) -> Vec<u8>
         ensures { result.items ≡ self }
     {
         self.text.into_bytes()
     }
 
-    /// Its bytes.
+    /// Returns the bytes of the string.
     pub fn as_bytes(&self) -> &[u8]
         ensures { result.now ≡ self.now }
     {
         self.text.as_bytes()
     }
 
-    /// Whether both have the same bytes.
+    /// Returns whether both strings have the same bytes.
     pub fn is_same(&self, other: &Text) -> bool
         ensures { IsTrue result ↔ (self.now ≡ other.now) }
     {
         self.as_bytes() == other.as_bytes()
     }
 
-    /// The same string in memory of its own.
+    /// Returns the same string in memory of its own.
     pub fn copy(&self, alloc: Global) -> Result<Text, NoMemory>
         ensures { IfOk result (λ copy. copy ≡ self.now) }
     {

@@ -1,4 +1,4 @@
-//! Which terms have a sort.
+//! Which terms have a type, and the initial value of each type.
 ghost use Rattle.std.specs.Prelude.{◌≡◌, [], ◌∷◌, pos, IsTrue, IfOk};
 ghost use Rattle.std.specs.List.{list_all};
 ghost use Rattle.tb_terms.specs.declared.term.Term.{out-Term};
@@ -7,7 +7,7 @@ ghost use Rattle.tb_terms.specs.Sorts.{has_sort, term_test, initial_value, is_wo
 use crate::{Items, Name, NoMemory, Sort, Term, Text};
 use std::alloc::Global;
 
-/// Whether the term has this sort.
+/// Returns whether the term has this type.
 #[cycle(sorts)]
 pub fn has_sort(term: &Term, sort: &Sort) -> bool
     ensures { result ≡ has_sort term.now sort.now }
@@ -83,7 +83,7 @@ fn is_one_int(terms: &[Term]) -> bool
     }
 }
 
-/// The value with which a variable of this sort begins.
+/// Returns the initial value of a variable of this type. This value has the type.
 pub fn initial(alloc: Global, sort: &Sort) -> Result<Term, NoMemory>
     ensures value { IfOk result (λ term. term ≡ initial_value sort.now) }
     ensures well_sorted { IsTrue (has_sort (initial_value sort.now) sort.now) }

@@ -8,7 +8,7 @@ ghost use Rattle.tb_terms.specs.Helpers.Prefixes.{KeepsPrefix, comma_before};
 use crate::{NoMemory, Term, Terms};
 use itoa::Buffer;
 
-/// Writes the one text of a term at the end.
+/// Writes the text of a term at the end of `into`.
 pub fn write_term(term: &Term, into: &mut Vec<u8>) -> Result<(), NoMemory>
     ensures ok { OnOk result (into.new.items ≡ into.old.items ++ term_text term.now) }
     ensures err { OnErr result (into.new.items ≡ into.old.items) }
@@ -26,7 +26,7 @@ pub fn write_term(term: &Term, into: &mut Vec<u8>) -> Result<(), NoMemory>
     }
 }
 
-/// Writes the texts of terms at the end, with a comma between each two.
+/// Writes the texts of terms at the end of `into`, joined by commas.
 pub fn write_terms(terms: &Terms, into: &mut Vec<u8>) -> Result<(), NoMemory>
     ensures ok { OnOk result (into.new.items ≡ into.old.items ++ terms_text terms.now) }
     ensures err { OnErr result (into.new.items ≡ into.old.items) }
@@ -116,7 +116,7 @@ fn push_joined(terms: &[Term], into: &mut Vec<u8>) -> Result<(), NoMemory>
     Ok(())
 }
 
-/// The comma before the text at this position of a list.
+/// Writes the comma before the text at this position of a list. There is no comma before the first text.
 fn push_comma(position: usize, into: &mut Vec<u8>) -> Result<(), NoMemory>
     ensures ok { OnOk result (into.new.items ≡ into.old.items ++ comma_before position) }
     ensures err { OnErr result (into.new.items ≡ into.old.items) }
@@ -132,7 +132,7 @@ fn push_comma(position: usize, into: &mut Vec<u8>) -> Result<(), NoMemory>
     Ok(())
 }
 
-/// A number of one digit is put as its byte.
+/// Writes a number in decimal. A number from 0 to 9 is pushed as one byte.
 #[tactic(auto, using(std::proofs::lemmas::Fmt::decimal_digit))]
 fn push_number(number: i64, into: &mut Vec<u8>) -> Result<(), NoMemory>
     ensures ok { OnOk result (into.new.items ≡ into.old.items ++ signed_decimal number) }
@@ -152,7 +152,7 @@ fn push_number(number: i64, into: &mut Vec<u8>) -> Result<(), NoMemory>
     Ok(())
 }
 
-/// Writes a string at the end, in quotes. Where memory runs out, a part of it may stand there.
+/// Writes a string at the end of `into`, in quotes. If memory runs out, a part of the string may be written.
 pub fn push_quoted(text: &[u8], into: &mut Vec<u8>) -> Result<(), NoMemory>
     ensures ok { OnOk result (into.new.items ≡ into.old.items ++ quoted text.now) }
     ensures err { OnErr result (KeepsPrefix into.old.items into.new.items) }

@@ -1,4 +1,4 @@
--- Which line of a tool given bytes are.
+-- Which line of a tool some bytes mean.
 use Rattle.std.specs.Prelude.{◌≡◌, ℕ, ◌≤◌, nat_le, Bool, ◌&&◌, List, [], ◌∷◌, length, Option, Some, None, ◌⊎◌, codes, if◌then◌else◌}
 use Rattle.std.specs.List.{list_all}
 use Rattle.std.specs.Str.{bytes_eq}
@@ -12,28 +12,28 @@ use Rattle.tb_log.specs.Limits.{terms_size}
 use Rattle.tb_log.specs.Shapes.{most_tool_name}
 use Rattle.tb_read.specs.Spelling.{Reads}
 
--- each part of a line is within the limits of a term, and all together are no larger than a term may be; the name around
--- the parts isn't counted
+-- Each part of a line is within the limits of a term, and the total size of the parts is within the limit of size. The name around the
+-- parts isn't counted.
 abbrev pub are_within : List Term → Bool
 are_within parts = list_all is_within_limits parts && nat_le (terms_size parts) most_term_size
 
--- the part that has no other beside it
+-- the only part, if there is exactly one
 abbrev pub only : List Term → Option Term
 only [] = None
 only (part ∷ []) = Some part
 only (part ∷ other ∷ parts) = None
 
--- one part
+-- a value: one part, within the limits of a term
 abbrev pub value_line : Option Term → ToolLine
 value_line None = Bad
 value_line (Some part) = if is_within_limits part then Value part else Bad
 
--- one part or more
+-- an event: one part or more, within the limits
 abbrev pub event_line : List Term → ToolLine
 event_line [] = Bad
 event_line (part ∷ parts) = if are_within (part ∷ parts) then Event (part ∷ parts) else Bad
 
--- a name without parts, which is no longer than that of a tool may be
+-- a connect request, from its one part: a name without parts, of at most as many bytes as the name of a tool can have
 abbrev pub name_line : List ℕ → List Term → ToolLine
 name_line name [] = if nat_le (length name) most_tool_name then Connect name else Bad
 name_line name (part ∷ parts) = Bad
@@ -44,17 +44,17 @@ named_line (layer.Str bytes) = Bad
 named_line (layer.Appl name parts) = name_line name parts
 named_line (layer.List parts) = Bad
 
--- one part, which is a name without parts
+-- a connect request: one part, which is a name without parts
 abbrev pub connect_line : Option Term → ToolLine
 connect_line None = Bad
 connect_line (Some part) = named_line (out-Term part)
 
--- no part
+-- a disconnect request: no part
 abbrev pub disconnect_line : List Term → ToolLine
 disconnect_line [] = Disconnect
 disconnect_line (part ∷ parts) = Bad
 
--- Which line a name with these parts is.
+-- the line that a name with these parts means
 abbrev pub line_by_name : List ℕ → List Term → ToolLine
 line_by_name name parts =
     if bytes_eq name (codes "snd-value") then value_line (only parts)
@@ -68,19 +68,19 @@ line_by_layer (layer.Str bytes) = Bad
 line_by_layer (layer.Appl name parts) = line_by_name name parts
 line_by_layer (layer.List parts) = Bad
 
--- Which line a term is.
+-- the line that a term means
 abbrev pub line_of : Term → ToolLine
 line_of term = line_by_layer (out-Term term)
 
--- how many bytes a line may have
+-- the most bytes of a line
 abbrev pub most_line_bytes : ℕ
 most_line_bytes = 65536
 
--- the bytes are no more than a line may have, and read as this term
+-- the bytes are at most as many as a line can have, and parse as this term
 abbrev pub Says : List ℕ → Term → Type 0
 Says bytes term = (length bytes ≤ most_line_bytes) × Reads bytes term
 
--- The bytes say a term, and are the line that it is; or they say none, and are a bad line.
+-- The line that the bytes mean. If the bytes say a term, it is the line that this term means. Otherwise it is a bad line.
 abbrev pub IsToolLine : List ℕ → ToolLine → Type 0
 IsToolLine bytes line =
     ((term : Term) × Says bytes term × (line ≡ line_of term))

@@ -1,4 +1,4 @@
-//! The line of a tool that a term is.
+//! The line of a tool that a term means.
 ghost use Rattle.std.specs.Prelude.{◌≡◌};
 ghost use Rattle.tb_terms.specs.declared.term.Term.{out-Term};
 ghost use Rattle.tb_tool_line.specs.ToolLines.{are_within, only, value_line, event_line, connect_line, named_line, name_line, disconnect_line, line_by_name, line_of};
@@ -8,7 +8,7 @@ use tb_terms::{
     MOST_TERM_SIZE, Name, Term, Terms, are_within_limits, is_within_limits, total_size,
 };
 
-/// The line that the term is; `Bad` where it is none.
+/// Returns the line that the term means, or `Bad` if the term means no other line.
 pub(crate) fn line_of(term: Term) -> ToolLine
     ensures { result ≡ line_of term }
 {
@@ -92,7 +92,7 @@ fn disconnect_line(parts: &Terms) -> ToolLine
     }
 }
 
-/// The one part, where there is no other.
+/// Returns the only part, if there is exactly one.
 fn only(mut parts: Terms) -> Option<Term>
     ensures { result ≡ only parts }
 {

@@ -1,4 +1,4 @@
-//! The line of a tool that some bytes are.
+//! The line of a tool that some bytes mean.
 ghost use Rattle.std.specs.Prelude.{◌≢◌, IfOk, OnOk};
 ghost use Rattle.tb_log.specs.Shapes.{IsToolLineInShape};
 ghost use Rattle.tb_tool_line.specs.ToolLines.{IsToolLine};
@@ -10,7 +10,7 @@ use tb_log::ToolLine;
 use tb_read::{Limits, TermFault, read_within};
 use tb_terms::{MOST_TERM_LEVELS, MOST_TERM_SIZE, NoMemory};
 
-/// The line of a tool that the bytes are; `Bad` where they are none.
+/// Reads a line of a tool. Returns `Bad` for more than 65,536 bytes, and for bytes that are no line. Fails only if memory runs out.
 pub fn read_tool_line(alloc: Global, bytes: &[u8]) -> Result<ToolLine, NoMemory>
     ensures line { IfOk result (IsToolLine bytes.now) }
     ensures shape { IfOk result IsToolLineInShape }
@@ -18,7 +18,7 @@ pub fn read_tool_line(alloc: Global, bytes: &[u8]) -> Result<ToolLine, NoMemory>
     if bytes.len() > MOST_LINE {
         return Ok(ToolLine::Bad);
     }
-    // The name around the parts, which have the limits of terms, is one more node and level.
+    // The parts have the limits of terms. The name around them adds less than 16 to the size, and 1 to the depth.
     let limits = Limits {
         size: MOST_TERM_SIZE + 16,
         levels: MOST_TERM_LEVELS + 1,
@@ -32,7 +32,7 @@ pub fn read_tool_line(alloc: Global, bytes: &[u8]) -> Result<ToolLine, NoMemory>
     }
 }
 
-/// Whether memory ran out, and no fault of the bytes was found.
+/// Fails if the parser ran out of memory. Any other error is one of the bytes.
 fn out_of_memory(fault: TermFault) -> Result<(), NoMemory>
     ensures { OnOk result (fault ≢ TermFault.NoMemory) }
 {

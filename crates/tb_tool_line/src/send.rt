@@ -1,4 +1,4 @@
-//! The text of an item that is sent, and the call that sends it on an outlet.
+//! The text of an output, and the call that sends an output to a write end.
 ghost use Rattle.std.specs.Prelude.{◌≡◌, ◌+◌, ◌^◌, ◌<◌, ◌≤◌, ◌++◌, [], ◌∷◌, true, false, OnOk, OnErr, vec_len, vec_capacity};
 ghost use Rattle.tb_edge.specs.Ends.{and_taken};
 ghost use Rattle.tb_edge.specs.Faults.{Rose};
@@ -11,17 +11,17 @@ use tb_edge::Outlet;
 use tb_log::Out;
 use tb_terms::{Term, show_proper, write_term};
 
-/// How many bytes the text of a line in shape may have.
+/// The most bytes of the text of a line in shape.
 pub const MOST_LINE_TEXT: usize = 1_376_320;
 
-/// Why something wasn't sent.
+/// Why an output wasn't sent.
 #[derive(Clone, Copy, Debug, PartialEq, Eq)]
 pub enum SendFault {
-    /// The outlet failed: it took nothing, and its count of faults rose.
+    /// A call of the write end failed: the write end took nothing, and its count of failures rose.
     Cut,
 }
 
-/// Writes the text of a line that is handed out at the end, without a newline. Takes no memory.
+/// Appends the text of a line for a tool, without a newline. Takes no memory.
 pub fn write_out(out: &Out, into: &mut Vec<u8>)
     requires shape { IsLineInShape out.now }
     requires room { vec_len into.old + most_line_text ≤ vec_capacity into.old }
@@ -47,9 +47,9 @@ fn write_line(term: &Term, into: &mut Vec<u8>)
     }
 }
 
-/// Makes one call of the outlet with what is handed out: `begin` with a start, `line` with the text
-/// of a line, `end` with an end. The buffer is for that text, and is empty again afterwards. Takes
-/// no memory.
+/// Sends an output to the write end by one call: `begin` with the command of a start, `line` with the text of a line, or `end`.
+/// Returns `Cut` if `begin` or `line` fails: then the write end has taken nothing. An end never fails. The buffer is for the text of a
+/// line, and is empty after the call. Takes no memory.
 pub fn send_out<O: Outlet>(outlet: &mut O, out: &Out, buffer: &mut Vec<u8>) -> Result<(), SendFault>
     requires shape { IsOutInShape out.now }
     requires empty { buffer.old.items ≡ [] }

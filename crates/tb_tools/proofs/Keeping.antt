@@ -1,4 +1,5 @@
--- What is found stays where one lane changes that is free as before, and whose tool keeps its number, its name and its stage.
+-- Searches find the same after one lane changes, if it is free if and only if it was free, and its tool keeps its number, name, and
+-- stage.
 use Rattle.std.proofs.Common.{◌≡◌, ◌⊎◌, inl, inr, ℕ, zero, suc, ◌+◌, ◌-◌, nat_le, Bool, true, false, ◌&&◌, cond, if◌then◌else◌, List, [], ◌∷◌, get_or, set, Option, Some, None, option_map, refl, ap, sym, ◌∙◌, subst}
 use Rattle.std.specs.List.{position_from, remove}
 use Rattle.std.specs.Str.{bytes_eq}
@@ -29,8 +30,7 @@ pub record IsLaneKept (before after : Lane) : Type 0 where
   pub free : is_free after ≡ is_free before
   pub tool : OfTools IsKept before.tool after.tool
 
--- a tool before and after, which gives nothing that it didn't: no evaluation was closed, and neither an answer nor an
--- event has come
+-- a tool before and after a change that closes no evaluation, and adds neither an answer nor an event
 pub record HasLess (before after : Tool) : Type 0 where
   pub kept : IsKept before after
   pub closed : is_closed after.eval ≡ true → is_closed before.eval ≡ true
@@ -123,7 +123,7 @@ first_at-kept name stage lane new bench h = ap (option_map (λ (found : FoundToo
 
 -- fewer events
 
--- what passes is there, whatever the first has as its number
+-- if an element passes, an element passes whatever number the first element has
 renumbered : {A : Type 0} (test : A → Bool) (n m : ℕ) (xs : List A) (place : ℕ) → position_from test n xs ≡ Some place → (other : ℕ) × (position_from test m xs ≡ Some other)
 renumbered test n m [] place e = cc
 renumbered {A = A} test n m (x ∷ xs) place e = by (test x) (renumbered test (n + 1) (m + 1) xs place) e
@@ -132,7 +132,7 @@ renumbered {A = A} test n m (x ∷ xs) place e = by (test x) (renumbered test (n
     by true rest h = (m, refl)
     by false rest h = rest h
 
--- what passes of those that are left passed before
+-- if one of the remaining elements passes, an element passed before
 removed-passes : {A : Type 0} (test : A → Bool) (n m : ℕ) (xs : List A) (at place : ℕ) → position_from test n (remove xs at) ≡ Some place → (other : ℕ) × (position_from test m xs ≡ Some other)
 removed-passes test n m [] zero place e = cc
 removed-passes test n m [] (suc at) place e = cc

@@ -50,7 +50,7 @@ first_lane-lowest test bench = by (position_from test 1 bench.lanes) (first-from
           λ other first below. h.4 (other - 1) (omega (arith, h.1)),
         )
 
--- of the candidates it has the smallest number, and where there is none, there are none
+-- the tool has the smallest number of the candidates; without a tool, there are no candidates
 abbrev IsLeast : (FoundTool → Type 0) → Option FoundTool → Type 0
 IsLeast C found = MatchOption found ((other : FoundTool) → C other → ⊥) (λ least. C least × ((other : FoundTool) → C other → least.number ≤ other.number))
 
@@ -160,7 +160,7 @@ first_at-smallest name stage bench = by (smallest_from name stage None 1 bench.l
     made : (lane : ℕ) (tool : Tool) → IsToolAt name stage bench lane tool → Candidate (record { number = tool.number; lane = lane })
     made lane tool h = inr (lane - 1, omega (arith, h.0.0, h.0.1), (tool, h.1, h.2, refl, omega (arith, h.0.0)))
 
-    -- and the other way round
+    -- a candidate is a tool on a lane
     there : (found : FoundTool) → Candidate found → (tool : Tool) × IsToolAt name stage bench found.lane tool × (found.number ≡ tool.number)
     there found (inl e) = cc
     there found (inr (k, l, h)) =

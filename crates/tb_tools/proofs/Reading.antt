@@ -1,4 +1,4 @@
--- Which lane stands where.
+-- The lanes by index and by number.
 use Rattle.std.proofs.Common.{◌≡◌, ℕ, ◌+◌, ◌-◌, ◌<◌, List, length, get_or, ap, sym, ◌∙◌, arith}
 use Rattle.std.proofs.lemmas.List.{get_or_default}
 use Rattle.tb_tools.specs.Lanes.{Lane, BenchState, unused, lane_at}

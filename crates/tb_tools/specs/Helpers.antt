@@ -1,2 +1,2 @@
--- Definitions that proofs and private functions need, and that nobody has to believe.
+-- Definitions that proofs and private functions need, and that you needn't trust.
 pub mod Room

@@ -1,4 +1,4 @@
-//! The bench: the sixteen lanes with their tools.
+//! The bench: the 16 lanes with their tools.
 ghost use Rattle.std.specs.Prelude.{◌≡◌, ◌≤◌, ◌<◌, ◌+◌, ◌-◌, length, pos, IsTrue, IsSome, IfOk, OnOk, OnErr, Some, option_map, map, count_by};
 ghost use Rattle.std.specs.Option.{option_copied, ForSome};
 ghost use Rattle.tb_log.specs.Shapes.{IsLane, lane_count};
@@ -19,13 +19,13 @@ use std::marker::Model;
 use tb_log::{LANES, Out, Reply, ToolLine, Why};
 use tb_terms::{Name, NoMemory, Patterns, Term, Terms, Text, Texts};
 
-/// The lanes, numbered from 1 to 16, with the tools that stand on them.
+/// The lanes, numbered from 1 to 16, with their tools.
 #[derive(Drop)]
 pub struct Bench {
     alloc: Global,
     lanes: Vec<LaneRow>,
     next_tool: u32,
-    /// Where this is set, no lane has anything to hand out.
+    /// A mark that is set only if no lane has a queued item.
     idle: bool,
 }
 
@@ -50,8 +50,8 @@ impl Model for Bench {
 }
 
 impl Bench {
-    /// The first lanes are started with the commands, and no tool has come. Takes the memory for
-    /// one end on each lane, and keeps it for good.
+    /// Makes a bench whose first lanes are started with the commands. No lane has a tool. Each lane gets memory for a last line and an
+    /// end, and always keeps the memory for an end.
     pub fn new(alloc: Global, connects: &Texts) -> Result<Bench, NoMemory>
         requires { length connects.now ≤ lane_count }
         ensures { IfOk result (λ bench. bench ≡ opening connects.now) }
@@ -70,14 +70,14 @@ impl Bench {
         Ok(bench)
     }
 
-    /// The number of the next tool.
+    /// Returns the number of the next tool.
     pub fn next_tool(&self) -> u32
         ensures { result ≡ self.now.next_tool }
     {
         self.next_tool
     }
 
-    /// The lowest lane that is free.
+    /// Returns the lowest free lane.
     pub fn free_lane(&self) -> Option<u8>
         ensures lane { result ≡ free_lane self.now }
         ensures within { ForSome result IsLane }
@@ -91,7 +91,7 @@ impl Bench {
         None
     }
 
-    /// The lane that has the tool with this term.
+    /// Returns the lowest lane that has a tool with this term.
     pub fn find_tool(&self, t: &Term) -> Option<u8>
         ensures lane { result ≡ find_tool t.now self.now }
         ensures within { ForSome result IsLane }
@@ -105,7 +105,7 @@ impl Bench {
         None
     }
 
-    /// The lane of the tool with the smallest number, of those with this name at this stage.
+    /// Returns the lane of the tool with the smallest number among the tools with this name and stage.
     pub fn first_at(&self, tool: &Name, stage: Stage) -> Option<u8>
         ensures lane { result ≡ first_at tool.now stage self.now }
         ensures within { ForSome result IsLane }
@@ -121,14 +121,14 @@ impl Bench {
         }
     }
 
-    /// There are 16 lanes. The call changes nothing.
+    /// States that there are 16 lanes. Changes nothing.
     pub fn show_lanes(&self)
         ensures { HasLanes self.now }
     {
         let _lanes = self.lanes.len();
     }
 
-    /// The state of a lane.
+    /// Returns the state of a lane.
     pub fn lane_state(&self, lane: u8) -> LaneState
         requires { IsLane lane }
         ensures { result ≡ lane_state (lane_at lane self.now) }
@@ -136,7 +136,7 @@ impl Bench {
         self.row(lane).state()
     }
 
-    /// The number of the tool of a lane.
+    /// Returns the number of a lane's tool, if there is one.
     pub fn number_on(&self, lane: u8) -> Option<u32>
         requires { IsLane lane }
         ensures { result ≡ option_map (λ tool. tool.number) (tool_at lane self.now) }
@@ -147,7 +147,7 @@ impl Bench {
         }
     }
 
-    /// Whether a lane is free.
+    /// Returns whether a lane can be started.
     pub fn is_free(&self, lane: u8) -> bool
         requires { IsLane lane }
         ensures { result ≡ is_free (lane_at lane self.now) }
@@ -155,7 +155,7 @@ impl Bench {
         self.row(lane).is_free()
     }
 
-    /// How far the tool of a lane is.
+    /// Returns the stage of a lane's tool.
     pub fn stage(&self, lane: u8) -> Stage
         requires lane { IsLane lane }
         requires tool { IsSome (tool_at lane self.now) }
@@ -164,7 +164,7 @@ impl Bench {
         self.tool_on(lane).stage()
     }
 
-    /// The term of the tool of a lane.
+    /// Returns the term of a lane's tool.
     pub fn tool(&self, lane: u8) -> &Term
         requires lane { IsLane lane }
         requires tool { IsSome (tool_at lane self.now) }
@@ -173,7 +173,7 @@ impl Bench {
         self.tool_on(lane).term()
     }
 
-    /// Whether the tool of a lane was asked to evaluate something, and hasn't answered.
+    /// Returns whether a lane has a tool that was asked to evaluate a term and hasn't answered.
     pub fn asked(&self, lane: u8) -> bool
         requires { IsLane lane }
         ensures { result ≡ has_asked (tool_at lane self.now) }
@@ -184,7 +184,7 @@ impl Bench {
         }
     }
 
-    /// The value with which the tool of a lane has answered.
+    /// Returns the answer of a lane's tool, if there is one that no process has taken yet.
     pub fn answer(&self, lane: u8) -> Option<&Term>
         requires { IsLane lane }
         ensures { option_copied result ≡ answer_at lane self.now }
@@ -195,7 +195,7 @@ impl Bench {
         }
     }
 
-    /// The events that wait on a lane.
+    /// Returns the waiting events of a lane's tool, the oldest first.
     pub fn events(&self, lane: u8) -> &Events
         requires lane { IsLane lane }
         requires tool { IsSome (tool_at lane self.now) }
@@ -204,7 +204,7 @@ impl Bench {
         self.tool_on(lane).events()
     }
 
-    /// The events that were received on a lane, and not acknowledged yet.
+    /// Returns the events of a lane's tool that were received and not yet acknowledged, in the order in which they were received.
     pub fn received(&self, lane: u8) -> &Events
         requires lane { IsLane lane }
         requires tool { IsSome (tool_at lane self.now) }
@@ -213,7 +213,7 @@ impl Bench {
         self.tool_on(lane).received()
     }
 
-    /// Whether a lane has a tool that is live.
+    /// Returns whether a lane has a live tool.
     pub fn is_live(&self, lane: u8) -> bool
         requires { IsLane lane }
         ensures { result ≡ is_live_at lane self.now }
@@ -224,7 +224,7 @@ impl Bench {
         }
     }
 
-    /// Whether a lane has a tool that is live or leaving.
+    /// Returns whether a lane has a tool that is live or leaving.
     pub fn is_taken(&self, lane: u8) -> bool
         requires { IsLane lane }
         ensures { result ≡ is_taken_at lane self.now }
@@ -235,7 +235,7 @@ impl Bench {
         }
     }
 
-    /// Whether a lane has a tool that is leaving.
+    /// Returns whether a lane has a leaving tool.
     pub fn can_leave(&self, lane: u8) -> bool
         requires { IsLane lane }
         ensures { result ≡ can_leave lane self.now }
@@ -246,7 +246,7 @@ impl Bench {
         }
     }
 
-    /// Whether a lane has a tool that is live and may be asked to evaluate something.
+    /// Returns whether a lane has a live tool without an open evaluation.
     pub fn can_eval(&self, lane: u8) -> bool
         requires { IsLane lane }
         ensures { result ≡ can_eval lane self.now }
@@ -257,7 +257,7 @@ impl Bench {
         }
     }
 
-    /// The oldest event that waits on a lane and matches.
+    /// Returns the oldest waiting event of a lane's tool that matches. Without a tool, there is none.
     pub fn find_event(&self, lane: u8, ps: &Patterns) -> Result<Option<FoundEvent>, NoMemory>
         requires { IsLane lane }
         ensures found { IfOk result (λ found. found ≡ oldest_event ps.now lane self.now) }
@@ -270,7 +270,7 @@ impl Bench {
         }
     }
 
-    /// The position of the oldest event that was received on a lane with just these terms.
+    /// Returns the position of the first received event of a lane's tool with exactly these terms. Without a tool, there is none.
     pub fn find_received(&self, lane: u8, ts: &Terms) -> Option<usize>
         requires { IsLane lane }
         ensures place { result ≡ oldest_received ts.now lane self.now }
@@ -282,7 +282,7 @@ impl Bench {
         }
     }
 
-    /// Returns what `line` would reply to a line of the program on a lane. Nothing changes.
+    /// Returns the reply that `line` would give to a line of the program on a lane. Changes nothing.
     pub fn reply_to(&self, lane: u8, l: &ToolLine, declared: bool) -> Reply
         requires { IsLane lane }
         ensures { result ≡ (put_line declared l.now lane self.now).reply }
@@ -293,7 +293,7 @@ impl Bench {
         }
     }
 
-    /// Returns what `gone` and `cut` would reply for a lane. Nothing changes.
+    /// Returns the reply that `gone` and `cut` would give for a lane. Changes nothing.
     pub fn reply_to_end(&self, lane: u8) -> Reply
         requires { IsLane lane }
         ensures gone { result ≡ (gone lane self.now).reply }
@@ -306,8 +306,8 @@ impl Bench {
         }
     }
 
-    /// The program on a lane has put a line. `declared` says whether there is a tool of the name by
-    /// which the line connects.
+    /// Takes or drops a line that the program on a lane has sent. `declared` states whether the script declares the name in a connect
+    /// request.
     pub fn line(&mut self, lane: u8, l: ToolLine, declared: bool) -> Result<Reply, NoMemory>
         requires lane { IsLane lane }
         requires room { self.old.next_tool ≤ most_tools }
@@ -322,6 +322,7 @@ impl Bench {
         Ok(Reply::Took)
     }
 
+    /// Makes the changes of a line that the lane doesn't drop.
     fn take_line(&mut self, lane: u8, line: ToolLine) -> Result<(), NoMemory>
         requires lane { IsLane lane }
         requires room { self.old.next_tool ≤ most_tools }
@@ -339,6 +340,7 @@ impl Bench {
         Ok(())
     }
 
+    /// Makes a waiting tool with this name on the lane.
     fn name_lane(&mut self, lane: u8, name: Name) -> Result<(), NoMemory>
         requires lane { IsLane lane }
         requires room { self.old.next_tool ≤ most_tools }
@@ -352,7 +354,8 @@ impl Bench {
         Ok(())
     }
 
-    /// The program on a lane has ended. Takes no memory.
+    /// Records that the program on a lane has ended. Clears the lane, which is no longer up, and its tool departs. If the lane isn't up,
+    /// drops the input. Takes no memory.
     pub fn gone(&mut self, lane: u8) -> Reply
         requires { IsLane lane }
         ensures reply { result ≡ (gone lane self.old).reply }
@@ -366,7 +369,8 @@ impl Bench {
         Reply::Took
     }
 
-    /// What was handed out on a lane couldn't be put. Takes no memory.
+    /// Records that an item couldn't be written to the program on a lane. Clears the lane, and its tool, if it has one, departs. If the
+    /// lane isn't up, drops the input. Takes no memory.
     pub fn cut(&mut self, lane: u8) -> Reply
         requires { IsLane lane }
         ensures reply { result ≡ (cut lane self.old).reply }
@@ -380,7 +384,7 @@ impl Bench {
         Reply::Took
     }
 
-    /// Starts a lane that is free with a tool's command, and gives the number of the tool.
+    /// Starts a free lane with a tool's command, and returns the number of the tool, which is live.
     pub fn execute(&mut self, lane: u8, tool: &Name, command: &Text) -> Result<i64, NoMemory>
         requires lane { IsLane lane }
         requires can { IsTrue (can_execute lane self.old) }
@@ -400,7 +404,7 @@ impl Bench {
         Ok(i64::from(number))
     }
 
-    /// The tool of a lane that waits is live from now on.
+    /// Makes the waiting tool of a lane live.
     pub fn connect(&mut self, lane: u8)
         requires lane { IsLane lane }
         requires can { IsTrue (can_connect lane self.old) }
@@ -410,7 +414,7 @@ impl Bench {
         self.lanes[index_of(lane)].connect();
     }
 
-    /// The tool of a lane that is leaving leaves it, with its events.
+    /// Releases the leaving tool of a lane, and forgets its events.
     pub fn leave(&mut self, lane: u8)
         requires lane { IsLane lane }
         requires can { IsTrue (can_leave lane self.old) }
@@ -420,7 +424,7 @@ impl Bench {
         self.lanes[index_of(lane)].set_tool(None);
     }
 
-    /// Asks the tool of a lane to evaluate the term.
+    /// Queues the request that the tool of a lane evaluate the term.
     pub fn eval(&mut self, lane: u8, t: Term) -> Result<(), NoMemory>
         requires lane { IsLane lane }
         requires can { IsTrue (can_eval lane self.old) }
@@ -431,7 +435,7 @@ impl Bench {
         self.lanes[index_of(lane)].eval(self.alloc, t)
     }
 
-    /// Takes the value with which the tool of a lane has answered.
+    /// Takes the answer of a lane's tool. No evaluation is open any more.
     pub fn value(&mut self, lane: u8) -> Term
         requires lane { IsLane lane }
         requires can { IsTrue (can_take_value lane self.old) }
@@ -442,7 +446,7 @@ impl Bench {
         self.lanes[index_of(lane)].take_answer()
     }
 
-    /// Tells the tool of a lane what to do.
+    /// Queues the request that the tool of a lane carry out the term.
     pub fn do_action(&mut self, lane: u8, t: Term) -> Result<(), NoMemory>
         requires lane { IsLane lane }
         requires can { IsTrue (can_do lane self.old) }
@@ -454,7 +458,7 @@ impl Bench {
         self.lanes[index_of(lane)].put(line)
     }
 
-    /// The event at this position is received.
+    /// Moves the waiting event at this position to the end of the received events.
     pub fn event(&mut self, lane: u8, place: usize) -> Result<(), NoMemory>
         requires lane { IsLane lane }
         requires can { IsTrue (can_take_event place lane self.old) }
@@ -465,7 +469,7 @@ impl Bench {
         self.lanes[index_of(lane)].receive(place)
     }
 
-    /// The received event at this position is forgotten, and the tool is told.
+    /// Removes the received event at this position, and queues the line that acknowledges it.
     pub fn ack(&mut self, lane: u8, place: usize) -> Result<(), NoMemory>
         requires lane { IsLane lane }
         requires can { IsTrue (can_ack place lane self.old) }
@@ -476,7 +480,7 @@ impl Bench {
         self.lanes[index_of(lane)].ack(self.alloc, place)
     }
 
-    /// Tells the tool of a lane to end, and it leaves the lane.
+    /// Queues the last line to the tool of a lane, and the lane's end. The tool leaves the lane.
     pub fn terminate(&mut self, lane: u8, t: Term) -> Result<(), NoMemory>
         requires lane { IsLane lane }
         requires can { IsTrue (can_terminate lane self.old) }
@@ -487,7 +491,7 @@ impl Bench {
         self.lanes[index_of(lane)].terminate(self.alloc, t)
     }
 
-    /// Each lane that is up and hasn't ended is told to end, with this reason.
+    /// Queues the last line with this reason, and an end, on each lane that is up and hasn't ended.
     pub fn down(&mut self, t: &Term) -> Result<(), NoMemory>
         ensures ok { OnOk result (self.new ≡ gone_down t.now self.old) }
         ensures err { OnErr result (self.new ≡ self.old) }
@@ -500,7 +504,7 @@ impl Bench {
         Ok(())
     }
 
-    /// What is to be handed out next on a lane.
+    /// Returns the next queued item of a lane, if there is one.
     pub fn next_out(&self, lane: u8) -> Option<&Out>
         requires { IsLane lane }
         ensures { option_copied result ≡ next_out lane self.now }
@@ -508,7 +512,7 @@ impl Bench {
         self.row(lane).next_out()
     }
 
-    /// The lowest lane that has something to hand out.
+    /// Returns the lowest lane that has a queued item.
     pub fn first_out(&self) -> Option<u8>
         ensures lane { result ≡ first_out self.now }
         ensures within { ForSome result IsLane }
@@ -525,7 +529,7 @@ impl Bench {
         None
     }
 
-    /// Takes what is to be handed out next on a lane.
+    /// Takes the next queued item of a lane.
     pub fn take_out(&mut self, lane: u8) -> Out
         requires lane { IsLane lane }
         requires some { IsSome (next_out lane self.old) }
@@ -535,7 +539,7 @@ impl Bench {
         self.take_handout(lane).given
     }
 
-    /// Takes it twice: for the tool, and for a log. Takes no memory.
+    /// Takes both copies of the next queued item of a lane: one for the tool, and one for a log. Takes no memory.
     pub fn take_handout(&mut self, lane: u8) -> Handout
         requires lane { IsLane lane }
         requires some { IsSome (next_out lane self.old) }
@@ -568,7 +572,7 @@ impl Bench {
     }
 }
 
-/// Where a lane stands.
+/// Returns the index of the lane with this number.
 fn index_of(lane: u8) -> usize
     requires { IsLane lane }
     ensures { (result ≡ lane - 1) × (result < lane_count) }
@@ -576,7 +580,7 @@ fn index_of(lane: u8) -> usize
     usize::from(lane) - 1
 }
 
-/// Lanes that are started with these commands.
+/// Makes a lane for each command, started with this command.
 fn started_lanes(alloc: Global, commands: &Texts) -> Result<Vec<LaneRow>, NoMemory>
     ensures { IfOk result
         (λ lanes. lanes.items ≡ map (λ command. started command unused) commands.now) }
@@ -590,7 +594,7 @@ fn started_lanes(alloc: Global, commands: &Texts) -> Result<Vec<LaneRow>, NoMemo
     Ok(lanes)
 }
 
-/// How many lanes are up and haven't ended.
+/// Returns how many lanes are up and haven't ended.
 fn open_count(lanes: &[LaneRow]) -> usize
     ensures { result ≡ count_by is_open lanes.now }
 {
@@ -603,7 +607,7 @@ fn open_count(lanes: &[LaneRow]) -> usize
     count
 }
 
-/// The number of the lane that stands there.
+/// Returns the number of the lane at this index.
 fn number_of(index: usize) -> u8
     requires { index < lane_count }
     ensures { result ≡ index + 1 }

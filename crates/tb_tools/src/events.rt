@@ -32,7 +32,7 @@ impl Model for Events {
 }
 
 impl Events {
-    /// Takes no memory.
+    /// Makes an empty list of events. Takes no memory.
     pub(crate) fn new(alloc: Global) -> Events
         ensures { result ≡ [] }
     {
@@ -41,21 +41,21 @@ impl Events {
         }
     }
 
-    /// How many there are.
+    /// Returns the number of events.
     pub fn len(&self) -> usize
         ensures { result ≡ length self.now }
     {
         self.queue.len()
     }
 
-    /// The event at this position, from 0.
+    /// Returns the event at this position, from 0.
     pub fn get(&self, place: usize) -> Option<&Terms>
         ensures { option_copied result ≡ slice_get self.now place }
     {
         self.queue.get(place)
     }
 
-    /// The event at this position in memory of its own.
+    /// Copies the event at this position.
     pub(crate) fn copy_at(&self, alloc: Global, place: usize) -> Result<Terms, NoMemory>
         requires { place < length self.now }
         ensures { IfOk result (λ copy. copy ≡ slice_index_or self.now place []) }
@@ -63,7 +63,7 @@ impl Events {
         copy_terms(alloc, &self.queue[place])
     }
 
-    /// The event stands last.
+    /// Adds the event at the end.
     pub(crate) fn push(&mut self, event: Terms) -> Result<(), NoMemory>
         ensures ok { OnOk result (self.new ≡ self.old ++ event ∷ []) }
         ensures err { OnErr result (self.new ≡ self.old) }
@@ -72,7 +72,7 @@ impl Events {
         Ok(())
     }
 
-    /// The event at this position leaves.
+    /// Removes the event at this position, and returns it.
     pub(crate) fn remove(&mut self, place: usize) -> Terms
         requires { place < length self.old }
         ensures event { result ≡ slice_index_or self.old place [] }
@@ -84,7 +84,7 @@ impl Events {
         }
     }
 
-    /// The event at this position leaves, and stands last among the others.
+    /// Moves the event at this position to the end of the other events.
     pub(crate) fn pass_on(&mut self, place: usize, others: &mut Events) -> Result<(), NoMemory>
         requires { place < length self.old }
         ensures left { OnOk result (self.new ≡ remove self.old place) }
@@ -98,7 +98,7 @@ impl Events {
         Ok(())
     }
 
-    /// The oldest event that matches.
+    /// Returns the oldest event that matches, with its position and its binds.
     pub(crate) fn first_match(&self, patterns: &Patterns) -> Result<Option<FoundEvent>, NoMemory>
         ensures found { IfOk result (λ found. found ≡ first_match 0 patterns.now self.now) }
         ensures within { IfOk result (λ found. ForSome found (λ at. at.place < length self.now)) }
@@ -112,7 +112,7 @@ impl Events {
         Ok(None)
     }
 
-    /// The position of the oldest event with just these terms.
+    /// Returns the position of the oldest event with exactly these terms.
     pub(crate) fn position_of(&self, terms: &Terms) -> Option<usize>
         ensures place { result ≡ position_from (is_same_terms terms.now) 0 self.now }
         ensures within { IfSome result (λ place. place < length self.now) }

@@ -4,21 +4,23 @@ ghost use Rattle.tb_tools.specs.Finding.{smaller};
 
 use tb_match::Binds;
 
-/// The event at this position matches, and this is what it binds.
+/// An event that matches.
 #[derive(Drop)]
 pub struct FoundEvent {
+    /// The position of the event in its list, from 0.
     pub place: usize,
+    /// The binds of the match.
     pub binds: Binds,
 }
 
-/// A tool by its number, and its lane.
+/// The number of a tool, and its lane.
 #[derive(Clone, Copy)]
 pub(crate) struct FoundTool {
     pub number: u32,
     pub lane: u8,
 }
 
-/// The one with the smaller number.
+/// Returns the tool with the smaller number: the best so far, or the tool with this number on this lane.
 pub(crate) fn smaller(best: Option<FoundTool>, number: u32, lane: u8) -> FoundTool
     ensures { result ≡ smaller best (record { number = number; lane = lane }) }
 {

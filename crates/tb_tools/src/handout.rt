@@ -7,15 +7,16 @@ use std::marker::Model;
 use tb_log::Out;
 use tb_terms::NoMemory;
 
-/// One item that was to be handed out on a lane, twice: for the tool, and for a log.
+/// Two copies of an item to send on a lane: one for the tool, and one for a log.
 #[derive(Drop)]
 pub struct Handout {
+    /// The copy for the tool.
     pub given: Out,
+    /// The copy for the log.
     pub logged: Out,
 }
 
-/// An item that waits on a lane. It is kept twice, so that it can be handed out and logged without
-/// memory. Contracts see the item.
+/// An item that is queued on a lane. It is kept twice, so that it can be sent and logged without taking memory. Contracts see one item.
 #[derive(Drop)]
 pub(crate) struct KeptOut {
     handout: Handout,
@@ -36,7 +37,7 @@ impl Model for KeptOut {
 }
 
 impl KeptOut {
-    /// Keeps the item twice.
+    /// Keeps the item and a copy of it.
     pub fn new(alloc: Global, out: Out) -> Result<KeptOut, NoMemory>
         ensures { IfOk result (λ kept. kept ≡ out) }
     {
@@ -54,20 +55,21 @@ impl KeptOut {
         }
     }
 
-    /// The end of a lane. Takes no memory.
+    /// Makes the end of a lane. Takes no memory.
     pub fn end() -> KeptOut
         ensures { result ≡ End }
     {
         KeptOut::of(Out::End, Out::End)
     }
 
+    /// Returns the item.
     pub fn item(&self) -> &Out
         ensures { result.now ≡ self.now }
     {
         &self.handout.given
     }
 
-    /// The item, twice.
+    /// Returns both copies of the item.
     pub fn into_handout(self) -> Handout
         ensures given { result.given ≡ self }
         ensures logged { result.logged ≡ self }

@@ -1,4 +1,4 @@
-//! A lane: its state, its tool and the items that are queued for sending.
+//! A lane: its state, its tool, and the items that are queued for sending.
 ghost use Rattle.std.specs.Prelude.{◌≡◌, ◌<◌, ◌+◌, ℕ, length, slice_get, option_map, IsSome, IfOk, OnOk, OnErr, Some, None, false, replicate, if◌then◌else◌};
 ghost use Rattle.std.specs.Option.{option_copied};
 ghost use Rattle.tb_log.specs.declared.entry.Out.{Out};
@@ -19,10 +19,10 @@ use std::marker::Model;
 use tb_log::{Out, ToolLine, Why};
 use tb_terms::{Name, NoMemory, Term, Terms, Text};
 
-/// How many items a lane may always take: a tool's last line, and the lane's end.
+/// The number of items that a lane that hasn't ended can always take without more memory: a tool's last line, and the lane's end.
 const LAST_ITEMS: usize = 2;
 
-/// One lane. Contracts see it without its memory.
+/// One lane. Contracts don't see the memory that it keeps.
 #[derive(Drop)]
 pub(crate) struct LaneRow {
     up: bool,
@@ -48,7 +48,7 @@ impl Model for LaneRow {
 }
 
 impl LaneRow {
-    /// A lane that was never started, with the memory that each lane keeps.
+    /// Makes a lane that was never started, with memory for a last line and an end.
     pub fn unused(alloc: Global) -> Result<LaneRow, NoMemory>
         ensures { IfOk result (λ lane. lane ≡ unused) }
     {
@@ -60,25 +60,28 @@ impl LaneRow {
         })
     }
 
+    /// Returns whether the lane is up.
     pub fn is_up(&self) -> bool
         ensures { result ≡ self.now.up }
     {
         self.up
     }
 
-    /// Whether it is up and hasn't ended.
+    /// Returns whether the lane is up and hasn't ended.
     pub fn is_open(&self) -> bool
         ensures { result ≡ is_open self.now }
     {
         self.up && !self.ended
     }
 
+    /// Returns whether the lane can be started.
     pub fn is_free(&self) -> bool
         ensures { result ≡ is_free self.now }
     {
         !self.up && self.tool.is_none() && self.outs.is_empty()
     }
 
+    /// Returns the state of the lane.
     pub fn state(&self) -> LaneState
         ensures { result ≡ lane_state self.now }
     {
@@ -94,13 +97,14 @@ impl LaneRow {
         }
     }
 
+    /// Returns the tool of the lane, if there is one.
     pub fn tool(&self) -> Option<&LaneTool>
         ensures { option_copied result ≡ self.now.tool }
     {
         self.tool.as_ref()
     }
 
-    /// Whether it has the tool with this term.
+    /// Returns whether the lane has the tool with this term.
     pub fn has_tool(&self, term: &Term) -> bool
         ensures { result ≡ has_tool term.now self.now }
     {
@@ -110,7 +114,8 @@ impl LaneRow {
         }
     }
 
-    /// The best so far, or the tool of this lane where that has a smaller number.
+    /// Returns the tool of this lane if it has the name and the stage, and a smaller number than the best so far. Otherwise, returns the
+    /// best so far. Without a best so far, the tool needs only the name and the stage.
     pub fn smaller(
         &self,
         name: &Name,
@@ -126,7 +131,7 @@ impl LaneRow {
         }
     }
 
-    /// Sets it up, forgets that it ended, and puts the command.
+    /// Starts the lane: it is up and hasn't ended, and the command is queued.
     pub fn start(&mut self, alloc: Global, command: Text) -> Result<(), NoMemory>
         ensures ok { OnOk result (self.new ≡ started command self.old) }
         ensures err { OnErr result (self.new ≡ self.old) }
@@ -139,14 +144,14 @@ impl LaneRow {
         Ok(())
     }
 
-    /// Gives it this tool, or none.
+    /// Sets or removes the tool of the lane.
     pub fn set_tool(&mut self, tool: Option<LaneTool>)
         ensures { self.new ≡ record self.old { tool = tool } }
     {
         self.tool = tool;
     }
 
-    /// The item stands last.
+    /// Queues the item after the others.
     pub fn put(&mut self, out: KeptOut) -> Result<(), NoMemory>
         ensures ok { OnOk result (self.new ≡ with_out out self.old) }
         ensures err { OnErr result (self.new ≡ self.old) }
@@ -156,7 +161,8 @@ impl LaneRow {
         Ok(())
     }
 
-    /// Leaves nothing but its end to be handed out.
+    /// Clears the lane: discards the queued items, and queues the lane's end. If the lane has ended and no item is queued, nothing
+    /// changes. Takes no memory.
     pub fn flush(&mut self)
         ensures { self.new ≡ flushed self.old }
     {
@@ -168,7 +174,7 @@ impl LaneRow {
         self.ended = true;
     }
 
-    /// Flushes it, and its tool goes.
+    /// Clears the lane, and its tool departs. Takes no memory.
     pub fn close(&mut self)
         ensures { self.new ≡ closed self.old }
     {
@@ -179,7 +185,7 @@ impl LaneRow {
         };
     }
 
-    /// The same, and it isn't up.
+    /// Clears the lane, and its tool departs. The lane is no longer up. Takes no memory.
     pub fn lose(&mut self)
         ensures { self.new ≡ lost self.old }
     {
@@ -187,7 +193,8 @@ impl LaneRow {
         self.up = false;
     }
 
-    /// Why it drops this line.
+    /// Returns the reason why the lane drops this line, or `None` if the lane takes it. `declared` states whether the script declares the
+    /// name in a connect request.
     pub fn drops(&self, line: &ToolLine, declared: bool) -> Option<Why>
         ensures { result ≡ dropped declared line.now self.now }
     {
@@ -205,7 +212,7 @@ impl LaneRow {
         }
     }
 
-    /// Its tool has answered.
+    /// Records that the lane's tool has answered with this value.
     pub fn set_answer(&mut self, value: Term)
         ensures { self.new ≡ answered value self.old }
     {
@@ -214,7 +221,7 @@ impl LaneRow {
         }
     }
 
-    /// An event of its tool waits.
+    /// Adds the event at the end of the tool's waiting events.
     pub fn push_event(&mut self, event: Terms) -> Result<(), NoMemory>
         ensures ok { OnOk result (self.new ≡ with_event event self.old) }
         ensures err { OnErr result (self.new ≡ self.old) }
@@ -225,7 +232,7 @@ impl LaneRow {
         Ok(())
     }
 
-    /// Its tool is live.
+    /// Makes the lane's tool live.
     pub fn connect(&mut self)
         ensures { self.new ≡ with_live_tool self.old }
     {
@@ -234,7 +241,7 @@ impl LaneRow {
         }
     }
 
-    /// Its tool is asked to evaluate the term.
+    /// Queues the request that the lane's tool evaluate the term, and records that the tool was asked.
     pub fn eval(&mut self, alloc: Global, term: Term) -> Result<(), NoMemory>
         ensures ok { OnOk result (self.new ≡ with_question term self.old) }
         ensures err { OnErr result (self.new ≡ self.old) }
@@ -252,7 +259,7 @@ impl LaneRow {
         }
     }
 
-    /// Takes the value with which its tool has answered.
+    /// Takes the answer of the lane's tool. No evaluation is open any more.
     pub fn take_answer(&mut self) -> Term
         requires { IsSome (answer_by self.old.tool) }
         ensures value { answer_by self.old.tool ≡ Some result }
@@ -264,7 +271,7 @@ impl LaneRow {
         }
     }
 
-    /// The event at this position is received.
+    /// Moves the waiting event at this position to the end of the received events.
     pub fn receive(&mut self, place: usize) -> Result<(), NoMemory>
         requires { place < length (events_of self.old.tool) }
         ensures ok { OnOk result (self.new ≡ with_received place self.old) }
@@ -276,7 +283,7 @@ impl LaneRow {
         Ok(())
     }
 
-    /// The received event at this position is forgotten, and its tool is told.
+    /// Removes the received event at this position, and queues the line that acknowledges it.
     pub fn ack(&mut self, alloc: Global, place: usize) -> Result<(), NoMemory>
         requires { place < length (received_of self.old.tool) }
         ensures ok { OnOk result (self.new ≡ with_acknowledged place self.old) }
@@ -290,7 +297,7 @@ impl LaneRow {
         Ok(())
     }
 
-    /// Its tool is told to end, and leaves it.
+    /// Queues the last line to the tool and the lane's end. The lane has ended, and has no tool.
     pub fn terminate(&mut self, alloc: Global, term: Term) -> Result<(), NoMemory>
         ensures ok { OnOk result (self.new ≡ without_tool (ended_with (last_line term) self.old)) }
         ensures err { OnErr result (self.new ≡ self.old) }
@@ -304,7 +311,7 @@ impl LaneRow {
         Ok(())
     }
 
-    /// Where it is open, puts one of the lines, and its end. Takes no memory.
+    /// If the lane is up and hasn't ended, takes one of the lines, and queues it and the lane's end. Takes no memory.
     pub fn dismiss(&mut self, lines: &mut Vec<KeptOut>)
         ensures { (line : Out) (left : ℕ)
             → lines.old.items ≡ replicate ((if is_open self.old then 1 else 0) + left) line
@@ -326,7 +333,7 @@ impl LaneRow {
         self.ended = true;
     }
 
-    /// What is to be handed out next.
+    /// Returns the next queued item, if there is one.
     pub fn next_out(&self) -> Option<&Out>
         ensures { option_copied result ≡ slice_get self.now.outs 0 }
     {
@@ -336,14 +343,14 @@ impl LaneRow {
         }
     }
 
-    /// Whether it has something to hand out.
+    /// Returns whether the lane has a queued item.
     pub fn has_out(&self) -> bool
         ensures { result ≡ has_out self.now }
     {
         !self.outs.is_empty()
     }
 
-    /// The first of what is to be handed out leaves.
+    /// Takes the next queued item.
     pub fn take_out(&mut self) -> KeptOut
         requires { 0 < length self.old.outs }
         ensures out { slice_get self.old.outs 0 ≡ Some result }

@@ -1,4 +1,4 @@
-//! What holds of every bench. The calls change nothing: their contracts are the laws.
+//! Theorems about all benches. The calls change nothing: their contracts are the theorems.
 
 ghost use Rattle.std.specs.Prelude.{◌≡◌, ◌∷◌, ◌↔◌, Bool, List, ℕ, MatchOption, Some, IsTrue};
 ghost use Rattle.tb_terms.specs.declared.term.Term.{Term};
@@ -16,7 +16,7 @@ ghost use Rattle.tb_tools.specs.Acts.{events_at};
 ghost use Rattle.tb_tools.specs.First.{NoLane, IsFirstLane, NoToolAt, HasSmallest, NoneMatches, IsOldest};
 ghost use Rattle.tb_tools.specs.Numbers.{OthersStay, IsNumbered, KeepsNumbers};
 
-/// What comes from a lane changes that lane alone.
+/// States that an input from a lane changes only this lane.
 pub fn inputs_leave_other_lanes()
     ensures line { (declared : Bool) (line : ToolLine)
         → OthersStay (λ lane bench. (put_line declared line lane bench).bench) }
@@ -24,7 +24,7 @@ pub fn inputs_leave_other_lanes()
     ensures cut { OthersStay (λ lane bench. (cut lane bench).bench) }
 {}
 
-/// What is done to a lane changes that lane alone. `down` is done to all.
+/// States that an action on a lane, or an output, changes only this lane. `down` isn't one of these calls: it changes all open lanes.
 pub fn acts_leave_other_lanes()
     ensures execute { (name command : List ℕ) → OthersStay (executed name command) }
     ensures connect { OthersStay connected }
@@ -38,8 +38,8 @@ pub fn acts_leave_other_lanes()
     ensures take_out { OthersStay handed_out }
 {}
 
-/// No two tools have the same number, and none has the number 0: that is so of the opening bench,
-/// and inputs keep it.
+/// States that no two tools have the same number, and that each number is at least 1 and below the number of the next tool. This holds
+/// for each initial bench, and inputs keep it.
 pub fn inputs_keep_numbers()
     ensures opening { (commands : List (List ℕ)) → IsNumbered (opening commands) }
     ensures line { (declared : Bool) (line : ToolLine) (lane : ℕ)
@@ -48,7 +48,7 @@ pub fn inputs_keep_numbers()
     ensures cut { (lane : ℕ) → KeepsNumbers (λ bench. (cut lane bench).bench) }
 {}
 
-/// What is done to lanes keeps it too.
+/// States that actions on lanes, outputs, and a shutdown keep the numbering that `inputs_keep_numbers` states.
 pub fn acts_keep_numbers()
     ensures execute { (name command : List ℕ) (lane : ℕ)
         → KeepsNumbers (executed name command lane) }
@@ -64,42 +64,42 @@ pub fn acts_keep_numbers()
     ensures take_out { (lane : ℕ) → KeepsNumbers (handed_out lane) }
 {}
 
-/// Where tools are numbered so, a term names one tool at most.
+/// States that a term is that of at most one tool, if the tools have the numbering that `inputs_keep_numbers` states.
 pub fn a_term_names_one_tool()
     ensures { (bench : BenchState) (lane other : ℕ) (tool another : Tool) → IsNumbered bench
         → IsLane lane → IsLane other → tool_at lane bench ≡ Some tool
         → tool_at other bench ≡ Some another → term_of tool ≡ term_of another → lane ≡ other }
 {}
 
-/// The lowest lane that passes a test is found, and where none is found, none passes.
+/// States that the search finds the lowest lane that passes a test. If no lane is found, no lane passes.
 pub fn first_lane_is_lowest()
     ensures { (test : Lane → Bool) (bench : BenchState)
         → MatchOption (first_lane test bench) (NoLane test bench) (IsFirstLane test bench) }
 {}
 
-/// The tool that is found by name and stage has the smallest number, and where none is found, no
-/// lane has such a tool.
+/// States that the tool that is found by name and stage has the smallest number among such tools. If no tool is found, no lane has such a
+/// tool.
 pub fn first_tool_has_the_smallest_number()
     ensures { (name : List ℕ) (stage : Stage) (bench : BenchState)
         → MatchOption (first_at name stage bench) (NoToolAt name stage bench)
         (HasSmallest name stage bench) }
 {}
 
-/// The event that is found is the first of all that match, and where none is found, none matches.
+/// States that the event that is found is the first event that matches. If no event is found, no event matches.
 pub fn oldest_event_is_first()
     ensures { (patterns : List Pattern) (lane : ℕ) (bench : BenchState)
         → MatchOption (oldest_event patterns lane bench)
         (NoneMatches patterns (events_at lane bench)) (IsOldest patterns (events_at lane bench)) }
 {}
 
-/// What is handed out next stands first, and the others keep their order.
+/// States that the next item to send is the first queued item, and that the other items keep their order.
 pub fn what_is_next_stands_first()
     ensures { (lane : ℕ) (bench : BenchState) (out : Out) → IsLane lane
         → next_out lane bench ≡ Some out
         → outs_at lane bench ≡ out ∷ outs_at lane (handed_out lane bench) }
 {}
 
-/// The state of a lane is `Free` exactly where it may be started.
+/// States that the state of a lane is `Free` if and only if the lane can be started.
 pub fn free_lanes_may_be_started()
     ensures { (lane : Lane) → (lane_state lane ≡ state.Free) ↔ IsTrue (is_free lane) }
 {}

@@ -1,5 +1,4 @@
-//! The lanes on which tools stand: which tool each has, what the tools have put, and what is to be
-//! handed out to them.
+//! The lanes of a bus: the tool of each lane, its answer and its events, and the items that are queued for sending.
 #![tactic(auto)]
 
 mod bench;

@@ -1,41 +1,41 @@
-//! The stages of a tool, its evaluation and the states of a lane.
+//! The stages of a tool, the states of its evaluation, and the states of a lane.
 use tb_terms::Term;
 
-/// How far a tool is.
+/// The stage of a tool.
 #[derive(Clone, Copy, Debug, PartialEq, Eq)]
 pub enum Stage {
-    /// It has named itself, and no process has taken it yet.
+    /// The stage of a tool that has sent a connect request, if no process has accepted the tool yet.
     Waiting,
-    /// Processes may use it.
+    /// The stage of a tool that processes can use.
     Live,
-    /// It has ended, was cut off, or says that it leaves, and no process has noticed yet.
+    /// The stage of a tool that has ended, was cut off, or has sent a disconnect request, if no process has released the tool yet.
     Leaving,
 }
 
-/// What a tool is asked to evaluate.
+/// The state of a tool's evaluation.
 #[derive(Drop)]
 pub(crate) enum Eval {
-    /// Nothing.
+    /// No open evaluation.
     Closed,
-    /// It was asked, and hasn't answered.
+    /// An evaluation that the tool was asked for and hasn't answered.
     Asked,
-    /// It has answered with this value, and no process has taken it yet.
+    /// The value with which the tool has answered, if no process has taken the value yet.
     Answered(Term),
 }
 
-/// What may be said of a lane.
+/// The state of a lane.
 #[derive(Clone, Copy, Debug, PartialEq, Eq)]
 pub enum LaneState {
-    /// It may be started.
+    /// The state of a lane that can be started.
     Free,
-    /// It is up, and no tool has named itself.
+    /// The state of a lane that is up, hasn't ended, and has no tool.
     Unnamed,
-    /// Its tool has named itself, and no process has taken it yet.
+    /// The state of a lane with a waiting tool (`Stage::Waiting`).
     Waiting,
-    /// Processes may use its tool.
+    /// The state of a lane with a live tool (`Stage::Live`).
     Live,
-    /// Its tool has ended, was cut off, or says that it leaves, and no process has noticed yet.
+    /// The state of a lane with a leaving tool (`Stage::Leaving`).
     Leaving,
-    /// It has no tool, and isn't free yet.
+    /// The state of a lane that has no tool, isn't free yet, and has ended or isn't up.
     Ending,
 }

@@ -1,4 +1,4 @@
-//! The lines to a tool.
+//! The lines that the bus sends to tools.
 ghost use Rattle.std.specs.Prelude.{◌≡◌, [], ◌∷◌, IsTrue, IfOk, codes, replicate};
 ghost use Rattle.tb_terms.specs.Names.{is_name};
 ghost use Rattle.tb_tools.specs.Acts.{tool_line, last_line};
@@ -8,7 +8,7 @@ use std::alloc::Global;
 use tb_log::Out;
 use tb_terms::{Items, Name, NoMemory, Term, Terms};
 
-/// The line to a tool that is this word with one part.
+/// Makes the line to a tool that has this word and one part.
 pub(crate) fn line_with(alloc: Global, word: &[u8], part: Term) -> Result<KeptOut, NoMemory>
     requires { IsTrue (is_name word.now) }
     ensures { IfOk result (λ out. out ≡ tool_line word.now (part ∷ [])) }
@@ -19,14 +19,14 @@ pub(crate) fn line_with(alloc: Global, word: &[u8], part: Term) -> Result<KeptOu
     KeptOut::new(alloc, Out::Line(line))
 }
 
-/// The last line to a tool.
+/// Makes the last line to a tool.
 pub(crate) fn last_line(alloc: Global, reason: Term) -> Result<KeptOut, NoMemory>
     ensures { IfOk result (λ out. out ≡ last_line reason) }
 {
     line_with(alloc, b"rec-terminate", reason)
 }
 
-/// The last line for so many tools.
+/// Makes the last line for each of this number of tools.
 pub(crate) fn last_lines(
     alloc: Global,
     reason: &Term,

@@ -18,12 +18,12 @@ use std::mem;
 use tb_log::Out;
 use tb_terms::{Items, Name, NoMemory, Term, Terms};
 
-/// A tool that stands on a lane.
+/// A tool on a lane.
 #[derive(Drop)]
 pub(crate) struct LaneTool {
     number: u32,
     name: Name,
-    /// The name with the number.
+    /// The term of the tool: its name with its number.
     term: Term,
     stage: Stage,
     eval: Eval,
@@ -54,7 +54,7 @@ impl Model for LaneTool {
 }
 
 impl LaneTool {
-    /// A tool that has just come.
+    /// Makes a tool without an open evaluation and without events.
     pub fn new(alloc: Global, name: Name, number: u32, stage: Stage) -> Result<LaneTool, NoMemory>
         ensures { IfOk result (λ tool. tool ≡ new_tool name number stage) }
     {
@@ -72,46 +72,49 @@ impl LaneTool {
         })
     }
 
+    /// Returns the number of the tool.
     pub fn number(&self) -> u32
         ensures { result ≡ self.now.number }
     {
         self.number
     }
 
+    /// Returns the stage of the tool.
     pub fn stage(&self) -> Stage
         ensures { result ≡ self.now.stage }
     {
         self.stage
     }
 
-    /// Its name with its number.
+    /// Returns the term of the tool: its name with its number.
     pub fn term(&self) -> &Term
         ensures { result.now ≡ term_of self.now }
     {
         &self.term
     }
 
-    /// Whether this is its term.
+    /// Returns whether this is the term of the tool.
     pub fn is_named(&self, term: &Term) -> bool
         ensures { result ≡ is_same_term term.now (term_of self.now) }
     {
         is_tool_term(term, &self.name, self.number)
     }
 
-    /// Whether it has this name and is at this stage.
+    /// Returns whether the tool has this name and is at this stage.
     pub fn is_at(&self, name: &Name, stage: Stage) -> bool
         ensures { result ≡ is_at name.now stage self.now }
     {
         self.name.as_bytes() == name.as_bytes() && self.stage == stage
     }
 
+    /// Returns whether the tool is live.
     pub fn is_live(&self) -> bool
         ensures { result ≡ is_same_stage self.now.stage stage.Live }
     {
         matches!(self.stage, Stage::Live)
     }
 
-    /// Whether it is live or leaving.
+    /// Returns whether the tool is live or leaving.
     pub fn is_taken(&self) -> bool
         ensures { result ≡ (is_same_stage self.now.stage stage.Live
             || is_same_stage self.now.stage stage.Leaving) }
@@ -119,27 +122,28 @@ impl LaneTool {
         matches!(self.stage, Stage::Live | Stage::Leaving)
     }
 
+    /// Returns whether the tool is leaving.
     pub fn is_leaving(&self) -> bool
         ensures { result ≡ is_same_stage self.now.stage stage.Leaving }
     {
         matches!(self.stage, Stage::Leaving)
     }
 
-    /// Whether no evaluation is open.
+    /// Returns whether no evaluation is open.
     pub fn is_closed(&self) -> bool
         ensures { result ≡ is_closed self.now.eval }
     {
         matches!(self.eval, Eval::Closed)
     }
 
-    /// Whether it was asked to evaluate something, and hasn't answered.
+    /// Returns whether the tool was asked to evaluate a term and hasn't answered.
     pub fn is_asked(&self) -> bool
         ensures { result ≡ is_asked self.now.eval }
     {
         matches!(self.eval, Eval::Asked)
     }
 
-    /// The value with which it has answered.
+    /// Returns the tool's answer, if the tool has answered and no process has taken the answer yet.
     pub fn answer(&self) -> Option<&Term>
         ensures { option_copied result ≡ answer_of self.now.eval }
     {
@@ -149,26 +153,28 @@ impl LaneTool {
         }
     }
 
+    /// Returns the waiting events.
     pub fn events(&self) -> &Events
         ensures { result.now ≡ self.now.events }
     {
         &self.events
     }
 
+    /// Returns the events that were received and not yet acknowledged.
     pub fn received(&self) -> &Events
         ensures { result.now ≡ self.now.received }
     {
         &self.received
     }
 
-    /// It is live.
+    /// Makes the tool live.
     pub fn connect(&mut self)
         ensures { self.new ≡ record self.old { stage = stage.Live } }
     {
         self.stage = Stage::Live;
     }
 
-    /// What is left of it as it goes.
+    /// Returns the tool after it departs: a live tool is leaving, a waiting tool is forgotten, and a leaving tool stays.
     pub fn depart(mut self) -> Option<LaneTool>
         ensures { result ≡ departed (Some self) }
     {
@@ -182,21 +188,21 @@ impl LaneTool {
         }
     }
 
-    /// It is asked to evaluate something.
+    /// Records that the tool was asked to evaluate a term.
     pub fn ask(&mut self)
         ensures { self.new ≡ record self.old { eval = eval.Asked } }
     {
         self.eval = Eval::Asked;
     }
 
-    /// It has answered.
+    /// Records that the tool has answered with this value.
     pub fn set_answer(&mut self, value: Term)
         ensures { self.new ≡ record self.old { eval = eval.Answered value } }
     {
         self.eval = Eval::Answered(value);
     }
 
-    /// Takes the value with which it has answered.
+    /// Takes the tool's answer. No evaluation is open any more.
     pub fn take_answer(&mut self) -> Term
         requires { IsSome (answer_of self.old.eval) }
         ensures value { answer_of self.old.eval ≡ Some result }
@@ -208,7 +214,7 @@ impl LaneTool {
         }
     }
 
-    /// The event waits.
+    /// Adds the event at the end of the waiting events.
     pub fn push_event(&mut self, event: Terms) -> Result<(), NoMemory>
         ensures ok { OnOk result
             (self.new ≡ record self.old { events = self.old.events ++ event ∷ [] }) }
@@ -217,7 +223,7 @@ impl LaneTool {
         self.events.push(event)
     }
 
-    /// The event at this position is received.
+    /// Moves the waiting event at this position to the end of the received events.
     pub fn receive(&mut self, place: usize) -> Result<(), NoMemory>
         requires { place < length self.old.events }
         ensures ok { OnOk result (self.new ≡ record self.old {
@@ -229,7 +235,7 @@ impl LaneTool {
         self.events.pass_on(place, &mut self.received)
     }
 
-    /// The received event at this position is forgotten, and this line acknowledges it.
+    /// Removes the received event at this position, and returns the line that acknowledges it.
     pub fn acknowledge(&mut self, alloc: Global, place: usize) -> Result<KeptOut, NoMemory>
         requires { place < length self.old.received }
         ensures line { IfOk result (λ line. line ≡ acknowledgement place self.old) }
@@ -244,7 +250,8 @@ impl LaneTool {
     }
 }
 
-/// Whether a term is that of the tool with this name and number. It asks for the number first: tools of one name differ by it.
+/// Returns whether a term is that of the tool with this name and number. Compares the number first, because tools of one name differ in
+/// it.
 fn is_tool_term(term: &Term, name: &Name, number: u32) -> bool
     ensures { IsTrue result ↔ (term.now ≡ tool_term name.now number) }
 {
@@ -254,7 +261,7 @@ fn is_tool_term(term: &Term, name: &Name, number: u32) -> bool
     }
 }
 
-/// Whether these terms are one, and that the number.
+/// Returns whether the only term is this number.
 fn is_number(terms: &[Term], number: u32) -> bool
     ensures { IsTrue result ↔ (terms.now ≡ Term.Int (pos number) ∷ []) }
 {

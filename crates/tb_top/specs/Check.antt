@@ -1,4 +1,4 @@
--- How `check` ends, and the bytes written then.
+-- The answers of `check`, and the bytes that it writes.
 use Rattle.std.specs.Prelude.{◌≡◌, ℕ, List, Option, Result, Ok, Err, codes}
 use Rattle.tb_edge.specs.Sinks.{Writes, WritesPrefix}
 use Rattle.tb_load.specs.Loading.{IsAccepted}
@@ -9,15 +9,16 @@ use Rattle.tb_top.specs.declared.fault.Fault.TheVariants.{Script, File, Out, NoM
 abbrev pub ok_line : List ℕ
 ok_line = codes "ok\n"
 
--- by the reported content of the script's file, and the written bytes
+-- the claims about `check` by its answer, for the reported content of the script's file, and the bytes of the sink before and after the
+-- call
 abbrev pub CheckOutcome : {A : Type 0} → Option (List ℕ) → Option (List ℕ) → Option (List ℕ) → Result A Fault → Type 0
 -- the script is accepted
 CheckOutcome told old new (Ok done) = IsAccepted told × Writes old new ok_line
--- it is accepted, and the sink failed
+-- the script is accepted, and the sink failed
 CheckOutcome told old new (Err Out) = IsAccepted told × WritesPrefix old new ok_line
--- it was rejected
+-- the script was rejected
 CheckOutcome told old new (Err (Script fault)) = IsUnloaded told (Script fault) × (new ≡ old)
--- its file could not be read
+-- the script's file could not be read
 CheckOutcome told old new (Err File) = new ≡ old
 -- memory ran out
 CheckOutcome told old new (Err NoMemory) = new ≡ old

@@ -1,4 +1,4 @@
--- What files must contain so that only one status can come, unless some part of the environment fails or memory runs out.
+-- The content of files for which only one status can come, unless some part of the environment fails or memory runs out.
 use Rattle.std.specs.Prelude.{◌≡◌, ◌<◌, ◌≤◌, ℕ, List, [], Option, Some, None, length}
 use Rattle.tb_body.specs.declared.program.Program.{Program}
 use Rattle.tb_bus.specs.Buses.{start}
@@ -20,12 +20,13 @@ use Rattle.tb_top.specs.declared.status.LogWrong.TheVariants as log_wrong
 use Rattle.tb_verify.specs.declared.verdict.Verdict.{Verdict}
 use Rattle.tb_verify.specs.declared.verdict.Verdict.TheVariants as verdict
 
--- The feed reads as these inputs: the reported content of its file is short and is a feed; or no file is named, and there are no inputs.
+-- The feed parses as these inputs: the reported content of its file is at most as long as allowed and is a feed; or no file is named, and
+-- there are no inputs.
 abbrev pub Reads : (List ℕ → Option (List ℕ)) → Option (List ℕ) → List Input → Type 0
 Reads held None inputs = inputs ≡ []
 Reads held (Some name) inputs = (bytes : List ℕ) × (held name ≡ Some bytes) × (length bytes ≤ most_bytes) × IsFeedOf bytes inputs
 
--- The reported content of the script's file is short and has a program; the feed reads; and their simulation ends because the bus has shut down.
+-- The files of the script and of the feed report accepted content, and the simulation of the program ends because the bus has shut down.
 pub record MustEnd (held : List ℕ → Option (List ℕ)) (request : Request) : Type 0 where
   pub bytes : List ℕ
   pub told : held request.script ≡ Some bytes
@@ -41,9 +42,9 @@ pub record MustEnd (held : List ℕ → Option (List ℕ)) (request : Request) :
 pub data Due : Type 0 where
   -- the verdict on it
   Judged : Verdict → Due
-  -- no capacity for one of its entries
+  -- a log has no capacity for one of its entries
   Crowd : Due
-  -- so many bytes, which are too many
+  -- the file is too long, with this number of bytes
   Long : ℕ → Due
 
 -- the status that reports it
@@ -53,13 +54,13 @@ due_status (Judged (verdict.Line number)) = status.Log (log_wrong.Line number)
 due_status Crowd = status.Limit bound.Events
 due_status (Long len) = status.Log (log_wrong.TooLong len)
 
--- whether it is the finding on these bytes, as those of a log that has this origin
+-- this is the finding on these bytes as a log with this origin
 abbrev pub IsDue : Origin → List ℕ → Due → Type 0
 IsDue origin bytes (Judged verdict) = (length bytes ≤ most_log_bytes) × HasVerdict verdict origin bytes
 IsDue origin bytes Crowd = (length bytes ≤ most_log_bytes) × IsCrowded origin bytes
 IsDue origin bytes (Long len) = (most_log_bytes < length bytes) × (len ≡ length bytes)
 
--- The reported content of the script's file is short and has a program; and this is the finding on the reported content of the log's file.
+-- The script's file reports accepted content, and this is the finding on the reported content of the log's file.
 pub record MustTell (held : List ℕ → Option (List ℕ)) (request : VerifyRequest) (due : Due) : Type 0 where
   pub bytes : List ℕ
   pub told : held request.script ≡ Some bytes

@@ -1,4 +1,4 @@
--- How `iface` ends, and the bytes written then.
+-- The answers of `iface`, and the bytes that it writes.
 use Rattle.std.specs.Prelude.{◌≡◌, ℕ, List, Option, Some, None, Result, Ok, Err}
 use Rattle.tb_edge.specs.Sinks.{Writes, WritesPrefix}
 use Rattle.tb_body.specs.declared.program.Program.{Program}
@@ -22,17 +22,18 @@ pub record HasNoTool (told : Option (List ℕ)) (tool : List ℕ) : Type 0 where
   pub has : HasProgram told program
   pub none : interface_of program tool ≡ None
 
--- by the reported content of the script's file, the tool's name, and the written bytes
+-- the claims about `iface` by its answer, for the reported content of the script's file, the tool's name, and the bytes of the sink before
+-- and after the call
 abbrev pub IfaceOutcome : {A : Type 0} → Option (List ℕ) → List ℕ → Option (List ℕ) → Option (List ℕ) → Result A Fault → Type 0
 -- the tool's interface was written
 IfaceOutcome told tool old new (Ok done) = (interface : Interface) × HasInterface told tool interface × Writes old new (interface_text tool interface)
--- the sink failed within it
+-- the sink failed: a prefix of the interface was written
 IfaceOutcome told tool old new (Err Out) = (interface : Interface) × HasInterface told tool interface × WritesPrefix old new (interface_text tool interface)
 -- the script is accepted, and has no such tool
 IfaceOutcome told tool old new (Err Stranger) = HasNoTool told tool × (new ≡ old)
 -- the script was rejected
 IfaceOutcome told tool old new (Err (Script fault)) = IsUnloaded told (Script fault) × (new ≡ old)
--- its file could not be read
+-- the script's file could not be read
 IfaceOutcome told tool old new (Err File) = new ≡ old
 -- memory ran out
 IfaceOutcome told tool old new (Err NoMemory) = new ≡ old

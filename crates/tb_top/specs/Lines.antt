@@ -19,6 +19,7 @@ abbrev pub log_words : LogWrong → List ℕ
 log_words (log_wrong.Line number) = codes "log: line " ++ decimal number
 log_words (log_wrong.TooLong len) = codes "log: too long " ++ decimal len
 
+-- the message of an error
 abbrev pub fault_words : Fault → List ℕ
 fault_words (Script fault) = script_line fault
 fault_words (Feed fault) = feed_line fault
@@ -32,6 +33,6 @@ fault_words NoMemory = codes "no memory"
 fault_words (Log wrong) = log_words wrong
 fault_words Stranger = codes "tool: stranger"
 
--- the program's name, the words of the error, and the end of the line
+-- the line of an error: the program's name, the message of the error, and a newline
 abbrev pub fault_line : Fault → List ℕ
 fault_line fault = codes "toolbus: " ++ fault_words fault ++ 10 ∷ []

@@ -5,11 +5,11 @@ use Rattle.tb_top.specs.declared.fault.Fault.{Fault}
 use Rattle.tb_top.specs.declared.fault.Fault.TheVariants.{Script, File, NoMemory}
 
 abbrev pub IsUnloaded : Option (List ℕ) → Fault → Type 0
--- it is rejected
+-- the script is rejected
 IsUnloaded told (Script fault) = IsBadScript told fault
--- it could not be read
+-- the file could not be read
 IsUnloaded told File = Unit {0}
 -- memory ran out
 IsUnloaded told NoMemory = Unit {0}
--- nothing else comes of it
+-- no other error comes
 IsUnloaded told _ = ⊥

@@ -1,4 +1,5 @@
--- How a call of the program ends, by the command that its arguments request: the written bytes, the requested files, and the effects on lanes and clock.
+-- The answers of the program's call, by the command that its arguments request: the written bytes, the requested files, and the effects on
+-- lanes and clock.
 use Rattle.std.specs.Prelude.{◌≡◌, ◌≢◌, ℕ, List, [], ◌∷◌, Option, option_to_list, Result, Ok, Err}
 use Rattle.tb_cli.specs.declared.command.Command.{Command}
 use Rattle.tb_cli.specs.declared.command.Command.TheVariants as command
@@ -16,7 +17,7 @@ use Rattle.tb_top.specs.Views.{IsLeft, Seen}
 use Rattle.tb_top.specs.declared.fault.Fault.{Fault}
 use Rattle.tb_top.specs.declared.fault.Fault.TheVariants.{Words}
 
--- by the command that the arguments request, or by their error
+-- the claims about an answer, by the command that the arguments request, or by the error of the arguments
 abbrev pub CommandOutcome : {A : Type 0} → Result Command WordFault → Seen → Seen → Result A Fault → Type 0
 CommandOutcome (Err fault) old new answer = (answer ≡ Err (Words fault)) × (fault ≢ word.NoMemory) × IsUntouched old.outside new.outside
 CommandOutcome (Ok (command.Check script)) old new answer = CheckOutcome (old.held script) old.outside.put new.outside.put answer × IsLeft old.outside new.outside
@@ -39,7 +40,7 @@ files_of (Ok (command.Run script connects ticks events)) = script ∷ []
 files_of (Ok (command.Verify script log connects)) = script ∷ log ∷ []
 files_of (Ok (command.Iface script tool)) = script ∷ []
 
--- An answer may come: by the written bytes, the counts of failures, and the names of the requested files.
+-- This answer may come with these written bytes, counts of failures, requested files, and effects on lanes and clock.
 pub record Comes {A : Type 0} (asked : Result Command WordFault) (old new : Seen) (answer : Result A Fault) : Type 0 where
   pub outcome : CommandOutcome asked old new answer
   pub caused : IsCaused old new answer

@@ -1,4 +1,4 @@
--- How `run` ends, and what lanes and clock gave and took and the sink received then.
+-- The answers of `run`, with the effects on lanes and clock, and the bytes that the sink took.
 use Rattle.std.specs.Prelude.{◌≡◌, ◌⊎◌, ℕ, List, Option, Result, Ok, Err}
 use Rattle.tb_body.specs.declared.program.Program.{Program}
 use Rattle.tb_bus.specs.Buses.{origin_of}
@@ -21,7 +21,8 @@ pub record RunRequest : Type 0 where
   pub ticks : ℕ
   pub events : ℕ
 
--- The script has a program, and a bus that began with it was run, which ended so: `Runs` says what each end claims of the log and of the environment.
+-- The script has a program, and its bus was run. The run ended for the reason `it`: `Runs` has the claims about the log and the
+-- environment for each reason.
 pub record IsRun (held : List ℕ → Option (List ℕ)) (request : RunRequest) (old new : OutsideView) (it : RunWhy) : Type 0 where
   pub program : Program
   pub has : HasProgram (held request.script) program
@@ -32,11 +33,12 @@ pub record IsRun (held : List ℕ → Option (List ℕ)) (request : RunRequest) 
 abbrev pub IsUntouched : OutsideView → OutsideView → Type 0
 IsUntouched old new = (new.put ≡ old.put) × IsLeft old new
 
--- by the reported content of the files, the arguments of the run, and what is seen of the environment
+-- the claims about `run` by its answer, for the reported content of the files, the arguments, and the views of the environment before and
+-- after the call
 abbrev pub LiveOutcome : {A : Type 0} → (List ℕ → Option (List ℕ)) → RunRequest → OutsideView → OutsideView → Result A Fault → Type 0
 -- the bus shut down, and all queued items were sent
 LiveOutcome held request old new (Ok done) = IsRun held request old new why.Ended
--- the same, and the clock failed
+-- the bus shut down, all queued items were sent, and the clock failed
 LiveOutcome held request old new (Err Clock) = IsRun held request old new why.Clock
 -- the log was full
 LiveOutcome held request old new (Err (Limit bound.Events)) = IsRun held request old new why.Events
@@ -48,7 +50,7 @@ LiveOutcome held request old new (Err Crew) = IsRun held request old new why.Cre
 LiveOutcome held request old new (Err NoMemory) = IsUntouched old new ⊎ IsRun held request old new why.NoMemory
 -- the script was rejected
 LiveOutcome held request old new (Err (Script fault)) = IsUnloaded (held request.script) (Script fault) × IsUntouched old new
--- its file could not be read
+-- the script's file could not be read
 LiveOutcome held request old new (Err File) = IsUntouched old new
 -- no other answer comes
 LiveOutcome held request old new _ = ⊥

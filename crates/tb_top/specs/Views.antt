@@ -1,4 +1,4 @@
--- What is seen of the environment, before a call and after it.
+-- The reported values of the environment, before a call and after it.
 use Rattle.std.specs.Prelude.{◌≡◌, ℕ, List, Option}
 use Rattle.std.specs.declared.alloc.Global.{Global}
 use Rattle.std.specs.declared.dyn_box.DynBox.{DynBox}
@@ -20,13 +20,13 @@ pub record Seen : Type 0 where
   -- the lanes, the clock, the crew and the sink of the log
   pub outside : OutsideView
 
--- What is seen of files, lanes with boxed ends, a clock, a crew and the sink of the log: each reports it through its trait.
+-- The reported values of files, lanes with boxed ends, a clock, a crew and the sink of the log. Each reports its values through its trait.
 abbrev pub all_seen : {F X Y C P O : Type 0} {A : X → Type 0} {B : Y → Type 0} → FilesTell F → InletTells (DynBox X Global A) → OutletTells (DynBox Y Global B) → ClockTells C → CrewTells P → SinkTells O →
     F → List (LanePair X Y A B) → C → P → O → Seen
 all_seen files inlet outlet clock crew sink f lanes c p o =
     record { held = files.held f; asked = files.asked f; file_faults = files.faults f; outside = outside_seen inlet outlet clock crew sink lanes c p o }
 
--- no lane gave or took anything, the clock gave no tick, and the counts of lanes, clock and crew stay
+-- no lane gave or took anything, the clock gave no tick, and the counts of failures of lanes, clock and crew are unchanged
 pub record IsLeft (old new : OutsideView) : Type 0 where
   pub lanes : new.lanes ≡ old.lanes
   pub clock : new.clock ≡ old.clock

@@ -1,4 +1,4 @@
-//! Whether the script in a file is accepted.
+//! Checks whether the script in a file is accepted.
 ghost use Rattle.std.specs.Prelude.{◌≡◌, ◌≤◌, [], ◌∷◌, IfErr, OnOk, Err};
 ghost use Rattle.tb_body.specs.declared.program.Program.{Program};
 ghost use Rattle.tb_edge.specs.Faults.{Rose};
@@ -13,7 +13,7 @@ use tb_edge::{Files, FilesFault, Loaded};
 use tb_load::MOST_BYTES;
 use tb_script::{ScriptFault, accept};
 
-/// Returns whether the script in the file of this name is accepted. No program is made of it.
+/// Checks whether the script in the file of this name is accepted, without making its program.
 pub fn accept_script<F: Files>(alloc: Global, name: &str, files: &mut F) -> Result<(), Fault>
     ensures ok { OnOk result (IsAccepted (F.held files.old name.now)) }
     ensures err { IfErr result (IsUnloaded (F.held files.old name.now)) }
@@ -28,7 +28,7 @@ pub fn accept_script<F: Files>(alloc: Global, name: &str, files: &mut F) -> Resu
     }
 }
 
-/// Returns whether these bytes are an accepted script.
+/// Checks whether these bytes are an accepted script.
 fn accept_bytes(alloc: Global, bytes: &[u8]) -> Result<(), Fault>
     ensures ok { OnOk result ((program : Program) × IsFound bytes.now (Program' program)) }
     ensures err { IfErr result (IsRefusedBy bytes.now) }

@@ -1,4 +1,4 @@
-//! `check`: whether a script is accepted.
+//! `check`: writes `ok` if a script is accepted.
 ghost use Rattle.std.specs.Prelude.{◌≡◌, ◌≢◌, ℕ, List, [], Option, Err, IfErr, OnErr};
 ghost use Rattle.tb_edge.specs.Faults.{Rose};
 ghost use Rattle.tb_top.specs.Asking.{AsksBeside};

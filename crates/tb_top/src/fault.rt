@@ -1,4 +1,4 @@
-//! The reasons why a command didn't end well.
+//! The errors of a command.
 ghost use Rattle.std.specs.Prelude.{◌≡◌};
 ghost use Rattle.tb_message.specs.Messages.{message_text};
 ghost use Rattle.tb_top.specs.Lines.{bound_words, log_words};
@@ -11,7 +11,7 @@ use tb_message::Message;
 use tb_script::ScriptFault;
 use tb_sim::SimEnd;
 
-/// Why the command that the arguments request didn't end well. If this couldn't be written, that is a `Status` of its own.
+/// The error of a command. If the error's line can't be written, the program ends with another `Status`: `Outside(Err)`.
 #[derive(Drop)]
 pub enum Fault {
     /// The script was rejected. Out of memory is never a reason for this.
@@ -24,11 +24,13 @@ pub enum Fault {
     File,
     /// The output could not be written.
     Out,
-    /// The clock failed. All else went on to its end.
+    /// The clock failed. The rest of the run is complete.
     Clock,
     /// There are too few threads.
     Crew,
+    /// A limit was reached.
     Limit(Bound),
+    /// Memory ran out.
     NoMemory,
     /// The log was rejected.
     Log(LogWrong),
@@ -42,7 +44,7 @@ impl Fault {
     ghost use Rattle.tb_top.specs.Lines.{fault_words, bound_words, log_words};
     ghost use Rattle.tb_top.specs.Statuses.{status_of};
 
-    /// The status that the program ends with.
+    /// Returns the status with which the program ends.
     pub fn status(self) -> Status
         ensures { result ≡ status_of self }
     {
@@ -61,7 +63,7 @@ impl Fault {
         }
     }
 
-    /// The words of its line.
+    /// Returns the message of the error's line on standard error.
     pub fn message(&self) -> Message<'_>
         ensures { message_text result ≡ fault_words self.now }
     {
@@ -99,7 +101,7 @@ fn log_line(wrong: LogWrong) -> Message<'static>
     }
 }
 
-/// The result of a simulation that ended so, after all was written.
+/// Returns the result of the command after a simulation with this end, if the whole output was written.
 pub fn after_end(end: SimEnd) -> Result<(), Fault>
     ensures { EndsAs end result }
 {

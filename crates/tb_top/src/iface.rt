@@ -1,4 +1,4 @@
-//! `iface`: the interface of a tool of a script.
+//! `iface`: writes the interface of a tool of a script.
 ghost use Rattle.std.specs.Prelude.{◌≡◌, ◌≢◌, ℕ, List, [], Option, Err, IfErr, IfOk, IfSome, OnErr, find};
 ghost use Rattle.std.specs.Option.{option_copied};
 ghost use Rattle.std.specs.Str.{bytes_eq};
@@ -17,7 +17,7 @@ use tb_edge::{Failed, Files, Sink};
 use tb_iface::{IfaceFault, Interface, interface, write_interface};
 use tb_terms::{Name, NoMemory};
 
-/// Writes the interface of the tool of this name in the script in the other file.
+/// Writes the interface of the tool with the name `tool`, of the script in the file of the other name.
 pub fn iface<F: Files, O: Sink>(
     alloc: Global,
     script: &str,
@@ -39,7 +39,7 @@ pub fn iface<F: Files, O: Sink>(
     }
 }
 
-/// The same for the program of some script.
+/// Writes the interface of the tool with this name in the program.
 fn iface_program<O: Sink>(
     alloc: Global,
     program: &Program,
@@ -59,7 +59,7 @@ fn iface_program<O: Sink>(
     }
 }
 
-/// The text of the interface of the tool of this name. An argument that isn't a name is no tool's.
+/// Returns the text of the interface of the tool with this name. If the argument isn't a name, no tool has it.
 fn interface_of(alloc: Global, program: &Program, tool: &str) -> Result<Vec<u8>, Fault>
     ensures ok { IfOk result (λ text. IsInterfaceText program.now tool.now text.items) }
     ensures err { IfErr result (HasNoInterface program.now tool.now) }
@@ -70,7 +70,7 @@ fn interface_of(alloc: Global, program: &Program, tool: &str) -> Result<Vec<u8>,
     }
 }
 
-/// The tool with this name among these.
+/// Finds the tool with this name.
 fn tool_named<'a>(tools: &'a [Tool], name: &str) -> Option<&'a Tool>
     ensures is { option_copied result ≡ find (λ tool. bytes_eq tool.name name.now) tools.now }
     ensures named { IfSome result (λ tool. tool.now.name ≡ name.now) }
@@ -94,7 +94,7 @@ fn interface_of_name(alloc: Global, program: &Program, tool: &Name) -> Result<Ve
     }
 }
 
-/// The text of an interface.
+/// Returns the text of an interface.
 fn text_of(alloc: Global, tool: &Name, found: &Interface) -> Result<Vec<u8>, Fault>
     ensures ok { IfOk result (λ text. text.items ≡ interface_text tool.now found.now) }
     ensures err { IfErr result (λ fault. fault ≡ Fault.NoMemory) }

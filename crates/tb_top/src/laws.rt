@@ -1,4 +1,4 @@
-//! Theorems about the commands of the program.
+//! Theorems about the commands of the program. The calls change nothing: their contracts are the theorems.
 ghost use Rattle.std.specs.Prelude.{◌≡◌, ◌≢◌, ◌≤◌, ◌<◌, ◌^◌, ◌+◌, ◌*◌, ◌⊎◌, ◌++◌, ◌∷◌, [], ℕ, List, Option, Ok, Some, codes, length};
 ghost use Rattle.std.specs.Fmt.{decimal};
 ghost use Rattle.tb_body.specs.declared.program.Program.{Program};
@@ -28,7 +28,7 @@ ghost use Rattle.tb_top.specs.Views.{Seen};
 
 use crate::status::{Bound, Edge, Status};
 
-/// Unless some part of the environment fails or memory runs out, a command ends well if it can: `check` of a script that is accepted.
+/// States that `check` of an accepted script ends with `Ended`, unless the files, the sink or standard error fails, or memory runs out.
 pub fn an_accepted_script_is_told()
     ensures { (script bytes : List ℕ) (program : Program) (old new : Seen)
         (told more : Option (List ℕ)) (status : Status) → old.held script ≡ Some bytes
@@ -40,7 +40,8 @@ pub fn an_accepted_script_is_told()
         → (status ≡ Status.Ended) ⊎ (status ≡ Status.NoMemory) }
 {}
 
-/// The same for `sim`, if the simulation ends because the bus has shut down.
+/// States that `sim` ends with `Ended` if the simulation ends because the bus has shut down, unless the files, the sink or standard error
+/// fails, or memory runs out.
 pub fn a_simulation_that_ends_is_put()
     ensures { (request : Request) (old new : Seen) (told more : Option (List ℕ)) (status : Status)
         → MustEnd old.held request → (Rose old.file_faults new.file_faults → ⊥)
@@ -51,7 +52,9 @@ pub fn a_simulation_that_ends_is_put()
         → (status ≡ Status.Ended) ⊎ (status ≡ Status.NoMemory) }
 {}
 
-/// `verify` reports the finding on a log: whether it is a trace, at which line it is none, or that there is no capacity for it.
+/// States that `verify` reports the finding on a log, unless the files, the sink or standard error fails, or memory runs out. The
+/// findings: the log is a trace, its lines up to some line aren't a trace, a log has no capacity for one of its entries, or its file is too
+/// long.
 pub fn a_log_is_judged()
     ensures { (request : VerifyRequest) (due : Due) (old new : Seen) (told more : Option (List ℕ))
         (status : Status) → MustTell old.held request due
@@ -63,7 +66,8 @@ pub fn a_log_is_judged()
         → (status ≡ due_status due) ⊎ (status ≡ Status.NoMemory) }
 {}
 
-/// The same for `iface` of a script that is accepted: the interface is written for a tool of the script, and for no other argument.
+/// States that `iface` of an accepted script ends with `Ended` for a tool of the script, and with `Stranger` for any other argument,
+/// unless the files, the sink or standard error fails, or memory runs out.
 pub fn a_tool_of_a_script_has_its_interface_put()
     ensures { (script tool bytes : List ℕ) (program : Program) (old new : Seen)
         (told more : Option (List ℕ)) (status : Status) → old.held script ≡ Some bytes
@@ -75,7 +79,7 @@ pub fn a_tool_of_a_script_has_its_interface_put()
         → (status ≡ tool_status (interface_of program tool)) ⊎ (status ≡ Status.NoMemory) }
 {}
 
-/// The same for `ring` with any arguments: its script is accepted, and its simulation ends by itself.
+/// States that `ring` with any accepted arguments ends with `Ended`, unless the sink or standard error fails, or memory runs out.
 pub fn a_ring_is_put()
     ensures words { (words : List (List ℕ)) (n k : ℕ) (old new : Seen)
         (told more : Option (List ℕ)) (status : Status) → asked words ≡ Ok (Ring n k)
@@ -84,7 +88,7 @@ pub fn a_ring_is_put()
         → Reported {A = Unit {0}} (Comes (asked words) old new) told more status
         → (status ≡ Status.Ended) ⊎ (status ≡ Status.NoMemory) }
 
-    // The arguments request no other numbers than these.
+    // The arguments are accepted only with numbers in these ranges.
     ensures numbers { (n k : ℕ) (old new : Seen) (told more : Option (List ℕ)) (status : Status) → 2 ≤ n
         → n ≤ 10000 → 1 ≤ k → n * k ≤ 1000000
         → (Rose old.outside.out_faults new.outside.out_faults → ⊥)
@@ -93,8 +97,8 @@ pub fn a_ring_is_put()
         → (status ≡ Status.Ended) ⊎ (status ≡ Status.NoMemory) }
 {}
 
-/// The written bytes of a run are the text of one log alone: if two runs wrote their whole texts, and wrote the same bytes, they have
-/// the same log, whatever their scripts were.
+/// States that the written bytes of a run are the text of one log alone. If two runs wrote their whole texts, and wrote the same bytes,
+/// they have the same log, even if their scripts differ.
 pub fn a_run_has_one_log()
     ensures { (held other_held : List ℕ → Option (List ℕ)) (request other_request : RunRequest)
         (old new other_old other_new : OutsideView) (it other_it : RunWhy) (bytes : List ℕ)
@@ -105,7 +109,7 @@ pub fn a_run_has_one_log()
         → run.back.log ≡ other.back.log }
 {}
 
-/// The same for two simulations.
+/// States that two simulations that wrote their whole texts, and wrote the same bytes, have the same log, even if their scripts differ.
 pub fn a_simulation_has_one_log()
     ensures { (held other_held : List ℕ → Option (List ℕ)) (request other_request : Request)
         (log other : List Entry) (last other_last : SimEnd)
@@ -116,7 +120,7 @@ pub fn a_simulation_has_one_log()
         → HasPut bytes old new → HasPut bytes other_old other_new → log ≡ other }
 {}
 
-/// The summary that `ring` writes of a ring: one step more than there are messages, and the last one is the shutdown.
+/// States the summary that `ring` writes for `n` processes: `n * k + 1` steps, and the last step is the shutdown.
 pub fn a_ring_has_one_summary()
     ensures words { (words : List (List ℕ)) (n k : ℕ) (log : List Entry) (last : SimEnd)
         → asked words ≡ Ok (Ring n k) → IsRingOf n k log last
@@ -128,8 +132,8 @@ pub fn a_ring_has_one_summary()
         ++ decimal (n * k + 1) ++ codes " end " ++ codes "shutdown" ++ 10 ∷ []) }
 {}
 
-/// The same for `run` of a script that is accepted, if neither the clock nor the crew fails, unless the log is full: then the run ended
-/// for that.
+/// States that `run` of an accepted script ends with `Ended`, unless a part of the environment fails, memory runs out, or the log is full.
+/// If it ends because the log is full, the outcome of such a run holds.
 pub fn a_run_of_an_accepted_script_ends()
     ensures { (request : RunRequest) (bytes : List ℕ) (program : Program) (old new : Seen)
         (told more : Option (List ℕ)) (status : Status)

@@ -1,4 +1,4 @@
-//! The whole ToolBus, from the arguments of the command line on.
+//! The program `toolbus`: reads the arguments of the command line, does the requested command, and reports its error.
 #![tactic(auto)]
 
 mod accepting;

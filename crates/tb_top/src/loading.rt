@@ -1,4 +1,4 @@
-//! How the files of a command are loaded.
+//! Loads the files of a command.
 ghost use Rattle.std.specs.Prelude.{◌≡◌, ◌≤◌, [], ◌∷◌, Some, IfOk, IfErr, Err};
 ghost use Rattle.tb_edge.specs.Faults.{Rose};
 ghost use Rattle.tb_feed.specs.Feeds.{IsFeedOf};
@@ -19,10 +19,10 @@ use tb_load::{LoadFault, MOST_BYTES};
 use tb_script::{ScriptFault, load};
 use tb_terms::Text;
 
-/// A longer file of a log is rejected.
+/// The largest size of a log that is accepted, in bytes.
 const MOST_LOG_BYTES: usize = 67_108_864;
 
-/// The program of the script in the file of this name.
+/// Loads the program of the script in the file with this name.
 pub fn load_script<F: Files>(alloc: Global, name: &str, files: &mut F) -> Result<Program, Fault>
     ensures ok { IfOk result (HasProgram (F.held files.old name.now)) }
     ensures err { IfErr result (IsUnloaded (F.held files.old name.now)) }
@@ -39,7 +39,7 @@ pub fn load_script<F: Files>(alloc: Global, name: &str, files: &mut F) -> Result
     }
 }
 
-/// The program of these bytes.
+/// Returns the program of the script with these bytes.
 pub fn load_bytes(alloc: Global, bytes: &[u8]) -> Result<Program, Fault>
     ensures ok { IfOk result (λ program. IsFound bytes.now (Program' program)) }
     ensures err { IfErr result (IsRefusedBy bytes.now) }
@@ -51,7 +51,7 @@ pub fn load_bytes(alloc: Global, bytes: &[u8]) -> Result<Program, Fault>
     }
 }
 
-/// The feed in the file of this name, or an empty one if there is no name.
+/// Loads the feed in the file with this name. If there is no name, returns an empty feed.
 pub fn load_feed<F: Files>(alloc: Global, name: &Option<Text>, files: &mut F) -> Result<Feed, Fault>
     ensures ok { IfOk result (IsFed (F.held files.old) name.now) }
     ensures err { IfErr result (IsUnread (F.held files.old) name.now) }
@@ -65,7 +65,7 @@ pub fn load_feed<F: Files>(alloc: Global, name: &Option<Text>, files: &mut F) ->
     }
 }
 
-/// The feed in the file of this name.
+/// Loads the feed in the file with this name.
 fn load_feed_of<F: Files>(alloc: Global, name: &str, files: &mut F) -> Result<Feed, Fault>
     ensures ok { IfOk result (IsFed (F.held files.old) (Some name.now)) }
     ensures err { IfErr result (IsUnread (F.held files.old) (Some name.now)) }
@@ -81,7 +81,7 @@ fn load_feed_of<F: Files>(alloc: Global, name: &str, files: &mut F) -> Result<Fe
     }
 }
 
-/// The feed of these bytes.
+/// Returns the feed with these bytes.
 fn read_bytes(alloc: Global, bytes: &[u8]) -> Result<Feed, Fault>
     ensures ok { IfOk result (IsFeedOf bytes.now) }
     ensures err { IfErr result (IsBadFeed bytes.now) }
@@ -93,7 +93,7 @@ fn read_bytes(alloc: Global, bytes: &[u8]) -> Result<Feed, Fault>
     }
 }
 
-/// The bytes of the log in the file of this name.
+/// Loads the bytes of the log in the file with this name.
 pub fn load_log<F: Files>(alloc: Global, name: &str, files: &mut F) -> Result<Bytes, Fault>
     ensures ok { IfOk result (IsLoadedWithin most_log_bytes (F.held files.old name.now)) }
     ensures err { IfErr result (IsLogUnread (F.held files.old name.now)) }

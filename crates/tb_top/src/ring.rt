@@ -1,4 +1,4 @@
-//! `ring`: a summary of the simulation of processes in a ring that pass messages on.
+//! `ring`: writes a summary of the simulation of processes that pass a message round a ring.
 ghost use Rattle.std.specs.Prelude.{◌≡◌, ◌≤◌, ◌*◌, ◌++◌, [], false, Err, IfOk, IfErr, OnOk, OnErr, sum_by, length, decimal};
 ghost use Rattle.tb_edge.specs.Faults.{Rose};
 ghost use Rattle.tb_edge.specs.Sinks.{Writes, WritesPrefix};
@@ -22,13 +22,13 @@ use tb_sim::{SimEnd, simulate};
 use tb_terms::{Items, NoMemory};
 use tb_walk::Walk;
 
-/// How many steps a ring may make.
+/// The largest number of steps of a ring.
 const MOST_STEPS: u64 = 4_000_000;
 
-/// How many entries its log may have.
+/// The largest number of entries in the log of a ring.
 const MOST_EVENTS: u32 = 4_000_000;
 
-/// Writes a summary of the simulation of `n` processes in a ring, round which a message goes `k` times.
+/// Writes a summary of the simulation of `n` processes in a ring that a message goes round `k` times.
 pub fn ring<O: Sink>(alloc: Global, n: u32, k: u32, out: &mut O) -> Result<(), Fault>
     requires few { 2 ≤ n }
     requires many { n ≤ 10000 }
@@ -47,7 +47,7 @@ pub fn ring<O: Sink>(alloc: Global, n: u32, k: u32, out: &mut O) -> Result<(), F
     }
 }
 
-/// The same for the program of the ring's script.
+/// Simulates the program of the ring's script, and writes the summary.
 fn ring_program<O: Sink>(alloc: Global, program: Program, n: u32, out: &mut O) -> Result<(), Fault>
     ensures outcome { IsRingSimulated program n (O.taken out.old) (O.taken out.new) result }
     ensures behind { IfErr result IsBehindFeed }
@@ -65,7 +65,7 @@ fn ring_program<O: Sink>(alloc: Global, program: Program, n: u32, out: &mut O) -
     }
 }
 
-/// The same over a core.
+/// Simulates the ring over a core, and writes the summary.
 fn ring_core<O: Sink>(
     alloc: Global,
     core: &mut Core<Walk>,
@@ -87,7 +87,7 @@ fn ring_core<O: Sink>(
     }
 }
 
-/// Writes the summary of a simulation that ended so.
+/// Writes the summary of a simulation with this end.
 fn put_summary<O: Sink>(
     alloc: Global,
     n: u32,
@@ -110,7 +110,7 @@ fn put_summary<O: Sink>(
     }
 }
 
-/// The summary of a log.
+/// Returns the summary of a log.
 fn summary_text(alloc: Global, n: u32, log: &Log) -> Result<Vec<u8>, NoMemory>
     ensures { IfOk result (λ text. text.items ≡ summary n log.now.entries) }
 {
@@ -133,7 +133,7 @@ fn push_number(number: u64, text: &mut Vec<u8>) -> Result<(), NoMemory>
     Ok(())
 }
 
-/// How many steps a log has.
+/// Returns the number of steps in a log.
 fn step_count(log: &Log) -> usize
     ensures { result ≡ sum_by steps_in log.now.entries }
 {
@@ -154,7 +154,7 @@ fn steps_in(seen: &Seen) -> usize
     }
 }
 
-/// The word of the last step of a log.
+/// Returns the word of the last step in a log.
 fn last_word(log: &Log) -> &'static [u8]
     ensures { result.now ≡ last_word log.now.entries }
 {

@@ -1,4 +1,4 @@
-//! `run`: a bus with live tools, whose log is written while it runs.
+//! `run`: runs a bus with live tools, and writes its log while it runs.
 ghost use Rattle.std.specs.Prelude.{◌≡◌, ◌≤◌, List, [], Err, IfErr, false, length, map, vec_len};
 ghost use Rattle.tb_bus.specs.Buses.{origin_of};
 ghost use Rattle.tb_cli.specs.Table.{most_connects};
@@ -21,8 +21,8 @@ use tb_run::{RunWhy, run};
 use tb_terms::{NoMemory, Texts};
 use tb_walk::Walk;
 
-/// Runs the script in the file of this name over the tools of sixteen lanes, and writes its log while it runs. The bus begins with
-/// each command connected. There are at most so many ticks and so many entries of the log.
+/// Runs the script in the file of this name over the tools of sixteen lanes, and writes its log while it runs. At the start, each of the
+/// given commands is connected. `ticks` and `events` are the greatest numbers of ticks and of entries of the log.
 pub fn run_script<R: Threads + Wait + Sync, F: Files, O: Sink, C: Clock + Send, P: Crew>(
     rt: &R,
     alloc: Global,
@@ -61,7 +61,7 @@ pub fn run_script<R: Threads + Wait + Sync, F: Files, O: Sink, C: Clock + Send, 
     }
 }
 
-/// The same for the program of some script.
+/// Runs a program.
 fn run_program<R: Threads + Wait + Sync, O: Sink, C: Clock + Send, P: Crew>(
     rt: &R,
     alloc: Global,
@@ -94,7 +94,7 @@ fn run_program<R: Threads + Wait + Sync, O: Sink, C: Clock + Send, P: Crew>(
     }
 }
 
-/// The same over a core.
+/// Runs the program over a core.
 fn run_core<R: Threads + Wait + Sync, O: Sink, C: Clock + Send, P: Crew>(
     rt: &R,
     alloc: Global,
@@ -123,7 +123,7 @@ fn run_core<R: Threads + Wait + Sync, O: Sink, C: Clock + Send, P: Crew>(
     after_run(why)
 }
 
-/// The result of a run that ended so.
+/// Returns the result of the command after a run with this end.
 fn after_run(why: RunWhy) -> Result<(), Fault>
     ensures ends { EndsRun why result }
     ensures behind { IfErr result IsLiveFault }

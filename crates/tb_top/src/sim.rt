@@ -1,4 +1,4 @@
-//! `sim`: the log of a script's simulation.
+//! `sim`: writes the log of a script's simulation.
 ghost use Rattle.std.specs.Prelude.{◌≡◌, ◌≤◌, ℕ, List, [], option_to_list, Err, IfErr, IsTrue, length, false};
 ghost use Rattle.std.specs.List.{list_all};
 ghost use Rattle.tb_edge.specs.Faults.{Rose};
@@ -25,8 +25,8 @@ use tb_terms::{NoMemory, Text, Texts};
 use tb_walk::Walk;
 use tb_write::{LogFault, put_log};
 
-/// Writes the log of the simulation of the script in the file of this name. The simulation begins with each command connected, delivers
-/// the inputs of the feed, and makes at most so many steps and entries of the log.
+/// Writes the log of the simulation of the script in the file of this name. At the start, each of the given commands is connected. The
+/// simulation delivers the inputs of the feed. `steps` and `events` are the greatest numbers of steps and of entries of the log.
 pub fn sim<F: Files, O: Sink>(
     alloc: Global,
     script: &str,
@@ -54,7 +54,7 @@ pub fn sim<F: Files, O: Sink>(
     }
 }
 
-/// The same for the program of some script.
+/// Simulates a program with the feed in the file with this name.
 fn sim_program<F: Files, O: Sink>(
     alloc: Global,
     program: Program,
@@ -83,7 +83,7 @@ fn sim_program<F: Files, O: Sink>(
     }
 }
 
-/// The same with these inputs.
+/// Simulates the program with these inputs.
 fn sim_fed<O: Sink>(
     alloc: Global,
     program: Program,
@@ -112,7 +112,7 @@ fn sim_fed<O: Sink>(
     }
 }
 
-/// The same over a core.
+/// Simulates the program over a core.
 fn sim_core<O: Sink>(
     alloc: Global,
     core: &mut Core<Walk>,
@@ -134,7 +134,7 @@ fn sim_core<O: Sink>(
     }
 }
 
-/// Writes the log of a simulation that ended so. All entries of the log are well-formed.
+/// Writes the log of a simulation with this end. All entries of the log are well-formed.
 fn put_simulation<O: Sink>(alloc: Global, log: &Log, end: SimEnd, out: &mut O) -> Result<(), Fault>
     ensures outcome { PutsText (log_text log.now.entries) end
         (O.taken out.old) (O.taken out.new) result }

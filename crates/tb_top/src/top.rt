@@ -24,15 +24,15 @@ use std::thread::Threads;
 use tb_cli::{Command, WordFault, read_words};
 use tb_edge::{Clock, Crew, Files, Inlet, LanePair, Outlet, Sink};
 
-/// Does what the arguments of the command line request. `check SCRIPT` writes `ok` and a newline to `out` if the script in that file
-/// is accepted. `sim SCRIPT [--feed FILE] [--connect COMMAND] [--steps N] [--events N]` writes the log of the script's simulation.
-/// The simulation begins with each command connected, delivers the inputs of the feed in that file, and makes at most so many
-/// steps and entries of its log. `run SCRIPT [--connect COMMAND] [--ticks N] [--events N]` runs the script over the tools of the
-/// lanes, and writes its log while it runs. `ring N K` writes a summary of the simulation of N processes in a ring that a message
-/// goes round K times. `verify SCRIPT LOG [--connect COMMAND]` writes `trace` and a newline if the log in the second file is a
-/// trace of the script, which begins with each command connected. `iface SCRIPT TOOL` writes the interface of the tool of this
-/// name: the lines that it may receive, and the lines of it that a process may take. Each status except `Ended` writes its one
-/// line to `err`. If `err` fails at that, the status is `Outside(Err)`.
+/// Does the command that the arguments of the command line request. `check SCRIPT` writes `ok` and a newline to `out` if the script in
+/// that file is accepted. `sim SCRIPT [--feed FILE] [--connect COMMAND] [--steps N] [--events N]` writes the log of the script's
+/// simulation. The simulation starts with each command connected, delivers the inputs of the feed in that file, and makes at most the
+/// given numbers of steps and of entries of its log. `run SCRIPT [--connect COMMAND] [--ticks N] [--events N]` runs the script over the
+/// tools of the lanes, and writes its log while it runs. `ring N K` writes a summary of the simulation of N processes in a ring that a
+/// message goes round K times. `verify SCRIPT LOG [--connect COMMAND]` writes `trace` and a newline if the log in the second file is a
+/// trace of the script, starting with each command connected. `iface SCRIPT TOOL` writes the interface of the tool of this name: the
+/// lines that the tool may receive, and the lines of the tool that a process may take. For each status except `Ended`, the call writes one
+/// line to `err`. If `err` fails at this line, the status is `Outside(Err)`.
 pub fn toolbus<R: Threads + Wait + Sync, F: Files, O: Sink, E: Sink, C: Clock + Send, P: Crew>(
     rt: &R,
     alloc: Global,
@@ -45,7 +45,7 @@ pub fn toolbus<R: Threads + Wait + Sync, F: Files, O: Sink, E: Sink, C: Clock + 
     crew: &mut P,
 ) -> Status
     requires { vec_len lanes.old ≡ 16 }
-    // Which status comes when, and the bytes written and the files requested then.
+    // The statuses that may come, each with the written bytes, the requested files, and the effects on the environment.
     ensures outcome { let seen = all_seen F.Files ⟦<Box<dyn Inlet + Send> as Inlet>⟧
         ⟦<Box<dyn Outlet + Send> as Outlet>⟧ C.Clock P.Crew O.Sink in
         Reported {A = Unit {0}}
@@ -54,11 +54,11 @@ pub fn toolbus<R: Threads + Wait + Sync, F: Files, O: Sink, E: Sink, C: Clock + 
         (seen files.new lanes.new.items clock.new crew.new out.new))
         (E.taken err.old) (E.taken err.new) result }
 
-    // With any status, only files that the arguments name are requested, in their order.
+    // At any status, only files that the arguments name are requested, in their order.
     ensures asks { AsksSome (files_of (asked (map string_bytes words.now.items)))
         (F.asked files.old) (F.asked files.new) }
 
-    // A part of the environment is named only if it failed in this call.
+    // A status names a part of the environment only if this part failed in the call.
     ensures file_rose { result ≡ Status.Outside Edge.File
         → Rose (F.faults files.old) (F.faults files.new) }
     ensures out_rose { result ≡ Status.Outside Edge.Out
@@ -75,7 +75,7 @@ pub fn toolbus<R: Threads + Wait + Sync, F: Files, O: Sink, E: Sink, C: Clock + 
     report(answer, err)
 }
 
-/// Does what the arguments request.
+/// Does the command that the arguments request.
 fn answer<R: Threads + Wait + Sync, F: Files, O: Sink, C: Clock + Send, P: Crew>(
     rt: &R,
     alloc: Global,

@@ -1,4 +1,4 @@
-//! `verify`: whether a log is a trace of a script.
+//! `verify`: writes `trace` if a log is a trace of a script.
 ghost use Rattle.std.specs.Prelude.{◌≡◌, ◌≢◌, ◌≤◌, ℕ, List, [], ◌∷◌, Option, Err, IfErr, OnErr, length};
 ghost use Rattle.tb_edge.specs.Faults.{Rose};
 ghost use Rattle.tb_log.specs.Shapes.{lane_count};
@@ -17,8 +17,8 @@ use tb_terms::Texts;
 use tb_verify::{Verdict, VerifyFault, verify};
 use tb_walk::Walk;
 
-/// Writes `trace` if the log in the file of this name is a trace of the script in the other file. The trace's bus begins with each
-/// command connected.
+/// Writes `trace` if the log in the file `log` is a trace of the script in the file `script`. The bus of the trace starts with
+/// each of the given commands connected.
 pub fn verify_log<F: Files, O: Sink>(
     alloc: Global,
     script: &str,
@@ -43,7 +43,7 @@ pub fn verify_log<F: Files, O: Sink>(
     }
 }
 
-/// The same for the program of some script.
+/// Writes `trace` if the log in the file with this name is a trace of the program.
 fn verify_program<F: Files, O: Sink>(
     alloc: Global,
     program: Program,
@@ -69,7 +69,7 @@ fn verify_program<F: Files, O: Sink>(
     }
 }
 
-/// The same for these bytes of the log.
+/// Writes `trace` if the log with these bytes is a trace of the program.
 fn verify_bytes<O: Sink>(
     alloc: Global,
     program: Program,

@@ -1,4 +1,4 @@
--- One more actual is looked at.
+-- The step of the loop over arguments: one more argument is checked.
 use Rattle.std.proofs.Common.{◌≡◌, ℕ, suc, ◌+◌, ◌<◌, List, ◌∷◌, ◌++◌, length, get_or, drop, slice_get, ap, sym, ◌∙◌, add-one, append_assoc, drop-cons}
 use Rattle.tb_syntax.specs.declared.ast.Ast.{Ast}
 use Rattle.tb_syntax.specs.declared.script.Formal.{Formal}

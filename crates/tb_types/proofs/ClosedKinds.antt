@@ -1,4 +1,4 @@
--- What an application and a list are without variables, by what their parts are.
+-- The variable-free expression of an application and of a list, from those of their parts.
 use Rattle.std.proofs.Common.{◌≡◌, ℕ, List, map, length, ap, ◌∙◌}
 use Rattle.std.proofs.lemmas.List.{length-map}
 use Rattle.tb_terms.specs.declared.expr.Expr.{Expr}

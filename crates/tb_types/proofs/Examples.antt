@@ -1,4 +1,4 @@
--- What scripts break, worked out by hand from the conditions.
+-- The violations of example scripts, worked out by hand from the conditions.
 use Rattle.std.proofs.Common.{◌≡◌, ℕ, List, [], ◌∷◌, codes, refl, ◌∙◌}
 use Rattle.std.specs.Prelude.{None}
 use Rattle.tb_syntax.specs.declared.ast.Ast.{Ast}

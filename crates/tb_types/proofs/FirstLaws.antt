@@ -1,4 +1,4 @@
--- A script has one first fault at most, and none where it is proper.
+-- A script has at most one first error, and none if it is well-formed.
 use Rattle.std.proofs.Common.{◌≡◌, ℕ, ◌==◌, ◌<◌, ◌≤◌, refl, ap, sym, ◌∙◌, subst, arith}
 use Rattle.std.specs.Prelude.{if◌then◌else◌}
 use Rattle.tb_syntax.specs.declared.script.Script.{Script}

@@ -1,4 +1,4 @@
--- What comes first of what is noted is noted, and nothing that is noted is before it.
+-- The first violation is one of the noted violations, and no noted violation is before it.
 use Rattle.std.proofs.Common.{◌≡◌, ℕ, ◌==◌, ◌<◌, ◌≤◌, Bool, true, false, ◌||◌, ◌&&◌, nat_lt, inl, inr, List, [], ◌∷◌, fold, Option, Some, None, refl, sym, subst, arith}
 use Rattle.std.proofs.lemmas.Bool.Decides.{nat_tests}
 use Rattle.tb_syntax.specs.declared.script.Script.{Script}
@@ -11,14 +11,14 @@ use Rattle.tb_types.specs.Helpers.Faults.{fault_of, fault_at}
 use Rattle.tb_types.specs.Helpers.First.{is_before, earlier, first_of}
 use Rattle.tb_types.specs.Numbers.{number_of}
 
--- a condition's number and a token are before others
+-- the pair of a condition's number `m` and a token `s` is before the pair of `n` and `t`
 abbrev before : ℕ → ℕ → ℕ → ℕ → Bool
 before m s n t = nat_lt m n || ((m == n) && nat_lt s t)
 
 before-self : (m s : ℕ) → before m s m s ≡ false
 before-self m s = grind (arith, nat_tests)
 
--- what isn't before the one isn't before a later one
+-- if a pair isn't before another pair, no later pair is before that other pair
 before-past : (m s n t k u : ℕ) → before m s n t ≡ true → before m s k u ≡ false → before n t k u ≡ false
 before-past m s n t k u h g = grind (arith, nat_tests)
 
@@ -81,7 +81,7 @@ least-from so_far (next ∷ noted) least e = step (is_before next so_far) refl (
   step true h from_next from_here = left next so_far least noted h (from_next (let f : fold earlier (earlier (Some so_far) next) noted ≡ Some least = e in rw h at f))
   step false h from_next from_here = kept next so_far least noted h (from_here (let f : fold earlier (earlier (Some so_far) next) noted ≡ Some least = e in rw h at f))
 
--- where nothing comes first, nothing is noted
+-- if there is no first violation, no violation is noted
 never-none : (so_far : Violation) (noted : List Violation) → fold earlier (Some so_far) noted ≡ None → ⊥
 never-none so_far [] e = cc
 never-none so_far (next ∷ noted) e = step (is_before next so_far) refl (never-none next noted) (never-none so_far noted) where

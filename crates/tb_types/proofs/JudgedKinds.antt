@@ -1,4 +1,4 @@
--- What is judged of an application and of a list, by what is judged of their parts.
+-- The fitting types and the violations of an application and of a list, from those of their parts.
 use Rattle.std.proofs.Common.{◌≡◌, ℕ, ◌||◌, List, map, ap, ◌∙◌}
 use Rattle.std.specs.Prelude.{is_none}
 use Rattle.tb_terms.specs.declared.sort.Sort.{Sort, out-Sort}

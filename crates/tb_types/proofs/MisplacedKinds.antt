@@ -1,4 +1,4 @@
--- What is misplaced in an application and in a list, by what is misplaced in their parts.
+-- The misplaced result variables and placeholders of an application and of a list, from those of their parts.
 use Rattle.std.proofs.Common.{◌≡◌, ℕ, List, [], ◌∷◌, ◌++◌, map, length, refl, ap, ◌∙◌}
 use Rattle.std.specs.List.{flat_map}
 use Rattle.std.proofs.lemmas.List.{length-map}

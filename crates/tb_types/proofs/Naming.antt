@@ -1,4 +1,4 @@
--- The positions of names among definitions, and what stands there.
+-- The positions of names among definitions, and the definitions at these positions.
 use Rattle.std.proofs.Common.{◌≡◌, ℕ, suc, ◌+◌, ◌<◌, Bool, true, false, cond, List, [], ◌∷◌, ◌++◌, map, length, get_or, take, slice_get, Option, Some, None, refl, ap, sym, ◌∙◌, arith, add-one}
 use Rattle.std.specs.Prelude.{option_map, option_and_then, is_some, find}
 use Rattle.std.specs.Str.{bytes_eq}
@@ -13,7 +13,7 @@ use Rattle.tb_types.specs.NamePositions.{position_in, position_of, kept}
 abbrev next : ℕ → ℕ
 next position = position + 1
 
--- what stands at the first position of a name is what is found by it
+-- the definition at the first position of a name is the definition that a search for the name finds
 get_next : {A : Type 0} (x : A) (xs : List A) (o : Option ℕ) → option_and_then (slice_get (x ∷ xs)) (option_map next o) ≡ option_and_then (slice_get xs) o
 get_next x xs None = refl
 get_next x xs (Some position) = ap (λ n. slice_get (x ∷ xs) n) (add-one position)
@@ -32,7 +32,7 @@ kept_next (Some old) b position = refl
 kept_next None true position = refl
 kept_next None false position = refl
 
--- one more name at the end
+-- the positions after one more name at the end
 position_behind : (names : List (List ℕ)) (more name : List ℕ) → position_of (names ++ more ∷ []) name ≡ kept (position_of names name) (bytes_eq more name) (length names)
 position_behind [] more name = step (bytes_eq more name) where
   step : (b : Bool) → cond b (Some 0) (option_map next None) ≡ cond b (Some 0) None
@@ -69,7 +69,7 @@ kept_other : (o : Option ℕ) (position : ℕ) → o ≡ kept o false position
 kept_other None position = refl
 kept_other (Some old) position = refl
 
--- a name that had no position has this one
+-- a name without a position gets this position
 kept_after : (old : List ℕ → Option ℕ) (name other : List ℕ) (position : ℕ) → is_some (old name) ≡ false
     → cond (bytes_eq name other) (Some position) (old other) ≡ kept (old other) (bytes_eq name other) position
 kept_after old name other position h = step (bytes_eq name other) refl where
@@ -82,7 +82,7 @@ pub kept_new : {S : Type 0} (name : List ℕ) (old new : HashMap (Bor (List ℕ)
     → (other : List ℕ) → position_in new other ≡ kept (position_in old other) (bytes_eq name other) position
 kept_new name old new position updates h other = hash_map_updates_str name old new (Some position) updates other ∙ kept_after (position_in old) name other position h
 
--- a name that has a position, and is given another and then its own again
+-- a name with a position stays as it is if it gets another position and then its own again
 pub kept_again : {S : Type 0} (name : List ℕ) (old mid new : HashMap (Bor (List ℕ)) ℕ S) (position first : ℕ)
     → UpdatesBy (λ x y. bytes_eq x.now y.now) (λ key. bytes_eq name key.now) old mid (Some position)
     → UpdatesBy (λ x y. bytes_eq x.now y.now) (λ key. bytes_eq name key.now) mid new (Some first) → Some first ≡ position_in old name
@@ -95,7 +95,7 @@ kept_again name old mid new position first once again there other =
       step true e = ap (λ o. kept o true position) (there ∙ ap (position_in old) (same_name name other e))
       step false e = kept_other (position_in old other) position
 
--- what is found by its position
+-- the definition at the position of a name is the definition that a search for the name finds
 pub found_by : {A : Type 0} (name_of : A → List ℕ) (xs : List A) (name : List ℕ) (o : Option ℕ) → o ≡ position_of (map name_of xs) name
     → option_and_then (slice_get xs) o ≡ find (λ x. bytes_eq (name_of x) name) xs
 found_by name_of xs name o e = ap (option_and_then (slice_get xs)) e ∙ found_at name_of xs name

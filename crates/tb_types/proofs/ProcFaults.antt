@@ -1,4 +1,4 @@
--- What is violated in each kind of process.
+-- The violations of each kind of process.
 use Rattle.std.proofs.Common.{◌≡◌, List, ◌++◌, map, Option, Some, None, option_map, ap, ◌∙◌}
 use Rattle.tb_terms.specs.declared.sort.Sort.TheVariants as sorts
 use Rattle.tb_syntax.specs.declared.ast.Ast.{Ast}

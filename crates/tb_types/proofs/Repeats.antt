@@ -16,12 +16,12 @@ some_kept (Some old) false position = refl
 some_kept None true position = refl
 some_kept None false position = refl
 
--- the names that have positions, once one more is kept
+-- the names that have positions, after one more name is kept
 pub seen_kept : (old new : List ℕ → Option ℕ) (name : List ℕ) (position : ℕ) → ((other : List ℕ) → new other ≡ kept (old other) (bytes_eq name other) position)
     → ◌≡◌ {A = List ℕ → Bool} (λ other. is_some (new other)) (or_seen name (λ other. is_some (old other)))
 seen_kept old new name position h = λ i other. (ap is_some (h other) ∙ some_kept (old other) (bytes_eq name other) position) i
 
--- one more definition
+-- the step of the loop: one more definition
 pub repeats_more : (ds : List ProcDef) (at : ℕ) (d : ProcDef) (old new : List ℕ → Bool) (into more whole : List Violation) → at < length ds → d ≡ get_or ds at d
     → ◌≡◌ {A = List ℕ → Bool} new (or_seen d.name old) → more ≡ into ++ noted_if (old d.name) Twice d.token
     → into ++ process_repeats old (drop at ds) ≡ whole → more ++ process_repeats new (drop (at + 1) ds) ≡ whole

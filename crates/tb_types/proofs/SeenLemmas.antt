@@ -1,4 +1,4 @@
--- The names that were seen once one more is counted.
+-- The seen names after one more name is added.
 use Rattle.std.proofs.Common.{◌≡◌, ℕ, Bool, true, false, cond, List, Option, Some, ap, ◌∙◌, refl}
 use Rattle.std.proofs.lemmas.Map.Text.{hash_map_updates_str}
 use Rattle.std.specs.Borrow.{Bor}

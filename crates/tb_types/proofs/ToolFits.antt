@@ -1,4 +1,4 @@
--- Which tools' sorts an expression fits, and whether one of them is declared.
+-- The tools whose types an expression fits, and whether the script defines one of them.
 use Rattle.std.proofs.Common.{◌≡◌, ℕ, suc, ◌==◌, Bool, true, false, ◌||◌, cond, List, [], ◌∷◌, map, length, Option, Some, None, refl, ap, sym, ◌∙◌, rules}
 use Rattle.std.specs.Prelude.{is_some, find, not}
 use Rattle.std.specs.Borrow.{Bor}

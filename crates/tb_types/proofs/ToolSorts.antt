@@ -1,4 +1,4 @@
--- Which sorts go with those of tools.
+-- The types that go together with the types of tools.
 use Rattle.std.proofs.Common.{◌≡◌, ℕ, ◌==◌, Bool, true, false, ◌||◌, ◌&&◌, List, [], ◌∷◌, map, length, refl, ap, ◌∙◌}
 use Rattle.std.proofs.Math.Bool.{and-false}
 use Rattle.tb_terms.specs.declared.sort.Sort.{Sort, out-Sort}

@@ -1,4 +1,5 @@
--- What an atom breaks: where its arguments stand and what each is asked for, one case an atom, and the times.
+-- The violations of an atom: of its arguments, by the kind of place and the expectation of each, and of its times. There is one case for
+-- each atom.
 use Rattle.std.specs.Prelude.{ℕ, Bool, true, false, not, ◌||◌, ◌&&◌, nat_lt, List, [], ◌∷◌, ◌++◌, length, Option, Some, None, is_none, unwrap_or}
 use Rattle.std.specs.List.{flat_map}
 use Rattle.tb_terms.specs.declared.sort.Sort.{Sort}
@@ -24,7 +25,7 @@ use Rattle.tb_types.specs.Calls.{call_faults}
 use Rattle.tb_types.specs.ExpectedSorts.{Expectation, plain, of_sort, tested, made, command, started, connected, disconnected, of_tool, name_alone, site_faults}
 use Rattle.tb_types.specs.Scopes.{sort_in}
 
--- the word of an atom. No tokens spell an atom with another name: it stands for an atom without arguments
+-- the word of an atom. No source parses as an atom with another name; such a name counts as `delta`.
 abbrev pub word_of : List ℕ → AtomWord
 word_of name = unwrap_or (atom_word name) atom.Delta
 
@@ -34,7 +35,7 @@ is_wrong_count fewest_taken takes_any count = nat_lt count fewest_taken || (not 
 abbrev pub has_wrong_arguments : AtomWord → ℕ → Bool
 has_wrong_arguments word count = is_wrong_count (fewest word) (takes_more word) count
 
--- where the first argument stands
+-- the kind of place of the first argument: whether result variables and placeholders are allowed
 abbrev pub first_position : AtomWord → Position
 first_position atom.Delta = Sent
 first_position atom.Tau = Sent
@@ -57,7 +58,7 @@ first_position atom.SndAckEvent = Sent
 first_position atom.SndTerminate = Sent
 first_position atom.Shutdown = Sent
 
--- where the others stand
+-- the kind of place of the other arguments
 abbrev pub other_position : AtomWord → Position
 other_position atom.Delta = Sent
 other_position atom.Tau = Sent
@@ -80,7 +81,7 @@ other_position atom.SndAckEvent = Sent
 other_position atom.SndTerminate = Sent
 other_position atom.Shutdown = Sent
 
--- what the first argument is asked for
+-- the expectation of the first argument
 abbrev pub first_expected_sort : AtomWord → Expectation
 first_expected_sort atom.Delta = plain
 first_expected_sort atom.Tau = plain
@@ -103,7 +104,7 @@ first_expected_sort atom.SndAckEvent = of_tool
 first_expected_sort atom.SndTerminate = of_tool
 first_expected_sort atom.Shutdown = plain
 
--- what the others are asked for
+-- the expectation of the other arguments
 abbrev pub other_expected_sort : AtomWord → Ast → Expectation
 other_expected_sort atom.Delta first = plain
 other_expected_sort atom.Tau first = plain

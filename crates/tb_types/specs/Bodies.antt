@@ -1,4 +1,4 @@
--- All that a script breaks, by its parts: tools, processes with their bodies, and roots.
+-- All violations of a script, by its parts: tools, processes with their bodies, and roots.
 use Rattle.std.specs.Prelude.{List, [], ◌++◌, map, Option, Some, None}
 use Rattle.std.specs.List.{flat_map}
 use Rattle.tb_terms.specs.declared.sort.Sort.TheVariants as sorts
@@ -18,12 +18,12 @@ use Rattle.tb_types.specs.Definitions.{none_seen, process_repeats, formals_fault
 use Rattle.tb_types.specs.ExpectedSorts.{tested, site_faults}
 use Rattle.tb_types.specs.Scopes.{known_formal, known_var}
 
--- the other side of a test, where there is one
+-- the violations of the `else` side of an `if`, if there is one
 abbrev pub else_faults : Option (List Known → List Violation) → List Known → List Violation
 else_faults None known = []
 else_faults (Some side) known = side known
 
--- one construct, with what each part breaks in the part's place; within a `let` its variables are known
+-- the violations of one construct, from the violations of its parts; in the body of a `let`, its variables are known
 abbrev pub proc_step : Script → tree.Proc-F (List Known → List Violation) → List Known → List Violation
 proc_step script (tree.Atom atom) known = atom_faults script known atom
 proc_step script (tree.Call call) known = call_faults script known Called call

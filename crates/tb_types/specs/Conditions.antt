@@ -1,4 +1,4 @@
--- The nine conditions of a script, each by the tokens at which it fails; where all hold, and which fault comes first.
+-- The nine conditions of a script, with the tokens at which each fails; well-formed scripts; and the first error of a script.
 use Rattle.std.specs.Prelude.{◌≡◌, ℕ, ◌<◌, ◌≤◌, ◌⊎◌, List, [], ◌∷◌}
 use Rattle.tb_syntax.specs.declared.script.Script.{Script}
 use Rattle.tb_types.specs.declared.violation.Violation.{Violation}
@@ -17,11 +17,11 @@ IsIn it (first ∷ others) = (it ≡ first) ⊎ IsIn it others
 abbrev pub Fails : Script → Rule → ℕ → Type 0
 Fails script condition token = IsIn (record { rule = condition; token = token }) (script_faults script)
 
--- a condition holds where it fails at no token
+-- a condition holds if and only if it fails at no token
 abbrev pub Holds : Script → Rule → Type 0
 Holds script condition = (token : ℕ) → Fails script condition token → ⊥
 
--- the nine conditions hold
+-- a well-formed script: all nine conditions hold
 abbrev pub Proper : Script → Type 0
 Proper script = (condition : Rule) → Holds script condition
 
@@ -31,7 +31,7 @@ pub record IsFirst (script : Script) (condition : Rule) (token : ℕ) : Type 0 w
   pub first_token : (other : ℕ) → Fails script condition other → token ≤ other
   pub first_condition : (earlier : Rule) → number_of earlier < number_of condition → Holds script earlier
 
--- what is answered of a script that isn't proper; running out of memory says nothing of it
+-- the errors that a check can return for this script; `NoMemory` makes no claim about the script
 abbrev pub IsFault : Script → CheckFault → Type 0
 IsFault script (fault.Twice token) = IsFirst script rule.Twice token
 IsFault script (fault.NoProcess token) = IsFirst script rule.NoProcess token

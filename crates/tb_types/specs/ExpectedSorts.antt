@@ -1,4 +1,4 @@
--- What an expression is asked for where it stands, and how it can fail that.
+-- What the place of an expression requires of it, and the violations of these requirements.
 use Rattle.std.specs.Prelude.{ℕ, ◌==◌, Bool, false, not, ◌||◌, ◌&&◌, List, [], ◌++◌, length, map, Option, Some, None, option_map, option_and_then, is_some, is_none}
 use Rattle.std.specs.List.{list_any}
 use Rattle.tb_terms.specs.declared.sort.Sort.{Sort, out-Sort}
@@ -25,13 +25,13 @@ use Rattle.tb_types.specs.Values.{has_value_of}
 pub data Expectation : Type 0 where
   -- any expression
   plain : Expectation
-  -- one that fits this sort: a value actual, the right side of `:=`, the first argument of `printf`
+  -- an expression that fits this type: the argument of a value parameter, the right side of `:=`, the first argument of `printf`
   of_sort : Sort → Expectation
-  -- a test or a time value, which fits this sort
+  -- a test or a time value, which fits this type
   tested : Sort → Expectation
-  -- a root's actual, which has a value of this sort
+  -- an argument of a root, which fits this type and has a value of it
   rooted : Sort → Expectation
-  -- the actual of a result formal of this sort
+  -- the argument of a result parameter of this type
   exact : Sort → Expectation
   -- the variable of `create`
   made : Expectation
@@ -46,7 +46,7 @@ pub data Expectation : Type 0 where
   -- the first argument of the other tool atoms
   of_tool : Expectation
 
--- an expected sort as the program keeps it
+-- the expectation that a value of the program's type represents
 abbrev pub expected_sort_of : Kept → Expectation
 expected_sort_of kept.Plain = plain
 expected_sort_of (kept.OfSort s) = of_sort s.now
@@ -60,7 +60,7 @@ expected_sort_of kept.Connected = connected
 expected_sort_of kept.Disconnected = disconnected
 expected_sort_of kept.OfTool = of_tool
 
--- the name of an expression that is a name alone
+-- the name of an expression that is a name without arguments
 abbrev pub name_alone : ast.AstKind-F AstKind Ast → Option (List ℕ)
 name_alone (ast.Appl name []) = Some name
 name_alone _ = None
@@ -75,12 +75,12 @@ abbrev pub is_other_application : ast.AstKind-F AstKind Ast → Bool
 is_other_application (ast.Appl name parts) = not (length parts == 0) && is_none (applied name (length parts))
 is_other_application _ = false
 
--- no tool: the first argument of `execute` isn't the plain name of a tool with a command
+-- no tool: the first argument of `execute` isn't the name, without arguments, of a tool with a command
 abbrev pub lacks_tool : Script → Expectation → Ast → Bool
 lacks_tool script command expr = not (has_command (option_and_then (tool_named script.tools) (name_alone (out-AstKind expr.kind))))
 lacks_tool script _ expr = false
 
--- no function: a test or a time value is an application with arguments that is no function application
+-- no function: a test or a time value is an application with arguments that applies no function
 abbrev pub lacks_function : Expectation → Ast → Bool
 lacks_function (tested s) expr = is_other_application (out-AstKind expr.kind)
 lacks_function _ expr = false
@@ -88,7 +88,7 @@ lacks_function _ expr = false
 abbrev pub is_result : Ast → Bool
 is_result expr = is_some (result_name (out-AstKind expr.kind))
 
--- not a result: no result variable stands where one must
+-- not a result: the place requires a result variable, and the expression isn't one
 abbrev pub lacks_result : Expectation → Ast → Bool
 lacks_result (exact s) expr = not (is_result expr)
 lacks_result made expr = not (is_result expr)
@@ -96,7 +96,7 @@ lacks_result (started name) expr = not (is_result expr)
 lacks_result connected expr = not (is_result expr)
 lacks_result _ expr = false
 
--- the sort of a result variable
+-- the type of the expression, if it is a result variable that is declared
 abbrev pub taken_sort : List Known → Ast → Option Sort
 taken_sort known expr = option_and_then (sort_in known) (result_name (out-AstKind expr.kind))
 
@@ -110,7 +110,7 @@ is_number_or_term s = is_int (out-Sort s) || is_any (out-Sort s)
 abbrev pub is_sort_of_tool : Sort → Bool
 is_sort_of_tool s = is_any_tool (out-Sort s)
 
--- that tool's sort, or `term`
+-- the type of this tool, or `term`
 abbrev pub is_started_sort : Option (List ℕ) → Sort → Bool
 is_started_sort None s = is_any (out-Sort s)
 is_started_sort (Some name) s = is_any (out-Sort s) || is_tool_sort name (out-Sort s)
@@ -121,7 +121,7 @@ tool_sort tool = sorts.Tool tool.name
 abbrev pub fits_some_tool : List ToolDef → List Known → Ast → Bool
 fits_some_tool tools known expr = list_any (fits known expr) (map tool_sort tools)
 
--- a clash of sorts, but for the arguments of functions
+-- a type clash of the whole expression; the arguments of functions are checked separately
 abbrev pub clashes : Script → List Known → Expectation → Ast → Bool
 clashes script known plain expr = false
 clashes script known (of_sort s) expr = not (fits known expr s)
@@ -136,7 +136,7 @@ clashes script known disconnected expr =
     is_refused_by is_sort_of_tool (taken_sort known expr) || (not (is_result expr) && not (fits_some_tool script.tools known expr))
 clashes script known of_tool expr = not (fits_some_tool script.tools known expr)
 
--- all that an expression breaks where it stands
+-- all violations of an expression at its place
 abbrev pub site_faults : Script → List Known → Position → Expectation → Ast → List Violation
 site_faults script known position expected_sort expr =
     noted_if (lacks_tool script expected_sort expr) NoTool expr.token

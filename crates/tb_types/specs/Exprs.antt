@@ -1,4 +1,5 @@
--- What an expression must hold whatever it stands for: functions have their number of arguments, of their sorts, and variables are declared; and which sorts it fits.
+-- The conditions on an expression that don't depend on its place, and the types that it fits. Functions have as many arguments as they
+-- take, of the right types. Variables are declared.
 use Rattle.std.specs.Prelude.{ℕ, ◌==◌, Bool, false, not, ◌||◌, ◌&&◌, List, [], ◌∷◌, ◌++◌, length, Option, Some, None, is_none}
 use Rattle.std.specs.List.{list_all, flat_map}
 use Rattle.tb_terms.specs.declared.sort.Sort.{Sort, out-Sort}
@@ -20,28 +21,28 @@ use Rattle.tb_types.specs.Fitting.{is_any, is_bool, is_int, is_str, is_list_of, 
 use Rattle.tb_types.specs.Names.{applied}
 use Rattle.tb_types.specs.Scopes.{sort_in}
 
--- an expression: its first token, the sorts that it fits, and where it or its parts break a condition
+-- an expression: its first token, the types that it fits, and the violations of the expression and its parts
 pub record Judged : Type 0 where
   pub token : ℕ
   pub fits : Sort → Bool
   pub faults : List Violation
 
--- the same for an expression whose first token isn't known yet
+-- the types and violations of an expression whose first token isn't known yet
 pub record JudgedKind : Type 0 where
   pub fits : Sort → Bool
   pub faults : ℕ → List Violation
 
--- a name alone is a term of `bool`, or fits `term` alone
+-- a name without arguments fits `bool` if it is `true` or `false`, and no other type except `term`
 abbrev pub word_fits : List ℕ → ℕ → Sort → Bool
 word_fits name count s = count == 0 && (is_truth_word name && is_bool (out-Sort s))
 
--- the name of a tool with a number
+-- the name of a tool with one argument that fits `int` fits the type of this tool
 abbrev pub tool_fits : List ℕ → List Judged → Sort → Bool
 tool_fits name [] s = false
 tool_fits name (number ∷ []) s = is_tool_sort name (out-Sort s) && number.fits sorts.Int
 tool_fits name (number ∷ other ∷ parts) s = false
 
--- an application fits where either way of fitting holds
+-- an application fits a type as a name, by the result of its function, or as a tool
 abbrev pub appl_fits : List ℕ → List Judged → Sort → Bool
 appl_fits name parts s = word_fits name (length parts) s || (result_goes_with (applied name (length parts)) s || tool_fits name parts s)
 
@@ -52,7 +53,8 @@ variable_fits (Some own) s = goes_with own s
 abbrev pub all_fit : List Judged → Sort → Bool
 all_fit parts s = list_all (λ (part : Judged). part.fits s) parts
 
--- which sorts an expression fits; no condition asks it of a result variable or a placeholder where each of these stands where it may
+-- the types that an expression fits. No condition depends on this for a result variable or a placeholder, if all of them are at allowed
+-- places.
 abbrev pub fits_step : List Known → ast.AstKind-F JudgedKind Judged → Sort → Bool
 fits_step known (ast.Int number) s = is_any (out-Sort s) || is_int (out-Sort s)
 fits_step known (ast.Str text) s = is_any (out-Sort s) || is_str (out-Sort s)
@@ -62,16 +64,16 @@ fits_step known (ast.Result name) s = is_any (out-Sort s)
 fits_step known (ast.Hole hole) s = is_any (out-Sort s)
 fits_step known (ast.List parts) s = is_any (out-Sort s) || is_list_of (all_fit parts) (out-Sort s)
 
--- a function is applied to another number of arguments than it takes
+-- a function is applied to a wrong number of arguments
 abbrev pub has_wrong_count : Option Func → ℕ → Bool
 has_wrong_count None count = false
 has_wrong_count (Some func) count = not (count == (signature_of func).arity)
 
--- an argument that doesn't fit the sort of its position
+-- an argument that doesn't fit the type of its position
 abbrev pub argument_faults : Shape → Judged → List Violation
 argument_faults shape part = noted_if (not (part.fits (sort_of shape))) TypeClash part.token
 
--- each argument at its position, as far as the function has positions
+-- the violations of the first two arguments; no function takes more
 abbrev pub arguments_faults : Signature → List Judged → List Violation
 arguments_faults signature [] = []
 arguments_faults signature (first ∷ []) = argument_faults signature.first first
@@ -84,7 +86,7 @@ applied_faults (Some func) parts = arguments_faults (signature_of func) parts
 abbrev pub parts_faults : List Judged → List Violation
 parts_faults parts = flat_map (λ (part : Judged). part.faults) parts
 
--- the name of a function goes with its arguments
+-- the violations of an application: a wrong number of arguments, arguments of wrong types, and those of the arguments
 abbrev pub application_faults : List ℕ → List Judged → ℕ → List Violation
 application_faults name parts token =
     noted_if (has_wrong_count (applied name (length parts)) (length parts)) Arity token

@@ -1,4 +1,4 @@
--- Which sorts go together, and which kinds of expressions fit a sort.
+-- Which types go together, and what the names `true` and `false` and the results of functions go with.
 use Rattle.std.specs.Prelude.{ℕ, Bool, true, false, ◌||◌, List, Option, Some, None, codes}
 use Rattle.std.specs.Str.{bytes_eq}
 use Rattle.tb_terms.specs.Same.{is_same}
@@ -30,17 +30,17 @@ abbrev pub is_any_tool : sort.Sort-F Sort → Bool
 is_any_tool (sort.Tool name) = true
 is_any_tool _ = false
 
--- the sort of this tool
+-- the type of this tool
 abbrev pub is_tool_sort : List ℕ → sort.Sort-F Sort → Bool
 is_tool_sort tool (sort.Tool name) = bytes_eq name tool
 is_tool_sort tool _ = false
 
--- a sort of lists whose members' sort passes
+-- a list type whose member type passes
 abbrev pub is_list_of : (Sort → Bool) → sort.Sort-F Sort → Bool
 is_list_of passes (sort.List members) = passes members
 is_list_of passes _ = false
 
--- two sorts go together where they are equal, one is `term`, or both are lists whose members' sorts go together
+-- two types go together if and only if they are equal, one is `term`, or both are list types whose member types go together
 abbrev pub goes_step : sort.Sort-F (Sort → Bool) → Sort → Bool
 goes_step sort.Bool other = is_any (out-Sort other) || is_bool (out-Sort other)
 goes_step sort.Int other = is_any (out-Sort other) || is_int (out-Sort other)
@@ -55,7 +55,7 @@ goes_with = fold-Sort (Sort → Bool) goes_step
 abbrev pub is_same_sort : Sort → Sort → Bool
 is_same_sort = is_same sorts.the_row.coded
 
--- a name that is a term of `bool`
+-- a name that is a value of `bool`
 abbrev pub is_truth_word : List ℕ → Bool
 is_truth_word name = bytes_eq name (codes "true") || bytes_eq name (codes "false")
 

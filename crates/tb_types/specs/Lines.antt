@@ -1,4 +1,4 @@
--- The text of the line of a condition that fails, at its token.
+-- The text of the line of each error, with its token.
 use Rattle.std.specs.Prelude.{ℕ, List, ◌++◌, codes}
 use Rattle.std.specs.Fmt.{decimal}
 use Rattle.tb_types.specs.declared.fault.CheckFault.{CheckFault}

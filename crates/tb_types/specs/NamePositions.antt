@@ -1,4 +1,4 @@
--- At which position among the definitions a name stands first.
+-- The position of a name's first definition among the definitions, from 0.
 use Rattle.std.specs.Prelude.{ℕ, ◌+◌, Bool, List, [], ◌∷◌, Option, Some, None, option_map, if◌then◌else◌}
 use Rattle.std.specs.Borrow.{Bor}
 use Rattle.std.specs.Str.{bytes_eq}
@@ -16,11 +16,11 @@ abbrev pub position_of : List (List ℕ) → List ℕ → Option ℕ
 position_of [] name = None
 position_of (first ∷ others) name = if bytes_eq first name then Some 0 else option_map (λ position. position + 1) (position_of others name)
 
--- as the program keeps it
+-- the position of a name in the program's table
 abbrev pub position_in : {S : Type 0} → IndexMap (Bor (List ℕ)) ℕ S → List ℕ → Option ℕ
 position_in positions name = get_by (λ key. bytes_eq name key.now) positions
 
--- a position that is there is kept, and else a name that is the same has this position
+-- the position of a name after an insertion: an old position stays; otherwise the inserted name gets the new position
 abbrev pub kept : Option ℕ → Bool → ℕ → Option ℕ
 kept (Some old) is_same position = Some old
 kept None is_same position = if is_same then Some position else None

@@ -1,4 +1,4 @@
--- What the names of processes, tools and functions stand for.
+-- The definitions that the names of processes, tools, and functions refer to.
 use Rattle.std.specs.Prelude.{ℕ, ◌==◌, Bool, false, not, List, Option, Some, None, find, is_some, if◌then◌else◌}
 use Rattle.std.specs.Str.{bytes_eq}
 use Rattle.tb_terms.specs.declared.sort.Sort.{Sort}
@@ -22,7 +22,7 @@ abbrev pub has_command : Option ToolDef → Bool
 has_command None = false
 has_command (Some tool) = is_some tool.command
 
--- the innermost name of a sort is no sort and no tool
+-- the innermost name of a type is neither a built-in type nor a defined tool
 abbrev pub unknown_step : List ToolDef → sort.Sort-F Bool → Bool
 unknown_step tools sort.Bool = false
 unknown_step tools sort.Int = false
@@ -34,6 +34,6 @@ unknown_step tools (sort.Tool name) = not (is_tool tools name)
 abbrev pub is_unknown_sort : List ToolDef → Sort → Bool
 is_unknown_sort tools = fold-Sort Bool (unknown_step tools)
 
--- the function that an application with so many parts applies: it has parts, and its name is a function's
+-- the function that an application with this many parts applies, if it has parts and its name is the name of a function
 abbrev pub applied : List ℕ → ℕ → Option Func
 applied name count = if count == 0 then None else function_named name

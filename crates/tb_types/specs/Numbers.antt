@@ -1,4 +1,4 @@
--- The numbers of the nine conditions, in whose order they come.
+-- The numbers of the nine conditions. The condition with the smaller number comes first.
 use Rattle.std.specs.Prelude.{ℕ}
 use Rattle.tb_types.specs.declared.violation.Rule.{Rule}
 use Rattle.tb_types.specs.declared.violation.Rule.TheVariants as rule

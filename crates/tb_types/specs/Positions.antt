@@ -1,4 +1,4 @@
--- Where result variables and placeholders may stand.
+-- The places where result variables and placeholders are allowed.
 use Rattle.std.specs.Prelude.{ℕ, Bool, true, false, not, List, [], length, is_some, if◌then◌else◌}
 use Rattle.std.specs.List.{flat_map}
 use Rattle.tb_syntax.specs.declared.ast.Ast.{Ast}
@@ -24,14 +24,14 @@ takes_holes Taken = false
 takes_holes Noted = true
 takes_holes Received = true
 
--- the position of a part: what is taken is taken as a whole
+-- the kind of place of a part of an expression: at `Taken`, only the whole expression can be a result variable
 abbrev pub part_position : Position → Position
 part_position Sent = Sent
 part_position Taken = Sent
 part_position Noted = Noted
 part_position Received = Received
 
--- within a function application stand neither, wherever it is
+-- the kind of place of an argument: in a function application, neither a result variable nor a placeholder is allowed
 abbrev pub argument_position : List ℕ → ℕ → Position → Position
 argument_position name count position = if is_some (applied name count) then Sent else part_position position
 
@@ -50,6 +50,6 @@ expr_step expr = expr.kind expr.token
 abbrev pub misplaced_kind : AstKind → ℕ → Position → List Violation
 misplaced_kind = fold-AstKind (ℕ → Position → List Violation) (Position → List Violation) misplaced_step expr_step
 
--- the result variables and placeholders in an expression that may not stand where they do
+-- the result variables and placeholders in an expression that aren't allowed at their places
 abbrev pub misplaced : Position → Ast → List Violation
 misplaced position expr = misplaced_kind expr.kind expr.token position

@@ -1,4 +1,4 @@
--- What the actual of a root is worth: it has no variables.
+-- The value of an argument of a root, which has no variables.
 use Rattle.std.specs.Prelude.{ℕ, Bool, false, List, [], length, Option, Some, None}
 use Rattle.tb_terms.specs.declared.term.Term.{Term}
 use Rattle.tb_terms.specs.declared.sort.Sort.{Sort}
@@ -14,12 +14,12 @@ use Rattle.tb_syntax.specs.declared.ast.AstKind.TheOpen as ast
 use Rattle.tb_syntax.specs.declared.ast.AstKind.TheFolds.{fold-AstKind}
 use Rattle.tb_types.specs.Names.{applied}
 
--- an application of the function, where there is one
+-- an application of the function if there is one, and of the plain name otherwise
 abbrev pub application : Option Func → List ℕ → List Expr → Expr
 application None name parts = expr.Appl name parts
 application (Some func) name parts = expr.Call func parts
 
--- a variable, a result variable and a placeholder are worth nothing
+-- a variable, a result variable, and a placeholder become placeholders, which have no value
 abbrev pub closed_step : ast.AstKind-F Expr Expr → Expr
 closed_step (ast.Int number) = expr.Int number
 closed_step (ast.Str text) = expr.Str text
@@ -42,10 +42,10 @@ abbrev pub is_of_sort : Option Term → Sort → Bool
 is_of_sort None s = false
 is_of_sort (Some term) s = has_sort term s
 
--- its value, where it has one
+-- the value of an expression without variables, if it has one
 abbrev pub closed_value : Ast → Option Term
 closed_value expr = value_of [] (closed expr)
 
--- its value is there and has the sort
+-- the expression has a value, and the value has the type
 abbrev pub has_value_of : Ast → Sort → Bool
 has_value_of expr s = is_of_sort (closed_value expr) s

@@ -1,4 +1,4 @@
--- What is noted where a script breaks a condition: which condition, and at which token.
+-- The violation that is noted if a script breaks a condition: the condition and the token.
 use Rattle.std.specs.Prelude.{ℕ, Bool, List, [], ◌∷◌, if◌then◌else◌}
 use Rattle.tb_types.specs.declared.violation.Rule.{Rule}
 use Rattle.tb_types.specs.declared.violation.Violation.{Violation}

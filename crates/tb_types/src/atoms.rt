@@ -1,4 +1,4 @@
-//! What atoms break: where their arguments stand, and what each is asked for.
+//! The violations of atoms: of their arguments, by the kind of place and the expectation of each, and of their times.
 
 ghost use Rattle.std.specs.Prelude.{◌≡◌, ◌++◌, OnOk};
 ghost use Rattle.std.specs.List.{flat_map};
@@ -18,7 +18,7 @@ use std::alloc::Global;
 use tb_syntax::{ActDef, Ast, AtomDef, AtomWord, Call, TimeDef, atom_word};
 use tb_terms::{Ident, Items, NoMemory, Sort};
 
-/// The word of an atom. No tokens spell an atom with another name: it stands for an atom without arguments.
+/// Returns the word of an atom. No source parses as an atom with another name; for such a name, the result is `Delta`.
 fn word_of(name: &[u8]) -> AtomWord
     ensures { result ≡ word_of name.now }
 {
@@ -80,7 +80,7 @@ fn other_position(word: AtomWord) -> Position
     }
 }
 
-/// What an atom with such a first argument asks of the others.
+/// Returns what an atom with this first argument requires of its other arguments.
 fn other_expected_sort(word: AtomWord, first: &Ast) -> ExpectedSort<'_>
     ensures { expected_sort_of result ≡ other_expected_sort word first.now }
 {
@@ -108,7 +108,7 @@ fn other_expected_sort(word: AtomWord, first: &Ast) -> ExpectedSort<'_>
     }
 }
 
-/// All that an atom and its times break.
+/// Adds all violations of an atom and its times.
 pub(crate) fn push_atom(
     alloc: Global,
     names: &Names,
@@ -248,7 +248,7 @@ fn push_arguments(
     }
 }
 
-/// What the first argument breaks.
+/// Adds the violations of the first argument.
 fn push_first(
     alloc: Global,
     names: &Names,
@@ -269,7 +269,7 @@ fn push_first(
     Ok(())
 }
 
-/// What the first argument is asked for. `text` is the sort of strings.
+/// Returns what an atom requires of its first argument. `text` is the type of strings.
 fn first_expected_sort(word: AtomWord, text: &Sort) -> ExpectedSort<'_>
     requires { text.now ≡ sorts.Str }
     ensures { expected_sort_of result ≡ first_expected_sort word }
@@ -332,7 +332,7 @@ fn push_times(
     Ok(())
 }
 
-/// What a test or a time value breaks, which is to fit this sort.
+/// Adds the violations of a test or a time value, which must fit this type.
 pub(crate) fn push_tested(
     alloc: Global,
     names: &Names,

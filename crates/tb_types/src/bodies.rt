@@ -1,4 +1,4 @@
-//! What a script and the bodies of its processes break.
+//! The violations of a script and of the bodies of its processes.
 
 ghost use Rattle.std.specs.Prelude.{◌≡◌, ◌++◌, [], IfOk, OnOk, map, option_map};
 ghost use Rattle.std.specs.List.{flat_map};
@@ -16,7 +16,7 @@ use std::alloc::Global;
 use tb_syntax::{Call, Proc, ProcDef, Script, Var};
 use tb_terms::{Boxed, Items, NoMemory, Sort};
 
-/// All that a script breaks, and the names that it defines.
+/// Adds all violations of a script, and returns the names that the script defines.
 pub(crate) fn push_script<'a>(
     alloc: Global,
     script: &'a Script,
@@ -76,7 +76,7 @@ fn push_roots(
     Ok(())
 }
 
-/// What a root breaks, where no variable is known.
+/// Adds the violations of a root. No variable is known in a root.
 fn push_root(
     alloc: Global,
     names: &Names,
@@ -171,7 +171,7 @@ fn push_else(
     }
 }
 
-/// What a `let` breaks, within which its variables are known.
+/// Adds the violations of a `let`. Its variables are known in its body.
 #[cycle(procs)]
 fn push_let(
     alloc: Global,

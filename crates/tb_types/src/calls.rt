@@ -1,4 +1,4 @@
-//! What calls of processes break.
+//! The violations of calls, `create` atoms, and roots.
 
 ghost use Rattle.std.specs.Prelude.{◌≡◌, ◌++◌, OnOk, Some};
 ghost use Rattle.std.specs.Option.{option_copied};
@@ -16,17 +16,18 @@ use std::alloc::Global;
 use tb_syntax::{Ast, Call, Formal, ProcDef};
 use tb_terms::{Items, NoMemory, Sort};
 
-/// What a process is named for.
+/// The use of a process name with arguments.
 #[derive(Clone, Copy, Debug, PartialEq, Eq)]
 pub enum Manner {
+    /// A call in a body.
     Called,
-    /// In a `create`.
+    /// A `create`.
     Made,
-    /// As a root.
+    /// A root.
     Rooted,
 }
 
-/// All that a call, a `create` or a root breaks.
+/// Adds all violations of a call, a `create`, or a root.
 pub(crate) fn push_call(
     alloc: Global,
     names: &Names,
@@ -61,7 +62,7 @@ pub(crate) fn push_call(
     }
 }
 
-/// All that a call of this process breaks.
+/// Adds all violations of a call, a `create`, or a root that names this process.
 fn push_known_call(
     alloc: Global,
     names: &Names,
@@ -82,7 +83,7 @@ fn push_known_call(
     Ok(())
 }
 
-/// What the actuals break, each with the formal at its position.
+/// Adds the violations of the arguments. Each argument is checked with the parameter at its position.
 fn push_actuals(
     alloc: Global,
     names: &Names,

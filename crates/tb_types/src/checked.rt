@@ -1,4 +1,4 @@
-//! Whether a script is proper, and its first fault.
+//! The check of a script, with its first error.
 
 ghost use Rattle.std.specs.Prelude.{◌≡◌, IfOk, IfErr, OnOk};
 ghost use Rattle.tb_types.specs.Conditions.{Proper, IsFault};
@@ -13,8 +13,8 @@ use std::alloc::Global;
 use tb_syntax::Script;
 use tb_terms::Items;
 
-/// Whether a script holds what it must beyond its grammar. A fault names the first of the nine
-/// conditions that it fails, and the first token at which it does.
+/// Checks that a script is well-formed. An error other than `NoMemory` is the first of the nine conditions that fails, with the first
+/// token at which it fails.
 pub fn check(alloc: Global, s: &Script) -> Result<(), CheckFault>
     ensures proper { OnOk result (Proper s.now) }
     ensures fault { IfErr result (λ fault. IsFault s.now fault) }
@@ -25,7 +25,7 @@ pub fn check(alloc: Global, s: &Script) -> Result<(), CheckFault>
     }
 }
 
-/// The names of a script that holds what it must beyond its grammar, or the fault that `check` finds.
+/// Returns the names of a well-formed script, for later lookups. Returns the same errors as `check`.
 #[tactic(auto, using(crate::proofs::Firsts::first_none, crate::proofs::Firsts::first_some))]
 pub fn proper_names(alloc: Global, s: &Script) -> Result<Names<'_>, CheckFault>
     ensures names { IfOk result (λ names. names.script.now ≡ s.now) }

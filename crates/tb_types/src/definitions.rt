@@ -1,4 +1,4 @@
-//! What definitions break.
+//! The violations of definitions.
 
 ghost use Rattle.std.specs.Prelude.{◌≡◌, ◌++◌, OnOk};
 ghost use Rattle.std.specs.List.{flat_map};
@@ -12,7 +12,7 @@ use std::alloc::Global;
 use tb_syntax::{Formal, ToolDef, Var, is_sort_word};
 use tb_terms::{Items, NoMemory, Sort};
 
-/// The tools that are defined twice or have a sort's name.
+/// Adds a violation for each tool whose name comes earlier, and one for each tool with the name of a built-in type.
 pub(crate) fn push_tools(
     alloc: Global,
     tools: &[ToolDef],
@@ -49,7 +49,7 @@ fn push_sort_words(tools: &[ToolDef], into: &mut Items<Violation>) -> Result<(),
     Ok(())
 }
 
-/// The formals that come twice or whose sort is none.
+/// Adds a violation for each parameter whose name comes earlier in the list, and one for each unknown type.
 pub(crate) fn push_formals(
     alloc: Global,
     names: &Names,
@@ -95,7 +95,7 @@ fn push_formal_sorts(
     Ok(())
 }
 
-/// The variables of one `let` that come twice or whose sort is none.
+/// Adds a violation for each variable of one `let` whose name comes earlier in this `let`, and one for each unknown type.
 pub(crate) fn push_vars(
     alloc: Global,
     names: &Names,

@@ -1,4 +1,4 @@
-//! What an expression is asked for where it stands.
+//! What a place requires of the expression there.
 
 ghost use Rattle.std.specs.Prelude.{◌≡◌, ◌++◌, OnOk, IfOk, option_and_then};
 ghost use Rattle.std.specs.Option.{option_copied};
@@ -20,22 +20,24 @@ use std::alloc::Global;
 use tb_syntax::{Ast, AstKind};
 use tb_terms::{Ident, Items, Name, NoMemory, Sort};
 
-/// What an expression is asked for where it stands.
+/// What a place requires of the expression there.
 #[derive(Clone, Copy)]
 pub enum ExpectedSort<'a> {
+    /// Any expression.
     Plain,
+    /// An expression that fits this type.
     OfSort(&'a Sort),
-    /// A test or a time value.
+    /// A test or a time value, which fits this type.
     Tested(&'a Sort),
-    /// The actual of a root.
+    /// An argument of a root, which fits this type and has a value of it.
     Rooted(&'a Sort),
-    /// The actual of a result formal.
+    /// The argument of a result parameter: a result variable of this type.
     Exact(&'a Sort),
     /// The variable of `create`.
     Made,
     /// The tool of `execute`.
     Command,
-    /// The variable of `execute`, with the name of the tool.
+    /// The variable of `execute`, with the name of the tool if the first argument is a name without arguments.
     Started(Option<&'a Name>),
     /// The variable of `rec-connect`.
     Connected,
@@ -45,14 +47,16 @@ pub enum ExpectedSort<'a> {
     OfTool,
 }
 
-/// Where an expression stands, and what it is asked for there.
+/// The place of an expression.
 #[derive(Clone, Copy)]
 pub struct Site<'a> {
+    /// The kind of the place.
     pub position: Position,
+    /// What the place requires of the expression.
     pub expected_sort: ExpectedSort<'a>,
 }
 
-/// All that an expression breaks where it stands.
+/// Adds all violations of an expression at its place.
 pub(crate) fn push_site(
     alloc: Global,
     names: &Names,
@@ -91,7 +95,7 @@ pub(crate) fn push_site(
     Ok(())
 }
 
-/// The name of an expression that is a name alone.
+/// Returns the name of an expression that is a name without arguments.
 pub(crate) fn name_alone(kind: &AstKind) -> Option<&Name>
     ensures { option_copied result ≡ name_alone (out-AstKind kind.now) }
 {
@@ -137,7 +141,7 @@ fn lacks_tool(names: &Names, expected_sort: &ExpectedSort, expr: &Ast) -> bool
     }
 }
 
-/// Whether it is the plain name of a tool with a command.
+/// Returns whether the expression is the name, without arguments, of a tool with a command.
 fn is_command(names: &Names, kind: &AstKind) -> bool
     ensures { result ≡ has_command (option_and_then (tool_named names.now.script.now.tools)
         (name_alone (out-AstKind kind.now))) }
@@ -172,7 +176,7 @@ fn lacks_result(expected_sort: &ExpectedSort, expr: &Ast) -> bool
     }
 }
 
-/// The sort of a result variable.
+/// Returns the type of the expression if it is a result variable that is declared.
 fn taken_sort<'a>(scope: &Scope<'a>, expr: &Ast) -> Option<&'a Sort>
     ensures { option_copied result ≡ taken_sort (visible scope.now) expr.now }
 {

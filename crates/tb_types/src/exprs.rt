@@ -1,4 +1,4 @@
-//! Whether expressions fit sorts, and what they break.
+//! The types that expressions fit, and the violations of expressions that don't depend on their places.
 
 ghost use Rattle.std.specs.Prelude.{◌≡◌, ◌++◌, OnOk, IfOk, map};
 ghost use Rattle.tb_terms.specs.declared.sort.Sort.{out-Sort};
@@ -18,7 +18,7 @@ use tb_func::{Shape, Signature, signature};
 use tb_syntax::{Ast, AstKind};
 use tb_terms::{Boxed, Func, Ident, Items, Name, NoMemory, Sort};
 
-/// Whether the expression fits the sort.
+/// Returns whether the expression fits the type.
 #[cycle(fits)]
 pub(crate) fn fits(scope: &Scope, expr: &Ast, sort: &Sort) -> bool
     ensures { result ≡ fits (visible scope.now) expr.now sort.now }
@@ -101,8 +101,8 @@ fn all_fit(scope: &Scope, parts: &[Ast], sort: &Sort) -> bool
     true
 }
 
-/// What the expression breaks whatever it stands for: functions with another number of arguments
-/// than they take, or with arguments that don't fit, and variables that aren't declared.
+/// Adds the violations of the expression that don't depend on its place: functions with a wrong number of arguments or with arguments
+/// that don't fit, and undeclared variables.
 #[cycle(faults)]
 pub(crate) fn push_expr(
     alloc: Global,
@@ -205,7 +205,7 @@ fn has_wrong_count(func: Option<Func>, count: usize) -> bool
     }
 }
 
-/// The arguments that don't fit the sorts of their positions.
+/// Adds a violation for each argument that doesn't fit the type of its position.
 fn push_applied(
     alloc: Global,
     scope: &Scope,

@@ -1,4 +1,4 @@
-//! The faults of a check.
+//! The errors of a check.
 
 ghost use Rattle.std.specs.Prelude.{◌≡◌};
 ghost use Rattle.tb_message.specs.Messages.{message_text};
@@ -7,43 +7,43 @@ ghost use Rattle.tb_types.specs.Lines.{check_line};
 use tb_message::Message;
 use thiserror::Error;
 
-/// The first condition that a script fails, and the first token, counted from 0, at which it does.
+/// The first condition that a script fails, and the first token, counted from 0, at which this condition fails.
 #[derive(Clone, Copy, Debug, PartialEq, Eq, Error)]
 pub enum CheckFault {
-    /// A process, a tool, a formal or a variable is defined again, or a tool has a sort's name.
+    /// A process, a tool, a parameter, or a variable is defined twice, or a tool has the name of a built-in type.
     #[error("defined twice, at token {0}")]
     Twice(usize),
     /// A call, a `create` or a root names no process.
     #[error("no such process, at token {0}")]
     NoProcess(usize),
-    /// A sort is no sort and no tool, or `execute` names no tool with a command.
+    /// A type is neither a built-in type nor a tool, or `execute` names no tool with a command.
     #[error("no such tool, at token {0}")]
     NoTool(usize),
-    /// A test or a time value is an application with arguments that is no function's.
+    /// A test or a time value is an application with arguments that applies no function.
     #[error("no such function, at token {0}")]
     NoFunction(usize),
-    /// A call, a `create`, a root, a function or an atom has another number of arguments than defined.
+    /// A call, a `create`, a root, a function, or an atom has a wrong number of arguments.
     #[error("wrong number of arguments, at token {0}")]
     Arity(usize),
-    /// A variable is neither a formal of its process nor declared round it; in a root, any variable.
+    /// A variable is neither a parameter of its process nor declared in a `let` around it. In a root, each variable is undeclared.
     #[error("undeclared variable, at token {0}")]
     Undeclared(usize),
-    /// A result variable or a placeholder stands where it may not.
+    /// A result variable or a placeholder is at a place that doesn't allow it.
     #[error("result variable or placeholder in the wrong place, at token {0}")]
     ResultInSend(usize),
-    /// A value stands where a result variable must.
+    /// An expression isn't a result variable, and its place requires one.
     #[error("no result variable, at token {0}")]
     NotResult(usize),
-    /// An expression doesn't fit the sort that is asked for where it stands.
+    /// An expression doesn't fit the type that its place requires, or the argument of a root has no value of this type.
     #[error("wrong sort, at token {0}")]
     TypeClash(usize),
-    /// There wasn't memory enough; it says nothing of the script.
+    /// The call ran out of memory. This error makes no claim about the script.
     #[error("no memory")]
     NoMemory,
 }
 
 impl CheckFault {
-    /// The words of its line.
+    /// Returns the message of the error.
     pub fn message(&self) -> Message<'static>
         ensures { message_text result ≡ check_line self.now }
     {

@@ -6,8 +6,7 @@ ghost use Rattle.tb_types.specs.Helpers.First.{is_before, earlier, first_of};
 
 use crate::violation::{Rule, Violation};
 
-/// The first of what was noted: that of the least condition, and among these that at the least
-/// token.
+/// Returns the first violation: by the number of the condition, then by the token.
 pub(crate) fn first(violation: &[Violation]) -> Option<Violation>
     ensures { result ≡ first_of violation.now }
 {
@@ -34,7 +33,7 @@ fn is_before(one: Violation, other: Violation) -> bool
     number < other_number || (number == other_number && one.token < other.token)
 }
 
-/// The number of a condition.
+/// Returns the number of a condition, from 1.
 fn number_of(rule: Rule) -> u8
     ensures { result ≡ number_of rule }
 {

@@ -1,4 +1,4 @@
-//! Which sorts go with each other.
+//! Which types go together.
 
 ghost use Rattle.std.specs.Prelude.{◌≡◌, ◌||◌};
 ghost use Rattle.tb_terms.specs.declared.sort.Sort.{out-Sort};
@@ -33,14 +33,14 @@ pub(crate) fn is_str(sort: &Sort) -> bool
     matches!(sort, Sort::Str)
 }
 
-/// Whether it is the sort of a tool, whichever it is.
+/// Returns whether the type is the type of some tool.
 pub(crate) fn is_any_tool(sort: &Sort) -> bool
     ensures { result ≡ is_any_tool (out-Sort sort.now) }
 {
     matches!(sort, Sort::Tool(_))
 }
 
-/// Whether it is the sort of this tool.
+/// Returns whether the type is the type of this tool.
 pub(crate) fn is_tool_sort(tool: &Name, sort: &Sort) -> bool
     ensures { result ≡ is_tool_sort tool.now (out-Sort sort.now) }
 {
@@ -50,14 +50,14 @@ pub(crate) fn is_tool_sort(tool: &Name, sort: &Sort) -> bool
     }
 }
 
-/// Whether two sorts are the same.
+/// Returns whether two types are the same.
 pub(crate) fn is_same_sort(sort: &Sort, other: &Sort) -> bool
     ensures { result ≡ is_same_sort sort.now other.now }
 {
     sort.is_same(other)
 }
 
-/// Whether two sorts go together.
+/// Returns whether two types go together: they are equal, one is `term`, or both are list types whose member types go together.
 #[cycle(goes_with)]
 pub(crate) fn goes_with(own: &Sort, other: &Sort) -> bool
     ensures { result ≡ goes_with own.now other.now }
@@ -99,7 +99,7 @@ fn shape_goes_with(shape: Shape, sort: &Sort) -> bool
     }
 }
 
-/// Whether what the function gives goes with the sort; not so where there is no function.
+/// Returns whether the type of the function's result goes with this type. If there is no function, the result is false.
 pub(crate) fn result_goes_with(func: Option<Func>, sort: &Sort) -> bool
     ensures { result ≡ result_goes_with func sort.now }
 {
@@ -109,7 +109,7 @@ pub(crate) fn result_goes_with(func: Option<Func>, sort: &Sort) -> bool
     }
 }
 
-/// Whether the name alone is a term of `bool`.
+/// Returns whether the name is a value of `bool`.
 pub(crate) fn is_truth_word(name: &Name) -> bool
     ensures { result ≡ is_truth_word name.now }
 {

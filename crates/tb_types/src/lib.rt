@@ -1,4 +1,4 @@
-//! What a script must hold beyond its grammar, and where it first fails to.
+//! Checks scripts: the nine conditions beyond the grammar, and the first one that a script fails.
 #![tactic(auto)]
 
 mod atoms;

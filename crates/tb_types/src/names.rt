@@ -16,10 +16,11 @@ use tb_func::function;
 use tb_syntax::{ProcDef, Script, ToolDef};
 use tb_terms::{Func, Ident, Items, Name, NoMemory, Sort};
 
-/// What the names of a script stand for: the processes and the tools by their positions among the
-/// definitions. Where one is defined twice, the first is known.
+/// The names of a script, with the position of each process and tool among the definitions. If a name is defined twice, the position is
+/// that of the first definition.
 #[derive(Drop)]
 pub struct Names<'a> {
+    /// The script that defines the names.
     pub script: &'a Script,
     processes: IndexMap<&'a [u8], usize>,
     tools: IndexMap<&'a [u8], usize>,
@@ -30,7 +31,7 @@ pub struct Names<'a> {
 }
 
 impl<'a> Names<'a> {
-    /// The names that a script defines.
+    /// Returns the names that a script defines.
     pub fn of(alloc: Global, script: &'a Script) -> Result<Names<'a>, NoMemory>
         ensures { IfOk result (λ names. names.script.now ≡ script.now) }
     {
@@ -38,7 +39,7 @@ impl<'a> Names<'a> {
         Ok(names_of(alloc, script, &mut repeats)?)
     }
 
-    /// The position, from 0, of the process of this name among the definitions; none where none has it.
+    /// Returns the position, from 0, of the process with this name among the definitions, or `None` if there is no such process.
     pub fn process_position(&self, name: &[u8]) -> Option<usize>
         ensures { result ≡ position_of (map process_name self.now.script.now.procs) name.now }
     {
@@ -48,7 +49,7 @@ impl<'a> Names<'a> {
         }
     }
 
-    /// The position, from 0, of the tool of this name among the definitions; none where none has it.
+    /// Returns the position, from 0, of the tool with this name among the definitions, or `None` if there is no such tool.
     pub fn tool_position(&self, name: &[u8]) -> Option<usize>
         ensures { result ≡ position_of (map tool_name self.now.script.now.tools) name.now }
     {
@@ -59,7 +60,7 @@ impl<'a> Names<'a> {
     }
 }
 
-/// The names that a script defines. The processes that are defined twice are noted.
+/// Returns the names that a script defines, and adds a violation for each process whose name comes earlier.
 pub(crate) fn names_of<'a>(
     alloc: Global,
     script: &'a Script,
@@ -78,7 +79,7 @@ pub(crate) fn names_of<'a>(
     })
 }
 
-/// The positions of the processes by their names. Those that are defined twice are noted.
+/// Returns the positions of the processes by name, and adds a violation for each process whose name comes earlier.
 fn process_positions<'a>(
     alloc: Global,
     processes: &'a [ProcDef],
@@ -110,7 +111,7 @@ fn tool_positions<'a>(
     Ok(positions)
 }
 
-/// Keeps the position of a name that has none so far. The answer is whether it had one.
+/// Keeps the position of a name that has none so far. Returns whether the name had one.
 fn keep_position<'a>(
     positions: &mut IndexMap<&'a [u8], usize>,
     name: &'a [u8],
@@ -129,7 +130,7 @@ fn keep_position<'a>(
     }
 }
 
-/// The process of this name.
+/// Returns the process with this name.
 pub(crate) fn process<'a>(names: &Names<'a>, name: &Ident) -> Option<&'a ProcDef>
     ensures { option_copied result ≡ process_named names.now.script.now.procs name.now }
 {
@@ -139,7 +140,7 @@ pub(crate) fn process<'a>(names: &Names<'a>, name: &Ident) -> Option<&'a ProcDef
     }
 }
 
-/// The tool of this name.
+/// Returns the tool with this name.
 pub(crate) fn tool<'a>(names: &Names<'a>, name: &Name) -> Option<&'a ToolDef>
     ensures { option_copied result ≡ tool_named names.now.script.now.tools name.now }
 {
@@ -149,7 +150,7 @@ pub(crate) fn tool<'a>(names: &Names<'a>, name: &Name) -> Option<&'a ToolDef>
     }
 }
 
-/// Whether the innermost name of a sort is no sort and no tool.
+/// Returns whether the innermost name of a type is neither a built-in type nor a defined tool.
 pub(crate) fn is_unknown_sort(names: &Names, sort: &Sort) -> bool
     ensures { result ≡ is_unknown_sort names.now.script.now.tools sort.now }
 {
@@ -160,7 +161,7 @@ pub(crate) fn is_unknown_sort(names: &Names, sort: &Sort) -> bool
     }
 }
 
-/// The function that an application with so many parts applies.
+/// Returns the function that an application with this many parts applies.
 pub(crate) fn applied(name: &Name, count: usize) -> Option<Func>
     ensures { result ≡ applied name.now count }
 {

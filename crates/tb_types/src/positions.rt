@@ -1,4 +1,4 @@
-//! Where result variables and placeholders may stand.
+//! The places where result variables and placeholders are allowed.
 
 ghost use Rattle.std.specs.Prelude.{◌≡◌, ◌++◌, OnOk, map};
 ghost use Rattle.std.specs.List.{flat_map};
@@ -9,16 +9,16 @@ use crate::violation::{Rule, Violation, note_if};
 use tb_syntax::{Ast, AstKind};
 use tb_terms::{Items, Name, NoMemory};
 
-/// Where an expression stands, as far as result variables and placeholders go.
+/// The kind of a place: whether the expression there can have result variables and placeholders.
 #[derive(Clone, Copy, Debug, PartialEq, Eq)]
 pub enum Position {
-    /// Neither may stand there.
+    /// Neither is allowed.
     Sent,
-    /// A result variable may be the whole.
+    /// The whole expression can be a result variable. No placeholder is allowed.
     Taken,
-    /// Placeholders may stand in it.
+    /// Placeholders are allowed. No result variable is allowed.
     Noted,
-    /// Both may stand in it.
+    /// Both are allowed.
     Received,
 }
 
@@ -54,7 +54,7 @@ fn argument_position(name: &Name, count: usize, position: Position) -> Position
     }
 }
 
-/// The result variables and placeholders in the expression that may not stand where they do.
+/// Adds a violation for each result variable and placeholder in the expression that isn't allowed at its place.
 #[cycle(misplaced)]
 pub(crate) fn push_misplaced(
     position: Position,

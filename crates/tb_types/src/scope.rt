@@ -1,4 +1,4 @@
-//! The variables that are known at a position.
+//! The variables that are known at a place.
 
 ghost use Rattle.std.specs.Prelude.{◌≡◌, map};
 ghost use Rattle.std.specs.Option.{option_copied};
@@ -7,20 +7,24 @@ ghost use Rattle.tb_types.specs.Scopes.{visible, sort_in, known_formal, known_va
 use tb_syntax::{Formal, Var};
 use tb_terms::{Ident, Sort};
 
-/// A variable with its sort.
+/// A variable with its type.
 pub struct Known {
+    /// The name of the variable.
     pub name: Ident,
+    /// The type of the variable.
     pub sort: Sort,
 }
 
-/// The variables that are known at a position: the formals, and those of each `let` around it.
+/// The variables that are known at a place: the parameters, and the variables of each `let` around it.
 #[derive(Clone, Copy)]
 pub enum Scope<'a> {
+    /// The parameters of the process.
     Formals(&'a [Formal]),
+    /// The variables of a `let`, and the variables around this `let`.
     Inner(&'a [Var], &'a Scope<'a>),
 }
 
-/// The sort of the innermost variable of this name.
+/// Returns the type of the innermost variable of this name.
 pub(crate) fn sort_of<'a>(scope: &Scope<'a>, name: &Ident) -> Option<&'a Sort>
     ensures { option_copied result ≡ sort_in (visible scope.now) name.now }
 {

@@ -1,4 +1,4 @@
-//! The names that come again.
+//! Names that are defined twice.
 
 ghost use Rattle.std.specs.Prelude.{◌≡◌, ◌++◌, OnOk};
 ghost use Rattle.tb_types.specs.Violation.{noted_if};
@@ -10,7 +10,7 @@ use indexmap::IndexMap;
 use std::alloc::Global;
 use tb_terms::{Items, NoMemory};
 
-/// The names so far.
+/// The names that were seen so far.
 #[derive(Drop)]
 pub(crate) struct Seen<'a> {
     names: IndexMap<&'a [u8], ()>,
@@ -26,7 +26,7 @@ impl<'a> Seen<'a> {
     }
 }
 
-/// Notes a name that stood before, and counts it among the names so far.
+/// Adds a violation if the name was seen before, and adds the name to the seen names.
 pub(crate) fn push_repeat<'a>(
     seen: &mut Seen<'a>,
     name: &'a [u8],

@@ -1,4 +1,4 @@
-//! The tools whose sorts an expression fits.
+//! The tools whose types an expression fits.
 
 ghost use Rattle.std.specs.Prelude.{◌≡◌, ℕ, List, map};
 ghost use Rattle.tb_terms.specs.declared.sort.Sort.TheVariants as sorts;
@@ -16,16 +16,18 @@ use tb_func::{Shape, signature};
 use tb_syntax::{Ast, AstKind};
 use tb_terms::{Func, Ident, Name, Sort};
 
-/// The tools whose sorts an expression fits.
+/// The tools whose types an expression fits.
 #[derive(Clone, Copy)]
 pub enum Fitted<'a> {
+    /// No tool.
     Nothing,
+    /// Each tool.
     Every,
-    /// The tool of this name.
+    /// Only the tool of this name.
     One(&'a Name),
 }
 
-/// Whether the expression fits the sort of a tool that is declared.
+/// Returns whether the expression fits the type of some tool that the script defines.
 pub(crate) fn fits_some_tool(names: &Names, scope: &Scope, expr: &Ast) -> bool
     ensures { result ≡ fits_some_tool names.now.script.now.tools (visible scope.now) expr.now }
 {
@@ -89,7 +91,7 @@ fn fitted_by_application<'a>(scope: &Scope, name: &'a Name, parts: &[Ast]) -> Fi
     Fitted::Nothing
 }
 
-/// Whether the function gives any term.
+/// Returns whether the function's result has the type `term`.
 fn gives_any(func: Option<Func>) -> bool
     ensures { (tool : List ℕ) → result_goes_with func (sorts.Tool tool) ≡ result }
 {
@@ -110,7 +112,7 @@ fn is_any_shape(shape: Shape) -> bool
     }
 }
 
-/// Whether there is one part, which fits `int`.
+/// Returns whether there is exactly one part, and this part fits `int`.
 fn is_one_number(scope: &Scope, parts: &[Ast]) -> bool
     ensures { result ≡ is_one_number (map (judged (visible scope.now)) parts.now) }
 {

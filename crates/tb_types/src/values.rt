@@ -9,7 +9,7 @@ use tb_func::{Store, eval};
 use tb_syntax::{Ast, AstKind};
 use tb_terms::{Expr, Exprs, Func, Items, Name, NoMemory, Sort, Term, has_sort};
 
-/// Whether the expression, which has no variables, has a value of this sort.
+/// Returns whether the expression has a value of this type if no variable is known.
 pub(crate) fn has_value_of(alloc: Global, expr: &Ast, sort: &Sort) -> Result<bool, NoMemory>
     ensures { IfOk result (λ has. has ≡ has_value_of expr.now sort.now) }
 {
@@ -17,8 +17,8 @@ pub(crate) fn has_value_of(alloc: Global, expr: &Ast, sort: &Sort) -> Result<boo
     Ok(is_of_sort(&value, sort))
 }
 
-/// What an expression is worth where no variable is known, as the actual of a root; none where it has
-/// no value. A variable, a result variable and a placeholder have none.
+/// Evaluates an expression if no variable is known, as for the argument of a root. Returns `None` if the expression has no value. A
+/// variable, a result variable, and a placeholder have no value.
 pub fn closed_value(alloc: Global, expr: &Ast) -> Result<Option<Term>, NoMemory>
     ensures { IfOk result (λ value. value ≡ closed_value expr.now) }
 {
@@ -36,7 +36,7 @@ fn is_of_sort(value: &Option<Term>, sort: &Sort) -> bool
     }
 }
 
-/// The expression with the functions that it applies. What a variable would be has no value.
+/// Returns the expression with its functions resolved. Variables become placeholders, which have no value.
 #[cycle(closed)]
 fn closed(alloc: Global, expr: &Ast) -> Result<Expr, NoMemory>
     ensures { IfOk result (λ e. e ≡ closed expr.now) }

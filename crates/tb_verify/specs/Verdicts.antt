@@ -1,4 +1,5 @@
--- Whether bytes are the text of a trace, at which line they stop being one, and for which line's entry a log has no capacity.
+-- The verdict on the bytes of a log: they are the text of a trace, or the first line at which they aren't. Also the line at which a log is
+-- crowded: a log has no capacity for the line's entry.
 use Rattle.std.specs.Prelude.{◌≡◌, ◌≢◌, ℕ, ◌+◌, List, [], ◌++◌, length, false}
 use Rattle.tb_bus.specs.Buses.{Bus, start}
 use Rattle.tb_bus.specs.Traces.{IsLegal, IsTrace, replay}
@@ -17,7 +18,7 @@ pub record IsTraceText (origin : Origin) (bytes : List ℕ) : Type 0 where
   pub text : bytes ≡ log_text log
   pub trace : IsTrace (start origin) log
 
--- The lines before this one are the text of a log that is a trace, and this one is there.
+-- The lines before this line number are the text of a log that is a trace, and the line with this number exists.
 pub record IsTraceBefore (origin : Origin) (bytes : List ℕ) (number : ℕ) (log : List Entry) (rest : List ℕ) : Type 0 where
   pub is_log : IsLog log
   pub before : bytes ≡ log_text log ++ rest
@@ -25,7 +26,7 @@ pub record IsTraceBefore (origin : Origin) (bytes : List ℕ) (number : ℕ) (lo
   pub is_there : rest ≢ []
   pub trace : IsTrace (start origin) log
 
--- No entry that is legal after the entries before it has this line and this number.
+-- The verdict is this line: the lines before it are a trace, and it isn't the line of an entry with this number that can come next.
 pub record LeavesAt (origin : Origin) (bytes : List ℕ) (number : ℕ) : Type 0 where
   pub log : List Entry
   pub rest : List ℕ
@@ -33,7 +34,8 @@ pub record LeavesAt (origin : Origin) (bytes : List ℕ) (number : ℕ) : Type 0
   pub is_none : (entry : Entry) (next : Bus) → IsLine number entry (first_line rest)
       → IsLegal (replay (start origin) log) entry next → ⊥
 
--- This line is that of an entry that is legal after the entries before it, and a log of the origin has no capacity for it.
+-- The log is crowded at this line: the lines before it are a trace, it is the line of an entry that can come next, and a log of the origin
+-- has no capacity for this entry.
 pub record IsCrowdedAt (origin : Origin) (bytes : List ℕ) (number : ℕ) : Type 0 where
   pub log : List Entry
   pub rest : List ℕ
@@ -44,7 +46,7 @@ pub record IsCrowdedAt (origin : Origin) (bytes : List ℕ) (number : ℕ) : Typ
   pub legal : IsLegal (replay (start origin) log) entry next
   pub full : has_room origin.limit log entry ≡ false
 
--- what a verdict claims of the bytes
+-- the claim of a verdict about the bytes
 abbrev pub IsVerdict : Origin → List ℕ → Verdict → Type 0
 IsVerdict origin bytes verdict.Trace = IsTraceText origin bytes
 IsVerdict origin bytes (verdict.Line number) = LeavesAt origin bytes number

@@ -1,4 +1,4 @@
-//! Whether a log is a trace of a script.
+//! The check whether a log is a trace of a script.
 #![tactic(auto)]
 
 mod laws;

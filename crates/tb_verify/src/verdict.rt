@@ -1,4 +1,4 @@
-//! The verdict on a log, and the reasons why there is none.
+//! The verdict on a log, and the errors of `verify`.
 use tb_terms::NoMemory;
 
 /// The verdict on a log of a program.
@@ -10,12 +10,12 @@ pub enum Verdict {
     Line(u64),
 }
 
-/// Why there is no verdict.
+/// The reason why there is no verdict.
 #[derive(Clone, Copy, Debug, PartialEq, Eq)]
 pub enum VerifyFault {
-    /// The log goes on past the limits of a log.
+    /// An entry that can come next passes the limits of a log.
     Full,
-    /// Out of memory. This says nothing of the log.
+    /// Out of memory. This makes no claim about the log.
     NoMemory,
 }
 

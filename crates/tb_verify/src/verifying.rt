@@ -1,4 +1,4 @@
-//! The verdict on a log, line by line.
+//! How a log is verified, line by line.
 
 ghost use Rattle.std.specs.Prelude.{◌≡◌, ◌≤◌, ◌⊎◌, ℕ, [], Ok, Err, length, IfOk, false};
 ghost use Rattle.tb_bus.specs.Buses.{origin_of};
@@ -16,13 +16,13 @@ use tb_log_read::{LineBuffers, LogFault, read_line, split_line};
 use tb_process_steps::Walker;
 use tb_terms::Texts;
 
-/// How many entries a log has at most.
+/// The greatest number of entries of a log.
 const MOST_ENTRIES: u32 = 4_000_000;
 
-/// Returns whether the bytes are the text of a trace of the program, or the first line at which they aren't. The first lanes of the
-/// trace's bus are started with these commands. The call reads line by line, and keeps one core. A log has at most 4,000,000
-/// entries and the sizes that a core allows. If a legal entry passes these limits, the call returns `Full`. The memory of the core
-/// stays taken until the program ends.
+/// Returns the verdict on a log: the bytes are the text of a trace of the program, or this is the first line at which they aren't.
+/// `connects` has the commands with which the first lanes start. The call reads line by line, and keeps one core. A log has at most
+/// 4,000,000 entries, and its terms together have at most the size that a core allows. If an entry that can come next passes these
+/// limits, the call returns `Full`. The call doesn't release the memory of the core.
 pub fn verify<W: Walker>(
     alloc: Global,
     program: Program,
@@ -33,7 +33,7 @@ pub fn verify<W: Walker>(
     ensures verdict { IfOk result
         (IsVerdict (origin_of program connects.now most_entries) log.now) }
 
-    // If the bytes have a verdict, the call returns it, or one of these errors.
+    // If the bytes have a verdict, the call returns this verdict or one of these errors.
     ensures only { (verdict : Verdict)
         → IsVerdict (origin_of program connects.now most_entries) log.now verdict
         → (result ≡ Ok verdict)
@@ -41,7 +41,7 @@ pub fn verify<W: Walker>(
     ensures full { result ≡ Err VerifyFault.Full → (number : ℕ)
         × IsCrowdedAt (origin_of program connects.now most_entries) log.now number }
 
-    // If a log has no capacity for a legal entry, the call returns an error.
+    // If the log is crowded at a line, the call returns an error.
     ensures crowded { (number : ℕ)
         → IsCrowdedAt (origin_of program connects.now most_entries) log.now number
         → (result ≡ Err VerifyFault.Full) ⊎ (result ≡ Err VerifyFault.NoMemory) }
@@ -49,12 +49,12 @@ pub fn verify<W: Walker>(
     let mut core = Core::<W>::start(alloc, program, connects, MOST_ENTRIES)?;
     let verdict = verify_lines(alloc, &mut core, log);
 
-    // Freeing a bus term by term takes long, and the program ends next.
+    // Releasing a bus term by term takes long, and the program ends next.
     forget(core);
     verdict
 }
 
-/// Follows a log with a core that was just started.
+/// Verifies a log with a core that was just started.
 fn verify_lines<W: Walker>(
     alloc: Global,
     core: &mut Core<W>,
@@ -79,7 +79,7 @@ fn verify_lines<W: Walker>(
     Ok(Verdict::Trace)
 }
 
-/// Follows the entry of this line, which has this number. Returns `false` if no entry that may come next has this line.
+/// Follows the entry of the line with this number: the core logs it. Returns `false` if no entry that can come next has this line.
 fn follow_line<W: Walker>(
     alloc: Global,
     core: &mut Core<W>,

@@ -1,4 +1,4 @@
--- Definitions that proofs and private functions need, and that nobody has to believe who believes the program's call.
+-- Definitions that proofs and private functions need. A reader who trusts the program's call needn't trust them.
 pub mod Goings
 pub mod Numbers
 pub mod Partings

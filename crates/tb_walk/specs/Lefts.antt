@@ -1,44 +1,45 @@
--- What is left of a term whose branches stand in a row.
+-- The process term that a row of branches represents.
 use Rattle.std.specs.Prelude.{ℕ, suc, ◌+◌, ◌-◌, ◌==◌, List, [], ◌∷◌, Option, Some, None, if◌then◌else◌}
 use Rattle.tb_process_steps.specs.Processes.{Process, At, Seq, Alt, Star, Par, Disrupt, If, When, Let}
 use Rattle.tb_process_steps.specs.Helpers.Runnings.{waited}
 use Rattle.tb_code.specs.Positions.{size}
 use Rattle.tb_walk.specs.declared.branch.Branch.{Branch}
 
--- when a branch entered this position, where one stands there
+-- the tick at which the first branch at this position was entered, if there is one
 abbrev pub entered_at : List Branch → ℕ → Option ℕ
 entered_at [] at = None
 entered_at (branch ∷ row) at = if branch.position == at then Some branch.entered else entered_at row at
 
--- a part at which a branch stands has waited since then; of another what is left within it
+-- if the part was entered at a tick, the part with its age; otherwise the rest within the part
 abbrev pub or_within : ℕ → Option ℕ → Process → Option Process → Option Process
 or_within ticks (Some entered) term within = Some (waited (ticks - entered) term)
 or_within ticks None term within = within
 
--- the one, or else the other
+-- the first term if it isn't the end, otherwise the second
 abbrev pub either : Option Process → Option Process → Option Process
 either (Some x) y = Some x
 either None y = y
 
--- what is left, and then another term
+-- the rest of a first part in sequence with another term; the end if nothing is left of the first part
 abbrev pub and_then : Option Process → Process → Option Process
 and_then None y = None
 and_then (Some x) y = Some (Seq x y)
 
--- both where both are left
+-- the merge of two rests; only one rest if the other is the end
 abbrev pub beside : Option Process → Option Process → Option Process
 beside None y = y
 beside (Some x) None = Some x
 beside (Some x) (Some y) = Some (Par x y)
 
--- the one until the other where both are left
+-- the disrupt of two rests; only one rest if the other is the end
 abbrev pub against : Option Process → Option Process → Option Process
 against None y = y
 against (Some x) None = Some x
 against (Some x) (Some y) = Some (Disrupt x y)
 
--- What is left of the term whose positions begin here, after so many ticks. There is nothing where no branch stands
--- within it. The right side of a disrupt stands where it waits, or within its own positions once it has begun.
+-- The rest of a term whose positions begin here, after this number of ticks. If no branch is within its positions, the rest is the end.
+-- The branch of a disrupt's right side is at the position where it waits. After the first step of the right side, its branches are within
+-- its own positions.
 abbrev pub left : ℕ → List Branch → ℕ → Process → Option Process
 left ticks row at (At atom age) = or_within ticks (entered_at row at) (At atom age) None
 left ticks row at (Seq x y) = or_within ticks (entered_at row at) (Seq x y) (either (and_then (left ticks row (suc at) x) y) (left ticks row (suc at + size x) y))

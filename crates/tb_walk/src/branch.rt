@@ -1,14 +1,14 @@
-//! The branches of a process: the positions that it has entered.
+//! The branches of a process: the positions that it has entered, each with its tick.
 use tb_terms::Items;
 
-/// A part of the body that has been entered, and of which nothing has happened yet.
+/// A part of the body that the process has entered, and of which it has taken no step yet.
 #[derive(Clone, Copy, Debug, PartialEq, Eq)]
 pub struct Branch {
-    /// Where it stands in the code.
+    /// The position of the part in the code.
     pub position: usize,
-    /// How many ticks the process had seen.
+    /// The number of ticks that the process had seen when it entered the position.
     pub entered: u64,
 }
 
-/// The branches of a process in text order.
+/// The branches of a process, in the order of the source.
 pub type Row = Items<Branch>;

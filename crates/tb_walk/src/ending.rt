@@ -1,4 +1,4 @@
-//! What follows when a branch has ended.
+//! The continuation when a branch has ended.
 ghost use Rattle.std.specs.Prelude.{◌≡◌, ◌<◌, ◌≤◌, ◌++◌, ◌||◌, [], IfSome, Some, drop, false, length};
 ghost use Rattle.std.specs.Option.{option_to_list};
 ghost use Rattle.tb_process_steps.specs.Processes.{fresh};
@@ -9,14 +9,15 @@ ghost use Rattle.tb_walk.specs.Helpers.Rests.{bound_by, falls_by, frame_above, n
 use crate::Branch;
 use tb_code::{Code, Op};
 
-/// How many right sides go that waited behind a branch that has ended, and what is entered then.
+/// The number of waiting right sides that leave the row with a branch that has ended, and the branch that is entered then, if any.
 #[derive(Clone, Copy)]
 pub(crate) struct Ending {
     pub(crate) fallen: usize,
     pub(crate) next: Option<Branch>,
 }
 
-/// Where the first part of a frame ends, what is entered then, and whether that is a disrupt's left side.
+/// The first part of a frame. `bound` is the position after this part. `next` is the position that is entered when this part has ended.
+/// `falls` is true if this part is the left side of a disrupt. For a disrupt, `next` is its own position.
 #[derive(Clone, Copy)]
 pub(crate) struct FirstPart {
     pub(crate) bound: usize,
@@ -24,6 +25,7 @@ pub(crate) struct FirstPart {
     pub(crate) falls: bool,
 }
 
+/// Returns the first part of a frame.
 pub(crate) fn first_part(code: &Code, frame: usize) -> FirstPart
     requires { frame < size (fresh code.now.body.tree) }
     ensures bound { result.bound ≡ bound_by (op_at (fresh code.now.body.tree) frame) frame }
@@ -33,7 +35,7 @@ pub(crate) fn first_part(code: &Code, frame: usize) -> FirstPart
     first_by(&code.node(frame).op, frame)
 }
 
-/// The same by what stands at the frame.
+/// Returns the first part of a frame with this operator.
 fn first_by(op: &Op, frame: usize) -> FirstPart
     ensures bound { result.bound ≡ bound_by op.now frame }
     ensures next { result.next ≡ next_by op.now frame }
@@ -65,7 +67,7 @@ fn first_by(op: &Op, frame: usize) -> FirstPart
     }
 }
 
-/// No part of this operator is one behind which something follows.
+/// Returns an empty first part, for an operator that is no frame.
 fn none_behind(frame: usize) -> FirstPart
     ensures bound { result.bound ≡ frame }
     ensures next { result.next ≡ frame }
@@ -78,7 +80,7 @@ fn none_behind(frame: usize) -> FirstPart
     }
 }
 
-/// Whether a branch stands between these positions, on either side of one that has ended.
+/// Returns whether a branch before or after the ended branch is between these positions, both exclusive.
 pub(crate) fn any_there(before: &[Branch], after: &[Branch], at: usize, bound: usize) -> bool
     ensures { result ≡ (any_inside at bound before.now || any_inside at bound after.now) }
 {
@@ -96,7 +98,7 @@ fn any_inside(row: &[Branch], at: usize, bound: usize) -> bool
     false
 }
 
-/// What stands behind where the branch between these has ended, whose position has this frame.
+/// Returns the continuation when the branch between `before` and `after` has ended. The position of the ended branch has this frame.
 pub(crate) fn what_ends(
     code: &Code,
     frame: Option<usize>,
@@ -130,7 +132,7 @@ pub(crate) fn what_ends(
     Ending { fallen, next }
 }
 
-/// The frame of a frame.
+/// Returns the frame of a frame.
 fn above(code: &Code, at: usize) -> Option<usize>
     requires { at < size (fresh code.now.body.tree) }
     ensures frame { result ≡ frame_above (fresh code.now.body.tree) (Some at) }
@@ -139,7 +141,7 @@ fn above(code: &Code, at: usize) -> Option<usize>
     code.node(at).frame
 }
 
-/// What is left of the branches behind where so many of them have gone.
+/// Returns the branches without the first `fallen` branches.
 pub(crate) fn left_of(after: &[Branch], fallen: usize) -> &[Branch]
     requires { fallen ≤ length after.now }
     ensures { result.now ≡ drop fallen after.now }
@@ -156,7 +158,7 @@ fn entered(position: usize, ticks: u64) -> Option<Branch>
     })
 }
 
-/// What is entered where nothing stands behind.
+/// Returns the branch that is entered when the last branch of the row has ended. The position of the ended branch has this frame.
 fn last(code: &Code, frame: Option<usize>, ticks: u64, before: &[Branch]) -> Option<Branch>
     requires { IfSome frame (λ at. at < size (fresh code.now.body.tree)) }
     ensures { option_to_list result

@@ -1,4 +1,4 @@
-//! Walks: processes on their way by the positions of their body.
+//! Walks: running processes, represented by positions in the table of their body.
 #![tactic(auto)]
 
 mod branch;

@@ -1,4 +1,4 @@
-//! The search for the atoms that a row of branches may do next.
+//! The search for the offers of a row of branches.
 ghost use Rattle.std.specs.Prelude.{◌≡◌, ◌∷◌, [], ◌++◌, ◌-◌, ◌<◌, ℕ, All, IfOk, OnOk, flat_map, map};
 ghost use Rattle.tb_process_steps.specs.Atoms.{is_ready, times_of};
 ghost use Rattle.tb_process_steps.specs.Processes.{fresh, If, When, Let};
@@ -17,16 +17,20 @@ use tb_func::Store;
 use tb_process_steps::{copy_own, is_ready, store_of, with_settings};
 use tb_terms::{Expr, Items, NoMemory};
 
-/// Which branch is looked at, when it was entered, and how many ticks the process and the bus have seen.
+/// The index of a branch, the tick at which it was entered, and the numbers of ticks that the process and the bus have seen.
 #[derive(Clone, Copy)]
 pub struct Clock {
+    /// The index of the branch in the row.
     pub branch: usize,
+    /// The number of ticks that the process had seen when it entered the branch.
     pub entered: u64,
+    /// The number of ticks that the process has seen.
     pub ticks: u64,
+    /// The number of ticks that the bus has seen.
     pub bus: u64,
 }
 
-/// Adds what the branches of a row may do next, in text order.
+/// Adds the offers of a row's branches, in the order of the source, at `now` ticks of the bus.
 pub(crate) fn look_row(
     alloc: Global,
     code: &Code,
@@ -54,7 +58,8 @@ pub(crate) fn look_row(
     Ok(())
 }
 
-/// Adds what the part at the position of a branch may do next: by its list, where one is kept.
+/// Adds the offers of the part at the position of a branch. Reads the list of the position, if the code keeps one. Otherwise, searches
+/// the code from the position.
 fn look_branch(
     alloc: Global,
     code: &Code,
@@ -142,7 +147,7 @@ fn look_entry(
     }
 }
 
-/// Adds an atom without times.
+/// Adds the offer of an atom without times, which is ready.
 fn look_ready(
     _code: &Code,
     position: usize,
@@ -168,7 +173,7 @@ fn look_ready(
     Ok(())
 }
 
-/// Adds an atom that has times.
+/// Adds the offer of an atom that has times.
 #[cold]
 #[inline(never)]
 fn look_timed(
@@ -190,7 +195,7 @@ fn look_timed(
     )
 }
 
-/// What may be next behind a test or settings, which are walked through.
+/// Adds the offers of a gate: evaluates the test or the settings, and searches the code from there.
 #[cold]
 #[inline(never)]
 fn look_gate(
@@ -210,8 +215,8 @@ fn look_gate(
     look_at(alloc, code, at, behind, clock, base, &None, found)
 }
 
-/// Adds what the part at a position may do next, in text order. Tests and settings have functions of
-/// their own, since a function pays at entry for all that it may hold.
+/// Adds the offers of the part at a position, in the order of the source. Tests and settings have functions of their own: a call pays at
+/// entry for all values that its function can hold.
 #[cycle(look_at)]
 fn look_at(
     alloc: Global,
@@ -262,7 +267,7 @@ fn look_at(
     }
 }
 
-/// What may be next is that of both parts. A step of the second drops the first.
+/// Adds the offers of a disrupt: those of its left side, then those of its right side.
 #[cycle(look_at)]
 #[inline(never)]
 fn look_until(
@@ -288,7 +293,7 @@ fn look_until(
     look_at(alloc, code, second, so_far, clock, base, own, found)
 }
 
-/// What may be next is that of the side that the test chooses now.
+/// Adds the offers of the side that the test selects.
 #[cycle(look_at)]
 #[inline(never)]
 fn look_side(
@@ -316,7 +321,7 @@ fn look_side(
     }
 }
 
-/// Nothing may be next where the test is not true.
+/// Adds the offers of the part if the test is true. Otherwise, there are no offers.
 #[cycle(look_at)]
 #[inline(never)]
 fn look_if_true(
@@ -343,7 +348,7 @@ fn look_if_true(
     }
 }
 
-/// What may be next in the store with the settings made.
+/// Adds the offers of the part in the store after the settings. There are no offers if a setting has no value of its slot's type.
 #[cycle(look_at)]
 #[inline(never)]
 fn look_with(

@@ -10,7 +10,8 @@ ghost use Rattle.tb_walk.specs.Helpers.Numbers.{numbered, ordered};
 use tb_func::Store;
 use tb_terms::{Expr, Func, Term};
 
-/// The number that an expression is worth, where it is found without a term. None says nothing.
+/// Returns the number to which an expression evaluates, if it can be evaluated without a term. `None` doesn't mean that the expression has
+/// no value.
 #[inline(always)]
 pub(crate) fn number(expr: &Expr, store: &Store) -> Option<i64>
     ensures { IfSome result (λ number. value_of store.now expr.now ≡ Some (term.Int number)) }
@@ -26,7 +27,7 @@ pub(crate) fn number(expr: &Expr, store: &Store) -> Option<i64>
     }
 }
 
-/// The number that a variable is.
+/// Returns the value of a variable, if it is a number.
 pub(crate) fn variable(slot: u32, store: &Store) -> Option<i64>
     ensures { IfSome result (λ number. value_at store.now slot ≡ Some (term.Int number)) }
 {
@@ -36,7 +37,7 @@ pub(crate) fn variable(slot: u32, store: &Store) -> Option<i64>
     }
 }
 
-/// A part that is a number or a variable.
+/// Returns the number of an argument that is a number or a variable.
 fn leaf(expr: &Expr, store: &Store) -> Option<i64>
     ensures { IfSome result (λ number. value_of store.now expr.now ≡ Some (term.Int number)) }
 {
@@ -67,7 +68,8 @@ fn numbered(func: Func, x: i64, y: i64) -> Option<i64>
     }
 }
 
-/// What a test says that compares numbers, where they are found without a term. None says nothing.
+/// Returns the truth value of a test that compares numbers, if both can be evaluated without a term. `None` doesn't mean that the test has
+/// no truth value.
 pub(crate) fn comparison(test: &Expr, store: &Store) -> Option<bool>
     ensures { IfSome result
         (λ says. option_and_then bool_of (value_of store.now test.now) ≡ Some says) }

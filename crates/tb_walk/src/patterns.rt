@@ -1,4 +1,4 @@
-//! The patterns of an act, with a short path for messages and notes.
+//! The patterns of an act, with a fast path for messages and notes.
 ghost use Rattle.std.specs.Prelude.{◌≡◌, ◌∷◌, [], ◌++◌, Some, None, IfOk, OnOk, option_map, if◌then◌else◌};
 ghost use Rattle.std.specs.Option.{option_copied};
 ghost use Rattle.tb_terms.specs.declared.pattern.Pattern.TheVariants as pattern;
@@ -15,8 +15,8 @@ use tb_func::{Store, pattern};
 use tb_process_steps::matched_patterns;
 use tb_terms::{Expr, NoMemory, Pattern, Patterns, Sort, Term};
 
-/// The patterns of an act, as `matched_patterns` has them. Those of messages and notes have a
-/// path of their own, on which a number costs little, and stand in the memory of the room.
+/// Returns the patterns of an act, like `matched_patterns`. The patterns of messages and notes have a fast path for numbers, and use the
+/// memory of `room`.
 pub(crate) fn patterns_by(
     alloc: Global,
     store: &Store,
@@ -54,7 +54,7 @@ fn message(
     Ok(Some(patterns))
 }
 
-/// Adds the pattern of an expression, and says whether there is one.
+/// Adds the pattern of an expression. Returns whether the expression has a pattern.
 fn push_pattern(
     alloc: Global,
     store: &Store,
@@ -108,7 +108,7 @@ fn push_result(
     }
 }
 
-/// Adds the pattern of a result of this sort, which is that of numbers in most steps.
+/// Adds the pattern of a result variable of this type. In most steps, the type is that of numbers, which needs no copy.
 fn push_sorted(
     alloc: Global,
     slot: u32,

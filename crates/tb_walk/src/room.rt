@@ -1,10 +1,10 @@
-//! Lists that are emptied and keep their memory.
+//! Lists that are emptied but keep their memory.
 ghost use Rattle.std.specs.Prelude.{◌≡◌, [], IfOk};
 
 use std::alloc::Global;
 use tb_terms::{Items, NoMemory};
 
-/// Drops all items, and keeps the memory.
+/// Drops all items, and keeps the memory of the list.
 pub(crate) fn empty<T: Drop>(items: &mut Items<T>)
     ensures { items.new ≡ [] }
 {
@@ -13,7 +13,7 @@ pub(crate) fn empty<T: Drop>(items: &mut Items<T>)
     }
 }
 
-/// An empty list in the memory of a room, whatever that held; where there is none, with memory for so many items.
+/// Returns an empty list in the memory of `room`, whose items are dropped. Without a room, the list has new memory for `many` items.
 pub(crate) fn emptied<T: Drop>(
     alloc: Global,
     room: Option<Items<T>>,

@@ -1,4 +1,4 @@
-//! What becomes of a row when one of its branches ends or is replaced.
+//! The change of a row when one of its branches ends or is replaced.
 ghost use Rattle.std.specs.Prelude.{◌≡◌, ◌<◌, ◌≤◌, ◌++◌, ◌+◌, ◌∷◌, [], Some, IfOk, IfSome, OnOk, slice_get, take, drop, length, suc};
 ghost use Rattle.std.specs.Option.{option_to_list};
 ghost use Rattle.tb_process_steps.specs.Processes.{fresh};
@@ -12,20 +12,21 @@ use std::alloc::Global;
 use tb_code::Code;
 use tb_terms::{Items, NoMemory};
 
-/// What becomes of a row.
+/// The change of a row.
 #[derive(Drop)]
 pub enum Step {
-    /// The branch at this index goes on as another.
+    /// The given branch replaces the branch at this index.
     Put(usize, Branch),
     /// The branch at this index leaves the row.
     Leave(usize),
-    /// The row is made anew.
+    /// A new row replaces the row.
     Part(Row),
-    /// The branch at this index leaves the row with so many right sides behind it, and what follows is entered.
+    /// The branch at this index leaves the row, with the given number of waiting right sides after it. The given branch is entered, if
+    /// there is one.
     Fall(usize, usize, Option<Branch>),
 }
 
-/// What becomes of a row where the branch at the index has ended.
+/// Returns the change of a row when the branch at the index has ended.
 #[inline(always)]
 pub(crate) fn left_by(code: &Code, row: &[Branch], ticks: u64, at: usize) -> Step
     requires within { at < length row.now }
@@ -41,7 +42,7 @@ pub(crate) fn left_by(code: &Code, row: &[Branch], ticks: u64, at: usize) -> Ste
     }
 }
 
-/// The same where its position has this frame.
+/// Returns the change of a row when the branch at the index has ended, whose position has this frame.
 #[inline(always)]
 fn left_in(code: &Code, frame: usize, row: &[Branch], ticks: u64, at: usize) -> Step
     requires frame { frame < size (fresh code.now.body.tree) }
@@ -67,7 +68,7 @@ fn left_in(code: &Code, frame: usize, row: &[Branch], ticks: u64, at: usize) -> 
     )
 }
 
-/// The same where all of a disrupt's left side has ended.
+/// Returns the change of a row when a disrupt's left side has ended completely with the branch at the index.
 #[inline(never)]
 fn fallen(code: &Code, frame: usize, row: &[Branch], ticks: u64, at: usize) -> Step
     requires frame { frame < size (fresh code.now.body.tree) }
@@ -81,7 +82,7 @@ fn fallen(code: &Code, frame: usize, row: &[Branch], ticks: u64, at: usize) -> S
     Step::Fall(at, ending.fallen, ending.next)
 }
 
-/// The branches before the one at the index.
+/// Returns the branches before the index.
 pub(crate) fn before(row: &[Branch], at: usize) -> &[Branch]
     requires { at < length row.now }
     ensures { result.now ≡ take at row.now }
@@ -89,7 +90,7 @@ pub(crate) fn before(row: &[Branch], at: usize) -> &[Branch]
     &row[..at]
 }
 
-/// The branches behind the one at the index.
+/// Returns the branches after the index.
 pub(crate) fn after(row: &[Branch], at: usize) -> &[Branch]
     requires { at < length row.now }
     ensures { result.now ≡ drop (suc at) row.now }
@@ -97,7 +98,7 @@ pub(crate) fn after(row: &[Branch], at: usize) -> &[Branch]
     &row[at + 1..]
 }
 
-/// The row with these branches in the place of one.
+/// Returns the row with these branches in place of the branch at the index.
 pub(crate) fn spliced(
     alloc: Global,
     row: &[Branch],
@@ -121,7 +122,8 @@ fn joined(alloc: Global, kept: Row, inside: Row, after: &[Branch]) -> Result<Row
     Ok(whole)
 }
 
-/// The branches that are kept with what is left of a part of this frame and those behind, or with what stands behind where it has ended.
+/// Returns the kept branches, then the branches `inside` that are left of a part, then the branches after it. If no branch is left of the
+/// part, the kept branches are followed by the continuation, which the part's frame determines.
 pub(crate) fn settled(
     alloc: Global,
     code: &Code,
@@ -157,7 +159,7 @@ fn one_or_none(none: Row, next: Option<Branch>) -> Result<Row, NoMemory>
     }
 }
 
-/// The branches of a row that don't stand between these positions.
+/// Returns the branches of a row that aren't between these positions, both exclusive.
 pub(crate) fn outside(
     alloc: Global,
     row: &[Branch],
@@ -183,7 +185,7 @@ fn add_outside(kept: &mut Row, one: Branch, at: usize, bound: usize) -> Result<(
     Ok(())
 }
 
-/// The row goes on by a step.
+/// Makes the given change of a row.
 pub(crate) fn go_on(row: &mut Row, step: Step)
     requires { IsWithin row.old step }
     ensures { row.new ≡ row_after row.old step }
@@ -198,7 +200,7 @@ pub(crate) fn go_on(row: &mut Row, step: Step)
     }
 }
 
-/// The branch at the index leaves the row with so many behind it, and what follows is entered.
+/// Removes the branch at the index and the given number of branches after it, and enters the given branch, if any.
 #[inline(never)]
 fn fall(row: &mut Row, at: usize, gone: usize, next: Option<Branch>)
     requires { at + 1 + gone ≤ length row.old }

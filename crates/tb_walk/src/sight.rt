@@ -1,4 +1,4 @@
-//! An atom that a look found, and copies of such atoms.
+//! The offers that a look found, and copies of these offers.
 ghost use Rattle.std.specs.Prelude.{◌≡◌, IfOk};
 ghost use Rattle.tb_walk.specs.Helpers.Sights.{offer_of};
 
@@ -8,23 +8,27 @@ use tb_func::Store;
 use tb_process_steps::{Offer, copy_own};
 use tb_terms::{Items, NoMemory};
 
-/// An atom that a look found to be next. Its store is its own where a `let` made one.
+/// An offer that a look found.
 #[derive(Drop)]
 pub struct Sight {
-    /// The index of the branch whose part it is in.
+    /// The index of the branch whose part has the atom.
     pub branch: usize,
-    /// Where it stands in the code.
+    /// The position of the atom in the code.
     pub position: usize,
+    /// The number of ticks that the atom has waited.
     pub age: u64,
+    /// The number of the atom in the body, from 1.
     pub atom: u32,
+    /// Whether all times of the atom held at the look.
     pub ready: bool,
-    /// What comes of the branch's part where it happens.
+    /// The effect on the branch's part when the atom happens.
     pub behind: Behind,
+    /// The store that a `let` made for the offer; without one, its store is that of the process.
     pub own: Option<Store>,
 }
 
 impl Sight {
-    /// The same in memory of its own.
+    /// Returns a copy in its own memory.
     fn copy(&self, alloc: Global) -> Result<Sight, NoMemory>
         ensures { IfOk result (λ copy. copy ≡ self.now) }
     {
@@ -40,7 +44,7 @@ impl Sight {
         })
     }
 
-    /// What is seen of it.
+    /// Returns the offer without its store, its branch, and its position.
     pub(crate) fn offer(&self) -> Offer
         ensures { result ≡ offer_of self.now }
     {
@@ -52,7 +56,7 @@ impl Sight {
     }
 }
 
-/// A copy of all that was found, in its order.
+/// Returns copies of the found offers, in the same order.
 pub(crate) fn copy_sights(alloc: Global, sights: &Items<Sight>) -> Result<Items<Sight>, NoMemory>
     ensures { IfOk result (λ copies. copies ≡ sights.now) }
 {

@@ -1,4 +1,4 @@
-//! What becomes of a row when one of the atoms that were found happens.
+//! The change of a row when the atom of a found offer happens.
 ghost use Rattle.std.specs.Prelude.{◌≡◌, ◌<◌, ◌++◌, ◌∷◌, [], None, Some, IfOk, IfSome, OnOk, false, length, nat_lt, slice_get, if◌then◌else◌};
 ghost use Rattle.tb_process_steps.specs.Processes.{fresh, Par};
 ghost use Rattle.tb_code.specs.Positions.{size, op_at, part, is_wait, Begins, IsTwo, IsUntil};
@@ -14,7 +14,7 @@ use std::alloc::Global;
 use tb_code::{Behind, Code, Op};
 use tb_terms::{Items, NoMemory};
 
-/// What becomes of a row where the atom that was found happens.
+/// Returns the change of a row when the atom of the found offer happens.
 pub(crate) fn step_by(
     alloc: Global,
     code: &Code,
@@ -40,14 +40,14 @@ pub(crate) fn step_by(
     }
 }
 
-/// The side of an operator in which the atom stands.
+/// Returns the position of the operator's side that has the atom.
 fn side(first: usize, right: usize, atom: usize) -> usize
     ensures { result ≡ (if nat_lt atom right then first else right) }
 {
     if atom < right { first } else { right }
 }
 
-/// What becomes of the row where a merge or a disrupt is parted.
+/// Returns the change of the row when a merge or a disrupt is parted into branches. `atom` is the position of the atom.
 #[inline(never)]
 fn parted(
     alloc: Global,
@@ -74,7 +74,7 @@ fn parted(
     }
 }
 
-/// The disrupt for which a right side waits at the position.
+/// Returns the disrupt whose right side waits at the position, if one does.
 fn waits_for(code: &Code, at: usize) -> Option<usize>
     requires { at < size (fresh code.now.body.tree) }
     ensures some { IfSome result
@@ -102,7 +102,7 @@ fn waits_in(op: &Op) -> Option<usize>
     }
 }
 
-/// The row with what is left of the part of the branch at the index, which doesn't wait.
+/// Returns the change of a row when the branches `inside` are left of the branch at the index. No right side waits at its position.
 fn stepped(
     alloc: Global,
     code: &Code,
@@ -125,7 +125,8 @@ fn stepped(
     }
 }
 
-/// The same where the branch is a right side that waited for this disrupt: the left side goes.
+/// Returns the change of a row when the waiting right side of this disrupt takes its first step. The branches of the left side leave the
+/// row, and the branches `inside` are left of the branch at the index.
 fn begun(
     alloc: Global,
     code: &Code,
@@ -149,14 +150,14 @@ fn begun(
     Ok(Step::Part(new))
 }
 
-/// When a branch was entered, and how many ticks the process has seen.
+/// The tick at which a branch was entered, and the number of ticks that the process has seen.
 #[derive(Clone, Copy)]
 struct Since {
     entered: u64,
     ticks: u64,
 }
 
-/// Adds the branches that are left of the part at a position.
+/// Adds the branches that are left of the part at a position when the atom at position `atom` happens.
 #[cycle(part_at)]
 fn part_at(code: &Code, at: usize, atom: usize, since: Since, row: &mut Row) -> Result<(), NoMemory>
     requires { at < size (fresh code.now.body.tree) }
@@ -184,7 +185,7 @@ fn part_at(code: &Code, at: usize, atom: usize, since: Since, row: &mut Row) -> 
     }
 }
 
-/// The same of a first part, or the position that is entered where it has ended.
+/// Adds the branches that are left of a first part. If the first part has ended, adds a branch at position `next`, entered now.
 #[cycle(part_at)]
 fn part_first(
     code: &Code,
@@ -210,7 +211,7 @@ fn part_first(
     Ok(())
 }
 
-/// The same of a merge: its other side goes on waiting.
+/// Adds the branches that are left of a merge. Its other side still waits, and keeps its tick.
 #[cycle(part_at)]
 fn part_merge(
     code: &Code,
@@ -234,7 +235,7 @@ fn part_merge(
     }
 }
 
-/// The same of a disrupt.
+/// Adds the branches that are left of a disrupt.
 #[cycle(part_at)]
 fn part_disrupt(
     code: &Code,
@@ -255,7 +256,7 @@ fn part_disrupt(
     }
 }
 
-/// The same of a left side, with its right side in wait where it goes on.
+/// Adds the branches that are left of a left side. If the left side continues, adds the branch of the waiting right side after them.
 #[cycle(part_at)]
 fn part_until(
     code: &Code,

@@ -1,4 +1,4 @@
-//! An offer that is taken, and how the walk goes on by it.
+//! A taken offer, and the change of the walk that continues with it.
 ghost use Rattle.std.specs.Prelude.{◌≡◌, ◌<◌, Some, length, slice_get, slice_set};
 ghost use Rattle.tb_process_steps.specs.Helpers.OfferViews.{or_own};
 ghost use Rattle.tb_process_steps.specs.Offers.{Offered};
@@ -14,25 +14,25 @@ use tb_code::Code;
 use tb_func::Store;
 use tb_terms::{Boxed, Items};
 
-/// What comes of an offer that is taken. Where nothing was made for it, it is known by what was found.
+/// A taken offer. If the walk was looked at and the offer's effect isn't `Parted`, the value is an index of the found offers.
 #[derive(Drop)]
 pub enum Taken {
-    /// The branch of what was found at this index has ended.
+    /// The found offer at this index, with which the part of its branch ends.
     Ended(usize),
-    /// The branch of what was found at the first index goes on at the position.
+    /// The found offer at this index, after which its branch continues at the given position.
     Entered(usize, usize),
-    /// It was made beforehand.
+    /// The change of the row and the store, made when the offer was taken.
     Made(Boxed<Outcome>),
 }
 
-/// What becomes of the row, and the store that a `let` made.
+/// The change of the row, and the store that a `let` made, if one did.
 #[derive(Drop)]
 pub struct Outcome {
     pub(crate) step: Step,
     pub(crate) own: Option<Store>,
 }
 
-/// The row goes on, and the store is that of the offer.
+/// Makes the change of the row, and sets the store to the store of the offer.
 pub(crate) fn settle(code: &Code, walk: &mut Walk, taken: Taken)
     requires on { IsOnCode code.now walk.old }
     requires taken { (offered : Offered) × IsLeft code.now walk.old taken offered }
@@ -57,7 +57,7 @@ pub(crate) fn settle(code: &Code, walk: &mut Walk, taken: Taken)
     }
 }
 
-/// The branch at the index has ended.
+/// Changes the row after the branch at the index has ended.
 fn end_at(code: &Code, row: &mut Row, ticks: u64, at: usize)
     requires within { at < length row.old }
     requires there { (branch : Branch) → slice_get row.old at ≡ Some branch
@@ -68,7 +68,7 @@ fn end_at(code: &Code, row: &mut Row, ticks: u64, at: usize)
     go_on(row, step);
 }
 
-/// The branch at the index goes on at the position.
+/// Replaces the branch at the index by a branch at the position, entered now.
 fn enter_at(row: &mut Row, at: usize, position: usize, ticks: u64)
     requires { at < length row.old }
     ensures { row.new ≡ slice_set row.old at (branch position ticks) }
@@ -82,7 +82,8 @@ fn enter_at(row: &mut Row, at: usize, position: usize, ticks: u64)
     );
 }
 
-/// The store becomes that of what was found at the index, whose branch it says.
+/// Sets the store to the store of the found offer at index `k`, and returns the index of the offer's branch. If the offer has its own
+/// store, the offer leaves the list.
 fn set_found(store: &mut Store, found: &mut Items<Sight>, k: usize) -> usize
     requires { k < length found.old }
     ensures branch { (one : Sight) → slice_get found.old k ≡ Some one → result ≡ one.branch }

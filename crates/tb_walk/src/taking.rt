@@ -1,4 +1,4 @@
-//! The choice of an offer, with and without a fresh look, and the bindings of variables.
+//! Takes an offer, with or without a valid look, and sets the binds of variables.
 ghost use Rattle.std.specs.Prelude.{◌≡◌, ◌<◌, length, slice_get, Some, IfOk, IsTrue, true};
 ghost use Rattle.std.specs.Option.{ForSome};
 ghost use Rattle.tb_process_steps.specs.Binds.{takes_binds, with_binds};
@@ -18,7 +18,7 @@ use tb_match::Binds;
 use tb_process_steps::{copy_own, set_binds};
 use tb_terms::{Boxed, Items, NoMemory};
 
-/// Takes the offer at this position, where nothing has happened since the walk was looked at.
+/// Takes the offer at index `k`, if nothing has happened since the last look.
 pub(crate) fn take_seen(
     alloc: Global,
     code: &Code,
@@ -40,7 +40,7 @@ pub(crate) fn take_seen(
     }
 }
 
-/// Takes the offer at this position where nobody has looked since something happened.
+/// Takes the offer at index `k`, even if something has happened since the last look. Starts with a look of its own.
 #[inline(never)]
 pub(crate) fn take_unseen(
     alloc: Global,
@@ -67,7 +67,7 @@ fn sight_at(found: &[Sight], k: usize) -> &Sight
     &found[k]
 }
 
-/// What comes of the atom that was found, where it happens, in memory of its own.
+/// Makes the change of the row and a copy of the store for a found offer, in their own memory.
 #[inline(never)]
 fn made(
     alloc: Global,
@@ -84,7 +84,7 @@ fn made(
     Ok(Taken::Made(Boxed::new(alloc, Outcome { step, own })?))
 }
 
-/// Sets the binds one after another. Most steps have none.
+/// Sets the binds one after another. Most steps have no binds.
 pub(crate) fn set_all(store: &mut Store, binds: &mut Binds)
     requires { IsTrue (takes_binds store.old binds.old) }
     ensures { store.new ≡ with_binds store.old binds.old }
@@ -96,7 +96,7 @@ pub(crate) fn set_all(store: &mut Store, binds: &mut Binds)
     }
 }
 
-/// Sets the only bind, as most steps have it that receive something.
+/// Sets the only bind. Most steps that receive terms have one bind.
 fn set_one(store: &mut Store, binds: &mut Binds)
     requires one { length binds.old ≡ 1 }
     requires taken { IsTrue (takes_binds store.old binds.old) }

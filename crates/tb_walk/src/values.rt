@@ -1,4 +1,4 @@
-//! The results of tests and the values of an act, with a short path for messages and notes.
+//! The results of tests and the values of an act, with a fast path for messages and notes.
 ghost use Rattle.std.specs.Prelude.{◌≡◌, ◌∷◌, [], ◌++◌, Some, None, IfOk, map, option_map, if◌then◌else◌};
 ghost use Rattle.std.specs.Option.{option_copied};
 ghost use Rattle.tb_func.specs.Values.{all_of, value_of};
@@ -13,7 +13,7 @@ use tb_func::{Store, eval};
 use tb_process_steps::{sent_values, tested};
 use tb_terms::{Expr, MOST_TERM_SIZE, NoMemory, Term, Terms, total_size};
 
-/// What the test says now. Numbers are compared without a term.
+/// Returns the truth value of the test in the store. Numbers are compared without a term.
 pub(crate) fn says(alloc: Global, store: &Store, test: &Expr) -> Result<Option<bool>, NoMemory>
     ensures { IfOk result (λ says. says ≡ tested store.now test.now) }
 {
@@ -23,8 +23,8 @@ pub(crate) fn says(alloc: Global, store: &Store, test: &Expr) -> Result<Option<b
     }
 }
 
-/// The values that the act sends or looks at, as `sent_values` has them. Those of messages and notes have
-/// a path of their own, on which a number costs little, and stand in the memory of the room.
+/// Returns the values that the act sends or looks at, like `sent_values`. The values of messages and notes have a fast path for numbers,
+/// and use the memory of `room`.
 pub(crate) fn sent_terms(
     alloc: Global,
     store: &Store,
@@ -76,7 +76,7 @@ fn values(
     Ok(Some(terms))
 }
 
-/// Adds the value of an expression, and says whether there is one.
+/// Adds the value of an expression. Returns whether the expression has a value.
 fn push_value(
     alloc: Global,
     store: &Store,
@@ -116,7 +116,7 @@ fn push_other(
     }
 }
 
-/// The terms, where they are together no larger than a term may be.
+/// Returns the terms, if their total size is within the limit of a term.
 fn limited_together(terms: Terms) -> Option<Terms>
     ensures { result ≡ limited_together terms }
 {

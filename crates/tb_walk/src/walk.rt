@@ -1,4 +1,4 @@
-//! The walker that keeps the positions at which its process is.
+//! The walker that keeps the positions of its process in the code.
 ghost use Rattle.std.specs.Prelude.{◌≡◌, length};
 
 use crate::look::look_row;
@@ -18,18 +18,18 @@ use tb_match::Binds;
 use tb_process_steps::{Offer, Walker, accepted_binds, store_of};
 use tb_terms::{Items, NoMemory, Patterns, Terms};
 
-/// A walker that keeps the positions at which its process stands, each with the tick at which it was
-/// entered. A tick leaves them as they are: they stand for an older term then.
+/// A walker that keeps the positions of its process, each with the tick at which the process entered it. A tick doesn't change the
+/// positions: they then represent an older process term.
 #[derive(Drop)]
 pub struct Walk {
     pub(crate) row: Row,
     pub(crate) store: Store,
     pub(crate) ticks: u64,
-    /// What the last look found.
+    /// The offers that the last look found.
     pub(crate) found: Items<Sight>,
-    /// Nothing has happened since then.
+    /// Whether nothing has happened since the last look.
     pub(crate) fresh: bool,
-    /// Memory for the next look.
+    /// Memory for the next look. The list is empty.
     pub(crate) spare: Items<Sight>,
     ghost spare_is_empty: { length spare ≡ 0 },
 }

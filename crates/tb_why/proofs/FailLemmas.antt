@@ -1,4 +1,4 @@
--- Each reason is the condition of its atom that fails.
+-- If an offer has a reason, the condition that the reason names fails.
 use Rattle.std.proofs.Common.{◌≡◌, ◌⊎◌, ◌==◌, ◌&&◌, ◌||◌, ℕ, Bool, true, false, not, nat_le, nat_lt, List, [], ◌∷◌, map, filter, length, sum, slice_get, Option, Some, None, is_some, option_map, option_and_then, Contains, if◌then◌else◌, refl, ap, sym, ◌∙◌, subst, inl, inr, arith}
 use Rattle.std.specs.List.{list_any}
 use Rattle.std.proofs.lemmas.List.{length-map}
@@ -79,7 +79,7 @@ contains-first x xs = (0, omega arith, refl)
 
 -- Values.
 
--- the values of expressions are as many
+-- there are as many values as expressions: not none for at least one expression, and not two for one expression
 not-empty : (store : List Slot) (first : Expr) (exprs : List Expr) → values_together store (first ∷ exprs) ≡ Some [] → ⊥
 not-empty store first exprs = by (value_of store first) (all_of (map (value_of store) exprs))
   where
@@ -259,7 +259,7 @@ is-send : (act : Act) → sends act ≡ true → (exprs : List Expr) × (act ≡
 is-send (SndMsg exprs) e = (exprs, refl)
 is-send act e = absurd (let f : false ≡ true = e in cc)
 
--- the first queue that is full
+-- if a search finds a process without capacity for the note, the process is one of these and doesn't take the note
 full-found : (terms : List Term) (procs : List Proc) (number : ℕ) → full_queue terms (map queue_of procs) ≡ Some number → (other : Proc) × Contains procs other × (other.number ≡ number) × (takes_note terms other.inbox ≡ false)
 full-found terms [] number e = cc
 full-found terms (proc ∷ procs) number e = by (takes_note terms proc.inbox) (full_queue terms (map queue_of procs)) refl (full-found terms procs number) e
@@ -275,7 +275,7 @@ of-tool : (test : Tool → Bool) (found : Option Tool) → of_tool test found �
 of-tool test None e = absurd (let f : false ≡ true = e in cc)
 of-tool test (Some tool) e = (tool, refl)
 
--- a tool that is found stands there
+-- if a tool is found on a lane, the lane has a tool
 found-stands : (named : Term) (bench : BenchState) (lane : ℕ) → find_tool named bench ≡ Some lane → (tool : Tool) × (tool_at lane bench ≡ Some tool)
 found-stands named bench lane e =
     let it = MatchOption-at_some (NoLane (has_tool named) bench) (IsFirstLane (has_tool named) bench) lane e (first_lane-lowest (has_tool named) bench) in
@@ -296,7 +296,7 @@ asked-by : (found : Option Tool) (test : Tool → Bool) → of_tool test found �
 asked-by None test s c a = absurd (let f : false ≡ true = s in cc)
 asked-by (Some tool) test s c a = asked-eval tool.eval c a
 
--- and where none is open
+-- no evaluation is open, because the tool wasn't asked and hasn't answered
 closed-eval : (e : Eval) → is_asked e ≡ false → answer_of e ≡ None → is_closed e ≡ true
 closed-eval eval.Closed h a = refl
 closed-eval eval.Asked h a = absurd (let f : true ≡ false = h in cc)

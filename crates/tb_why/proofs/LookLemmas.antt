@@ -1,4 +1,4 @@
--- What is seen of the living of a bus is what is seen of its processes.
+-- The offers that the code finds for the living processes are the specified offers of the processes.
 use Rattle.std.proofs.Common.{◌≡◌, ◌<◌, ◌≤◌, ◌+◌, ℕ, zero, suc, true, false, List, [], ◌∷◌, ◌++◌, length, map, take, Option, Some, None, option_and_then, slice_get, add-one, refl, ap, sym, ◌∙◌, subst, arith}
 use Rattle.std.specs.Option.{ForSome}
 use Rattle.std.proofs.lemmas.List.{take_all, map_push}

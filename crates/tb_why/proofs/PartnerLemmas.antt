@@ -1,4 +1,4 @@
--- Who sends and who receives by the offers that are seen does so by the actions of the bus.
+-- Another process sends or receives by the listed offers if and only if it does by the actions of the bus.
 use Rattle.std.proofs.Common.{◌≡◌, ℕ, ◌==◌, ◌&&◌, ◌||◌, Bool, true, false, not, List, [], ◌∷◌, ◌++◌, map, filter, Option, Some, None, is_some, option_map, option_and_then, if◌then◌else◌, refl, ap, sym, ◌∙◌, subst}
 use Rattle.std.specs.Bool.{⊤}
 use Rattle.std.specs.List.{list_any, flat_map}

@@ -1,4 +1,4 @@
--- An offer has no reason exactly where it takes part in a move.
+-- An offer has no reason if and only if it takes part in a move.
 use Rattle.std.proofs.Common.{◌≡◌, ℕ, ◌+◌, ◌<◌, ◌==◌, ◌&&◌, Bool, true, false, not, nat_lt, List, [], ◌∷◌, map, length, Option, Some, None, is_some, option_map, option_and_then, if◌then◌else◌, refl, ap, sym, ◌∙◌, subst}
 use Rattle.std.specs.Prelude.{is_none, slice_get}
 use Rattle.std.specs.List.{list_all}
@@ -305,7 +305,7 @@ module _ (bus : Bus) (proc : Proc) (offered : Offered) (sorts : (slot : ℕ) →
   ready-right act true = act-right act
   ready-right act false = refl
 
-  -- on a bus that is up an offer has no reason exactly where it takes part in a move
+  -- on a bus that is up, an offer has no reason if and only if it takes part in a move
   pub reasons-right : bus.down ≡ false → is_none (reason_now bus.down (scene_of bus) proc.number proc.body proc.inbox (offering_of (atoms_of bus.program.bodies proc.body) bus.now offered)) ≡ can_happen bus proc offered
   reasons-right up =
       let atoms = atoms_of bus.program.bodies proc.body in

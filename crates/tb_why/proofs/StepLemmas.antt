@@ -1,4 +1,4 @@
--- An offer can take part in a move exactly where a step of the bus shows it.
+-- An offer can take part in a move if and only if a step of the bus shows its atom.
 use Rattle.std.proofs.Common.{◌≡◌, ◌⊎◌, ◌<◌, ◌==◌, ◌&&◌, ◌||◌, ◌↔◌, ℕ, eqb, Bool, true, false, not, nat_lt, nat_le, IsTrue, List, [], ◌∷◌, ◌++◌, map, filter, length, Option, Some, None, is_some, option_map, Contains, if◌then◌else◌, refl, ap, sym, ◌∙◌, subst, inl, inr, arith}
 use Rattle.std.specs.Bool.{⊤}
 use Rattle.std.specs.Prelude.{is_none, slice_get}
@@ -377,7 +377,7 @@ by-step bus proc offered order here s =
     let shows : Shows (label_of made.0) (place_of proc offered) = subst (λ (x : Step). Shows x.label (place_of proc offered)) made.2 s.2 in
     by-move bus proc offered made.0 order here (move-of bus made.0 made.1) (All-contains IsApart (moves bus) made.0 (apart-moves bus) made.1) shows
 
--- The slots of an offered store have the sorts of the body.
+-- The slots of an offered store have the types of the body.
 
 sorted-log : (origin : Origin) (bus : Bus) (log : List Entry) → IsSorted origin bus → IsTrace bus log → IsSorted origin (replay bus log)
 sorted-log origin bus [] h trace = h
@@ -398,7 +398,7 @@ sorts-there origin bus proc offered reached there among slot =
     sort_at-sorts_of offered.store slot ∙ ap (λ (ss : List Sort). slice_get ss slot) (offer-keeps proc.term proc.store offered among).sorts
     ∙ sorts-by (slice_get bus.program.bodies proc.body) (sorts_of proc.store) slot stored
 
--- On a bus that is reached and is up, an offer has no reason exactly where a step shows it.
+-- On a bus that a program reaches and that is up, an offer has no reason if and only if a step of the bus shows its atom.
 pub reasons-shown : (origin : Origin) (bus : Bus) (proc : Proc) (offered : Offered) → Reaches origin bus → bus.down ≡ false → Contains bus.procs proc → Contains (offers proc.term proc.store) offered →
     IsTrue (is_none (reason_now bus.down (scene_of bus) proc.number proc.body proc.inbox (offering_of (atoms_of bus.program.bodies proc.body) bus.now offered))) ↔ IsShown bus proc offered
 reasons-shown origin bus proc offered reached up there among =

@@ -1,4 +1,4 @@
--- What each process waits for at the end of a log that is a trace, or just before the bus shuts down.
+-- What each process waits for at the end of a log that is a trace, or just before the bus shuts down. Also the errors of `why`.
 use Rattle.std.specs.Prelude.{◌≡◌, ℕ, Bool, true, false, List, [], ◌∷◌, ◌++◌, if◌then◌else◌}
 use Rattle.tb_bus.specs.Buses.{start}
 use Rattle.tb_bus.specs.Traces.{IsLegal, IsTrace, after, replay}
@@ -16,20 +16,21 @@ use Rattle.tb_why.specs.Standing.{standings}
 use Rattle.tb_why.specs.declared.stall.Waiter.{Waiter}
 use Rattle.tb_why.specs.declared.standing.Standing.{Standing}
 
--- the steps that take a bus down
+-- the kinds of steps that shut the bus down
 abbrev pub is_last : LabelKind → Bool
 is_last kind.Finish = true
 is_last kind.Halt = true
 is_last kind.Shutdown = true
 is_last other = false
 
+-- the entry is a step that shuts the bus down
 abbrev pub takes_down : Entry → Bool
 takes_down (Did label) = is_last label.kind
 takes_down Quiet = false
 takes_down (Fed input reply) = false
 takes_down (Gave lane out) = false
 
--- the entries before the first such step; all of them where there is none
+-- the entries before the first such step; all entries if there is no such step
 abbrev pub while_up : List Entry → List Entry
 while_up [] = []
 while_up (entry ∷ log) = if takes_down entry then [] else entry ∷ while_up log
@@ -41,7 +42,8 @@ pub record IsTraceText (origin : Origin) (bytes : List ℕ) : Type 0 where
   pub text : bytes ≡ log_text log
   pub trace : IsTrace (start origin) log
 
--- The bytes are the text of a log that is a trace up to an entry. This entry may come next, and a log of the origin has no capacity for it.
+-- The bytes are the text of a log, and the entries before some entry are a trace. This entry can come next, but a log of the origin has no
+-- capacity for it.
 pub record IsCrowdedText (origin : Origin) (bytes : List ℕ) : Type 0 where
   pub log : List Entry
   pub before : List Entry
@@ -54,7 +56,8 @@ pub record IsCrowdedText (origin : Origin) (bytes : List ℕ) : Type 0 where
   pub legal : IsLegal (replay (start origin) before) entry (after (replay (start origin) before) entry)
   pub full : has_room origin.limit before entry ≡ false
 
--- The bytes are the text of a log that is a trace. While the bus is up, the log leads to a bus of which this is seen, and these are its lines.
+-- The bytes are the text of a log, and this log is a trace. The entries before the step that shuts down the bus (all entries if there is
+-- no such step) lead to a bus with these ticks, these processes with their offers (`seen`), and these findings (`lines`).
 pub record ExplainsEnd (origin : Origin) (bytes : List ℕ) (core : CoreState) (ticks : ℕ) (seen : List Standing) (lines : List Waiter) : Type 0 where
   pub log : List Entry
   pub is_log : IsLog log
@@ -64,7 +67,7 @@ pub record ExplainsEnd (origin : Origin) (bytes : List ℕ) (core : CoreState) (
   pub started : core.origin ≡ origin
   pub followed : core.log ≡ log
   pub running : core.stopped ≡ false
-  -- before the bus goes down: how many ticks it has seen, what is seen of its processes, and what they wait for
+  -- of the bus just before it shuts down, or at the end of the log: its ticks, its processes with their offers, and what they wait for
   pub ticks_are : ticks ≡ (replay (start origin) (while_up log)).now
   pub stands : seen ≡ standings (replay (start origin) (while_up log))
   pub waits : lines ≡ waiters (replay (start origin) (while_up log))

@@ -1,4 +1,4 @@
--- Why `printf` has no text: the first place of its format that has none.
+-- The reason why `printf` has no text: the first place of the format that has none.
 use Rattle.std.specs.Prelude.{ℕ, ◌+◌, ◌==◌, ◌||◌, Bool, true, false, List, [], ◌∷◌, Option, Some, None, is_some, if◌then◌else◌}
 use Rattle.tb_terms.specs.declared.term.Term.{Term}
 use Rattle.tb_func.specs.Printing.{shown, str_of}
@@ -9,16 +9,16 @@ use Rattle.tb_why.specs.declared.reason.FormatFault.TheVariants.{NoFormat, NoDir
 abbrev pub is_directive : ℕ → Bool
 is_directive letter = letter == 100 || letter == 115 || letter == 116
 
--- a letter behind a `%` where no argument is left
+-- the fault of a letter after a `%` for which no argument is left
 abbrev pub fault_without : ℕ → FormatFault
 fault_without letter = if is_directive letter then TooFew letter else NoDirective letter
 
--- a letter behind a `%` that doesn't print the argument of this number
+-- the fault of a letter after a `%` that doesn't print the argument with this number
 abbrev pub fault_with : ℕ → ℕ → FormatFault
 fault_with letter number = if is_directive letter then Differs letter number else NoDirective letter
 
--- The rest of a format with the rest of the arguments, of which the first has this number; the flag says that a `%` stands before it. Where
--- each place has its text, the whole is too long.
+-- The fault of the rest of a format, with the rest of the arguments. The flag states whether a `%` is before the rest, and the number is
+-- that of the first argument that is left. If each place has a text, the whole text is too long.
 abbrev pub fault_from : Bool → ℕ → List ℕ → List Term → FormatFault
 fault_from false number [] [] = TooLong
 fault_from false number [] (t ∷ ts) = TooMany number
@@ -33,6 +33,7 @@ abbrev pub fault_in : Option (List ℕ) → List Term → FormatFault
 fault_in None others = NoFormat
 fault_in (Some format) others = fault_from false 1 format others
 
+-- the fault of these values: the first is the format, and the others are its arguments
 abbrev pub format_fault : List Term → FormatFault
 format_fault [] = NoFormat
 format_fault (first ∷ others) = fault_in (str_of first) others

@@ -1,3 +1,3 @@
--- Definitions that proofs and private functions need, and that nobody has to believe.
+-- Definitions that only proofs and private functions use. Nobody has to trust them.
 pub mod Followed
 pub mod Scenes

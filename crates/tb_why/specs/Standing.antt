@@ -1,4 +1,4 @@
--- What is seen of the processes of a bus: each with its offers, and of each offer its values and its patterns.
+-- The living processes of a bus with their offers, and of each offer its age, whether its times hold, its values, and its patterns.
 use Rattle.std.specs.Prelude.{ℕ, List, map}
 use Rattle.tb_body.specs.declared.atom.Atom.{Atom}
 use Rattle.tb_body.specs.declared.body.Body.{Body}
@@ -9,7 +9,7 @@ use Rattle.tb_bus.specs.Buses.{Bus, Proc, atoms_of}
 use Rattle.tb_why.specs.declared.standing.Offering.{Offering}
 use Rattle.tb_why.specs.declared.standing.Standing.{Standing}
 
--- an offer on a bus that has seen so many ticks
+-- an offer on a bus that has seen `now` ticks
 abbrev pub offering_of : List Atom → ℕ → Offered → Offering
 offering_of atoms now offered = record {
   atom = offered.atom;
@@ -19,7 +19,7 @@ offering_of atoms now offered = record {
   patterns = patterns_by atoms offered;
 }
 
--- a process with its offers, in text order
+-- a process of such a bus with its offers, in text order
 abbrev pub standing_of : List Body → ℕ → Proc → Standing
 standing_of bodies now proc = record {
   number = proc.number;
@@ -27,6 +27,6 @@ standing_of bodies now proc = record {
   offers = map (offering_of (atoms_of bodies proc.body) now) (offers proc.term proc.store);
 }
 
--- All processes that are alive, by their numbers.
+-- All living processes of a bus with their offers, in the order of the bus.
 abbrev pub standings : Bus → List Standing
 standings bus = map (standing_of bus.program.bodies bus.now) bus.procs

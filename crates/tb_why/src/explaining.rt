@@ -1,4 +1,4 @@
-//! What each process waits for.
+//! The reason of each offer of a bus.
 
 ghost use Rattle.std.specs.Prelude.{◌≡◌, IfOk, map};
 ghost use Rattle.tb_core.specs.Helpers.LiveBuses.{bus_of, IsSound};
@@ -28,16 +28,20 @@ use tb_search::{Living, Speaker};
 use tb_terms::{Items, NoMemory};
 use tb_tools::Stage;
 
-/// A process with one of its offers.
+/// One offer of a process, with the parts of the process on which the reason depends.
 #[derive(Clone, Copy)]
 pub(crate) struct Offerer<'a> {
+    /// The number of the process.
     pub number: u32,
+    /// The index of its body, from 0.
     pub body: u32,
+    /// Its queue of notes.
     pub inbox: &'a Inbox,
+    /// The offer.
     pub offer: &'a Offering,
 }
 
-/// Why an offer that is ready can't happen, by its atom; `None` if it can.
+/// Returns the reason of an offer whose times hold: the first condition of its atom that fails. Returns `None` if none fails.
 fn reason_by<W>(
     alloc: Global,
     sight: &Sight<W>,
@@ -83,7 +87,7 @@ fn reason_by<W>(
     }
 }
 
-/// Why an offer can't happen; `None` if it can.
+/// Returns the reason of an offer, or `None` if no condition fails.
 fn reason_now<W>(alloc: Global, sight: &Sight<W>, who: &Offerer) -> Result<Option<Reason>, NoMemory>
     ensures { IfOk result (λ reason. reason ≡ reason_now sight.now.down (scene_seen sight.now)
         who.now.number who.now.body who.now.inbox.now.held who.now.offer.now) }
@@ -101,7 +105,7 @@ fn reason_now<W>(alloc: Global, sight: &Sight<W>, who: &Offerer) -> Result<Optio
     }
 }
 
-/// The lines of a process, in order.
+/// Returns an entry for each offer of a process, in order.
 fn stalls_of<W>(
     alloc: Global,
     sight: &Sight<W>,
@@ -128,7 +132,7 @@ fn stalls_of<W>(
     Ok(stalls)
 }
 
-/// What a process waits for.
+/// Returns the entry of a process, with an entry for each of its offers.
 fn waiter<W>(
     alloc: Global,
     sight: &Sight<W>,
@@ -150,7 +154,8 @@ fn waiter<W>(
     })
 }
 
-/// What each living process of a bus waits for, of which this is seen: an entry for each of its offers, in order.
+/// Returns what each living process of a bus waits for: an entry for each process, and in it an entry for each of its offers, in order.
+/// `seen` is the result of `stand` for this bus.
 pub fn explain<W: Walker>(
     alloc: Global,
     bus: &LiveBus<W>,

@@ -1,15 +1,15 @@
-//! Why a log isn't followed to its end.
+//! The errors of `why`.
 
 use tb_terms::NoMemory;
 
-/// Why a log wasn't followed to its end.
+/// The reason why a log couldn't be followed to its end.
 #[derive(Clone, Copy)]
 pub enum WhyFault {
     /// The bytes aren't the text of a trace of the program.
     NoTrace,
-    /// The log goes on past the limits of a log.
+    /// An entry that can come next passes the limits of a log.
     Full,
-    /// There wasn't memory enough; it says nothing of the log.
+    /// Out of memory. This makes no claim about the log.
     NoMemory,
 }
 

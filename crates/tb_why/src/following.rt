@@ -1,4 +1,4 @@
-//! The bus at the end of a log.
+//! How a log is followed to its end, and what the processes then wait for.
 
 ghost use Rattle.std.specs.Prelude.{◌≡◌, ◌≤◌, [], List, length, take, IfOk, IsErrOf, OnOk, false};
 ghost use Rattle.tb_bus.specs.Buses.{origin_of, start};
@@ -24,23 +24,26 @@ use tb_log_read::{LogFault, read_log};
 use tb_process_steps::Walker;
 use tb_terms::{Items, Texts};
 
-/// How many entries a log has at most.
+/// The greatest number of entries of a log.
 const MOST_ENTRIES: u32 = 4_000_000;
 
-/// The end of a log: what the processes offer, and what each of them waits for. If the bus shuts down, it is the bus just before.
+/// The end of a log: the offers of each process, and what each process waits for. If the bus shuts down, this is about the bus just
+/// before, except for `core`.
 #[derive(Drop)]
 pub struct Ending<W: Walker> {
     /// The bus to which the whole log leads.
     pub core: Core<W>,
-    /// How many ticks the bus has seen.
+    /// The number of ticks that the bus has seen.
     pub ticks: u64,
+    /// The living processes with their offers.
     pub standings: Items<Standing>,
+    /// What each living process waits for.
     pub waiters: Items<Waiter>,
 }
 
-/// Follows the text of a log of a program, of which the first lanes are started with these commands, and returns what each process
-/// waits for at its end, or just before the bus shuts down. If the call returns `NoTrace`, the bytes aren't the text of a trace, and
-/// `verify` of `tb_verify` tells the line. If it returns `Full`, an entry that can come next passes the limits of a log.
+/// Follows the text of a log of a program, and returns what each process waits for at the end of the log, or just before the bus shuts
+/// down. `connects` has the commands with which the first lanes start. If the call returns `NoTrace`, the bytes aren't the text of a
+/// trace, and `verify` of `tb_verify` finds the line. If it returns `Full`, an entry that can come next passes the limits of a log.
 pub fn why<W: Walker>(
     alloc: Global,
     program: Program,
@@ -60,7 +63,7 @@ pub fn why<W: Walker>(
     end_of(alloc, core, entries.as_slice())
 }
 
-/// Reads the text of a log.
+/// Reads the entries of a log from its text.
 fn entries_of(alloc: Global, log: &[u8]) -> Result<Entries, WhyFault>
     ensures found { IfOk result (λ entries. IsLog entries × (log.now ≡ log_text entries)) }
     ensures no_trace { IsErrOf result WhyFault.NoTrace
@@ -74,7 +77,8 @@ fn entries_of(alloc: Global, log: &[u8]) -> Result<Entries, WhyFault>
     }
 }
 
-/// Follows a log with a core that was just started. Between two parts of the log, it looks what each process waits for.
+/// Follows a log with a core that was just started. Before the step that shuts the bus down, or at the end of the log, it finds out what
+/// each process waits for.
 fn end_of<W: Walker>(alloc: Global, core: Core<W>, entries: &[Entry]) -> Result<Ending<W>, WhyFault>
     requires fresh { core.log ≡ [] }
     requires running { core.stopped ≡ false }
@@ -100,7 +104,7 @@ fn end_of<W: Walker>(alloc: Global, core: Core<W>, entries: &[Entry]) -> Result<
     })
 }
 
-/// How many entries come before the step that takes the bus down.
+/// Returns the number of entries before the step that shuts the bus down, or of all entries if there is no such step.
 fn up_len(entries: &[Entry]) -> usize
     ensures before { take result entries.now ≡ while_up entries.now }
     ensures within { result ≤ length entries.now }
@@ -113,7 +117,7 @@ fn up_len(entries: &[Entry]) -> usize
     entries.len()
 }
 
-/// Whether an entry is a step that takes a bus down.
+/// Returns whether an entry is a step that shuts the bus down.
 fn takes_down(entry: &Entry) -> bool
     ensures { result ≡ takes_down entry.now }
 {
@@ -126,7 +130,7 @@ fn takes_down(entry: &Entry) -> bool
     }
 }
 
-/// Follows these entries.
+/// Follows these entries with a core. Returns `NoTrace` at the first one that can't come next.
 fn follow<W: Walker>(core: &mut Core<W>, entries: &[Entry]) -> Result<(), WhyFault>
     requires { core.old.stopped ≡ false }
     ensures logs { OnOk result (Logs core.old core.new entries.now) }
@@ -142,7 +146,7 @@ fn follow<W: Walker>(core: &mut Core<W>, entries: &[Entry]) -> Result<(), WhyFau
     Ok(())
 }
 
-/// Follows an entry. Returns `false` where it can't come next.
+/// Follows an entry with a core. Returns `false` if the entry can't come next.
 fn follow_one<W: Walker>(core: &mut Core<W>, entry: &Entry) -> Result<bool, WhyFault>
     requires { core.old.stopped ≡ false }
     ensures follows { IfOk result (λ legal. Follows core.old entry.now legal core.new) }

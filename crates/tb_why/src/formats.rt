@@ -1,4 +1,4 @@
-//! Why `printf` has no text.
+//! The place of a format where `printf` has no text.
 
 ghost use Rattle.std.specs.Prelude.{◌≡◌, ◌∷◌, [], ℕ, List, false, is_some};
 ghost use Rattle.tb_func.specs.Printing.{shown};
@@ -8,14 +8,16 @@ ghost use Rattle.tb_why.specs.Helpers.Scenes.{fault_at, fault_or};
 use crate::reason::FormatFault;
 use tb_terms::Term;
 
-/// How far a format was read: how many arguments were taken, and whether a `%` came last.
+/// The state of reading a format.
 #[derive(Clone, Copy)]
 struct Reading {
+    /// The number of arguments that letters have taken.
     taken: usize,
+    /// Whether the next byte is a letter after a `%`.
     begun: bool,
 }
 
-/// The first place of the format that has no text. Where each has one, the whole is too long.
+/// Returns the fault at the first place of the format that has no text. If each place has a text, the whole text is too long.
 pub(crate) fn format_fault(terms: &[Term]) -> FormatFault
     ensures { result ≡ format_fault terms.now }
 {
@@ -25,6 +27,7 @@ pub(crate) fn format_fault(terms: &[Term]) -> FormatFault
     }
 }
 
+/// Returns the fault of a format with these arguments.
 fn fault_of(format: &[u8], terms: &[Term]) -> FormatFault
     ensures { result ≡ fault_from false 1 format.now terms.now }
 {
@@ -40,7 +43,7 @@ fn fault_of(format: &[u8], terms: &[Term]) -> FormatFault
     at_end(reading, terms)
 }
 
-/// Takes the next byte of the format; the fault, where it has no text.
+/// Reads the next byte of the format. Returns the fault if this place has no text.
 fn take(reading: &mut Reading, letter: u8, terms: &[Term]) -> Option<FormatFault>
     ensures { (rest : List ℕ) → fault_at reading.old (letter ∷ rest) terms.now
         ≡ fault_or result (fault_at reading.new rest terms.now) }
@@ -65,7 +68,7 @@ fn take(reading: &mut Reading, letter: u8, terms: &[Term]) -> Option<FormatFault
     }
 }
 
-/// The fault of a letter for which no argument is left.
+/// Returns the fault of a letter for which no argument is left.
 fn fault_without(letter: u8) -> FormatFault
     ensures { result ≡ fault_without letter }
 {
@@ -76,7 +79,7 @@ fn fault_without(letter: u8) -> FormatFault
     }
 }
 
-/// The fault of a letter that doesn't print the argument of this number.
+/// Returns the fault of a letter that doesn't print the argument with this number.
 fn fault_with(letter: u8, number: usize) -> FormatFault
     ensures { result ≡ fault_with letter number }
 {
@@ -87,14 +90,14 @@ fn fault_with(letter: u8, number: usize) -> FormatFault
     }
 }
 
-/// Whether the letter prints an argument.
+/// Returns whether a letter is one of those that print an argument: `d`, `s`, or `t`.
 fn is_directive(letter: u8) -> bool
     ensures { result ≡ is_directive letter }
 {
     letter == b'd' || letter == b's' || letter == b't'
 }
 
-/// The fault of a format that has ended.
+/// Returns the fault at the end of a format.
 fn at_end(reading: Reading, terms: &[Term]) -> FormatFault
     ensures { result ≡ fault_at reading [] terms.now }
 {
@@ -107,7 +110,7 @@ fn at_end(reading: Reading, terms: &[Term]) -> FormatFault
     }
 }
 
-/// Whether an argument has a text as the letter asks.
+/// Returns whether a letter prints this argument.
 fn is_shown(letter: u8, term: &Term) -> bool
     ensures { result ≡ is_some (shown letter term.now) }
 {

@@ -1,4 +1,4 @@
-//! What holds of reasons, and of the bus that is explained. These calls change nothing: their contracts are the laws.
+//! Theorems about reasons, and about the bus that `why` explains. The calls change nothing: their contracts are the theorems.
 
 ghost use Rattle.std.specs.Prelude.{◌≡◌, ◌↔◌, ℕ, Contains, IsTrue, List, Some, false, is_none, slice_get};
 ghost use Rattle.tb_func.specs.Stores.{sort_at};
@@ -16,8 +16,8 @@ ghost use Rattle.tb_why.specs.Reasons.{reason_now, scene_of, sorts_in};
 ghost use Rattle.tb_why.specs.Standing.{offering_of};
 ghost use Rattle.tb_why.specs.declared.reason.Reason.{Reason};
 
-/// On a bus that is up, an offer has no reason exactly where it takes part in a move: where its action has an effect, or where it
-/// shakes hands with an offer of another process. The slots of the offered store have the sorts of the body.
+/// On a bus that is up, an offer has no reason if and only if it takes part in a move: its action has an effect, or it shakes hands with
+/// an offer of another process. The theorem assumes that the slots of the offered store have the types of the body.
 pub fn no_reason_is_a_move()
     ensures { (bus : Bus) (proc : Proc) (offered : Offered) → bus.down ≡ false
         → ((slot : ℕ) → sort_at offered.store slot
@@ -27,8 +27,8 @@ pub fn no_reason_is_a_move()
         ≡ can_happen bus proc offered }
 {}
 
-/// On a bus that a program reaches and that is up, an offer has no reason if and only if a step of the bus shows it: as the atom that
-/// acts, or as the one that receives.
+/// On a bus that a program reaches and that is up, an offer has no reason if and only if a step of the bus shows its atom:
+/// as the atom that acts, or as the atom that receives.
 pub fn no_reason_is_a_step()
     ensures { (origin : Origin) (bus : Bus) (proc : Proc) (offered : Offered)
         → Reaches origin bus → bus.down ≡ false
@@ -45,8 +45,8 @@ pub fn the_explained_bus_is_up()
         → (replay (start origin) (while_up log)).down ≡ false }
 {}
 
-/// If an offer has a reason, the condition that the reason names fails, and what comes before it holds. `Fails` says this in the words of
-/// the bus.
+/// If an offer has a reason, the condition that the reason names fails. The conditions before it hold: the bus is up, the times hold, and
+/// the values and patterns exist. `Fails` states this with the definitions of the bus.
 pub fn each_reason_fails()
     ensures { (bus : Bus) (proc : Proc) (offered : Offered) (reason : Reason)
         → reason_now bus.down (scene_of bus) proc.number proc.body proc.inbox

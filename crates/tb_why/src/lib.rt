@@ -1,4 +1,4 @@
-//! What each process of a bus waits for: its offers, and of each the condition that fails.
+//! What each process of a bus waits for: an entry for each offer, with the condition of its atom that fails.
 #![tactic(auto)]
 
 mod explaining;

@@ -1,4 +1,4 @@
-//! What is seen of the processes of a bus.
+//! The offers of the processes of a bus.
 
 ghost use Rattle.std.specs.Prelude.{◌≡◌, ◌<◌, ℕ, IfOk, IsTrue, length, map, slice_get, Some, is_some};
 ghost use Rattle.std.specs.Option.{ForSome};
@@ -15,7 +15,7 @@ use tb_process_steps::{Offer, Walker};
 use tb_search::Living;
 use tb_terms::{Items, NoMemory};
 
-/// The offer at this position of a process that was looked at.
+/// Returns the offer at position `k` of a walker. The walker has looked for its offers before.
 fn offering<W: Walker>(
     alloc: Global,
     plan: &W::Plan,
@@ -44,7 +44,7 @@ fn offering<W: Walker>(
     })
 }
 
-/// All offers of a process that was looked at.
+/// Returns all offers of a walker, in order. The walker has looked for its offers before.
 fn offerings<W: Walker>(
     alloc: Global,
     plan: &W::Plan,
@@ -65,7 +65,8 @@ fn offerings<W: Walker>(
     Ok(offers)
 }
 
-/// A process with its offers, on a bus that has seen so many ticks. The process itself isn't looked at: a copy is.
+/// Returns a process with its offers, on a bus that has seen `now` ticks. A copy of the walker looks for the offers, so the process
+/// remains unchanged.
 fn standing<W: Walker>(
     alloc: Global,
     plans: &Items<W::Plan>,
@@ -87,7 +88,7 @@ fn standing<W: Walker>(
     })
 }
 
-/// All processes that are alive, with their offers.
+/// Returns the living processes of a bus, in order, each with its offers.
 pub fn stand<W: Walker>(alloc: Global, bus: &LiveBus<W>) -> Result<Items<Standing>, NoMemory>
     requires { IsSound W.view bus.now }
     ensures { IfOk result (λ all. all ≡ standings (bus_of W.view bus.now)) }

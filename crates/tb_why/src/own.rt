@@ -1,4 +1,5 @@
-//! Why an atom that a process does by itself can't happen. `tools` has the atoms that speak with a tool.
+//! The reasons of atoms that need no tool and no message. `tools` and `partners` have the others.
+//! Each check returns the reason of the first condition that fails, or `None` if all conditions hold.
 
 ghost use Rattle.std.specs.Prelude.{◌≡◌, IfOk, None, slice_get, is_some};
 ghost use Rattle.std.specs.Option.{option_copied};
@@ -21,10 +22,10 @@ use tb_notes::Inbox;
 use tb_search::{Apart, Living, fits_formals, fits_slot};
 use tb_terms::{NoMemory, Patterns, Sort, Term, Terms, has_sort};
 
-/// How many processes may be alive.
+/// The greatest number of living processes.
 const MOST_ALIVE: usize = 10_000;
 
-/// The sort of a slot of a body.
+/// Returns the type of a slot of a body, if the body has this slot.
 fn sort_of(bodies: &[Body], body: u32, slot: u32) -> Option<&Sort>
     ensures { option_copied result ≡ sorts_in (slice_get bodies.now body) slot }
 {
@@ -34,7 +35,7 @@ fn sort_of(bodies: &[Body], body: u32, slot: u32) -> Option<&Sort>
     }
 }
 
-/// For an atom that sets a variable to the one value.
+/// Checks the conditions of `:=`, which sets a variable to a value: the value exists, and has the type of the slot.
 pub(crate) fn set_reason(
     bodies: &[Body],
     body: u32,
@@ -56,6 +57,7 @@ pub(crate) fn set_reason(
     }
 }
 
+/// Returns whether a value has the type of a slot; `false` if there is no such slot.
 fn has_slot_sort(sort: Option<&Sort>, value: &Term) -> bool
     ensures { result ≡ has_slot_sort (option_copied sort.entry) value.now }
 {
@@ -65,7 +67,7 @@ fn has_slot_sort(sort: Option<&Sort>, value: &Term) -> bool
     }
 }
 
-/// For an atom that prints.
+/// Checks the conditions of `printf`: its values exist, and give a text.
 pub(crate) fn print_reason(alloc: Global, sent: &Option<Terms>) -> Result<Option<Reason>, NoMemory>
     ensures { IfOk result (λ reason. reason ≡ with_terms print_reason sent.now) }
 {
@@ -77,7 +79,7 @@ pub(crate) fn print_reason(alloc: Global, sent: &Option<Terms>) -> Result<Option
     Ok(unless(text.is_some(), Reason::NoText(fault)))
 }
 
-/// For an atom that sends a note.
+/// Checks the conditions of `snd-note`: its values exist, and each queue that wants the note has capacity for it.
 pub(crate) fn full_reason<W>(all: &[Apart<Living<W>>], sent: &Option<Terms>) -> Option<Reason>
     ensures { result
         ≡ with_terms (λ note. full_reason (full_queue note (queues_in all.now))) sent.now }
@@ -88,7 +90,7 @@ pub(crate) fn full_reason<W>(all: &[Apart<Living<W>>], sent: &Option<Terms>) -> 
     }
 }
 
-/// The same, where the values are there.
+/// Returns `QueueFull` with the first process that wants the note and has no capacity for it, or `None` if there is none.
 fn queue_reason<W>(all: &[Apart<Living<W>>], note: &Terms) -> Option<Reason>
     ensures { result ≡ full_reason (full_queue note.now (queues_in all.now)) }
 {
@@ -101,7 +103,7 @@ fn queue_reason<W>(all: &[Apart<Living<W>>], note: &Terms) -> Option<Reason>
     None
 }
 
-/// Whether a queue takes a note: it doesn't want it, or has room.
+/// Returns whether a queue doesn't bar a note: the queue doesn't want the note, or has capacity for it.
 fn takes_note(inbox: &Inbox, note: &Terms) -> bool
     ensures { result ≡ takes_note note.now inbox.now.held }
 {
@@ -112,7 +114,7 @@ fn takes_note(inbox: &Inbox, note: &Terms) -> bool
     }
 }
 
-/// For an atom that takes a note.
+/// Checks the conditions of `rec-note`: its patterns exist, and a note of the process's own queue matches.
 pub(crate) fn note_reason(
     inbox: &Inbox,
     patterns: &Option<Patterns>,
@@ -127,7 +129,7 @@ pub(crate) fn note_reason(
     Ok(unless(found.is_some(), Reason::NoNote))
 }
 
-/// For an atom that happens where no note matches.
+/// Checks the conditions of `no-note`: its patterns exist, and no note of the process's own queue matches.
 pub(crate) fn waits_reason(
     inbox: &Inbox,
     patterns: &Option<Patterns>,
@@ -144,7 +146,8 @@ pub(crate) fn waits_reason(
     }
 }
 
-/// For an atom that creates a process.
+/// Checks the conditions of `create`: its values exist, another process may live, the arguments have the types of the parameters, and the
+/// variable takes the number of the new process.
 pub(crate) fn create_reason<W>(
     sight: &Sight<W>,
     creator: u32,
@@ -164,7 +167,7 @@ pub(crate) fn create_reason<W>(
     created_reason(sight, creator, process, slot, actuals)
 }
 
-/// The same, where fewer are alive than may be.
+/// Checks the conditions of `create` on its arguments and its variable.
 fn created_reason<W>(
     sight: &Sight<W>,
     creator: u32,
@@ -182,7 +185,7 @@ fn created_reason<W>(
     unless(fits_slot(bodies, creator, slot, &number), Reason::NoNumber)
 }
 
-/// For an atom that needs no more than its patterns.
+/// Checks the conditions of `subscribe` and `unsubscribe`: the patterns exist.
 pub(crate) fn pattern_reason(patterns: &Option<Patterns>) -> Option<Reason>
     ensures { result ≡ with_patterns (λ patterns. None) patterns.now }
 {
@@ -192,7 +195,7 @@ pub(crate) fn pattern_reason(patterns: &Option<Patterns>) -> Option<Reason>
     }
 }
 
-/// For an atom that needs no more than its one value.
+/// Checks the conditions of `shutdown`: its value exists.
 pub(crate) fn end_reason(sent: &Option<Terms>) -> Option<Reason>
     ensures { result ≡ with_terms end_reason sent.now }
 {

@@ -1,4 +1,4 @@
-//! Who sends what a process receives, and who receives what it sends.
+//! The reasons of `snd-msg` and `rec-msg`: no other process receives the message, or sends one that matches.
 
 ghost use Rattle.std.specs.Prelude.{◌≡◌, IfOk, None, Some, is_some, if◌then◌else◌};
 ghost use Rattle.std.specs.List.{list_any};
@@ -19,7 +19,7 @@ use tb_body::{Act, Atom, Body};
 use tb_match::match_list;
 use tb_terms::{NoMemory, Patterns, Terms};
 
-/// What an atom of a body does, by its number.
+/// Returns the act of the atom with this number, from 1.
 pub(crate) fn act_at(atoms: &[Atom], number: u32) -> Option<&Act>
     ensures { act_found result ≡ act_of atoms.now number }
 {
@@ -29,7 +29,7 @@ pub(crate) fn act_at(atoms: &[Atom], number: u32) -> Option<&Act>
     }
 }
 
-/// Whether an atom of a body sends a message.
+/// Returns whether the atom with this number sends a message.
 fn sends(atoms: &[Atom], number: u32) -> bool
     ensures { result ≡ sends (act_of atoms.now number) }
 {
@@ -39,7 +39,7 @@ fn sends(atoms: &[Atom], number: u32) -> bool
     }
 }
 
-/// Whether an atom of a body receives a message.
+/// Returns whether the atom with this number receives a message.
 fn receives(atoms: &[Atom], number: u32) -> bool
     ensures { result ≡ receives (act_of atoms.now number) }
 {
@@ -49,7 +49,7 @@ fn receives(atoms: &[Atom], number: u32) -> bool
     }
 }
 
-/// The atoms of a body, by its number.
+/// Returns the atoms of the body with this index, or none if there is no such body.
 pub(crate) fn atoms_of(bodies: &[Body], body: u32) -> &[Atom]
     ensures { result.now ≡ atoms_of bodies.now body }
 {
@@ -59,13 +59,14 @@ pub(crate) fn atoms_of(bodies: &[Body], body: u32) -> &[Atom]
     }
 }
 
+/// Returns whether the terms match the patterns.
 fn fits(alloc: Global, patterns: &Patterns, terms: &Terms) -> Result<bool, NoMemory>
     ensures { IfOk result (λ fits. fits ≡ is_some (match_list patterns.now terms.now)) }
 {
     Ok(match_list(alloc, patterns, terms)?.is_some())
 }
 
-/// Whether an offer receives the terms now.
+/// Returns whether an offer whose times hold receives the terms.
 fn takes(alloc: Global, atoms: &[Atom], offer: &Offering, terms: &Terms) -> Result<bool, NoMemory>
     ensures { IfOk result
         (λ takes. takes ≡ matches (received_now atoms.now offer.now) (Some terms.now)) }
@@ -79,7 +80,7 @@ fn takes(alloc: Global, atoms: &[Atom], offer: &Offering, terms: &Terms) -> Resu
     }
 }
 
-/// Whether an offer sends what matches the patterns now.
+/// Returns whether an offer whose times hold sends terms that match the patterns.
 fn gives(
     alloc: Global,
     atoms: &[Atom],
@@ -98,7 +99,7 @@ fn gives(
     }
 }
 
-/// Whether an offer whose times don't hold receives the terms.
+/// Returns whether an offer whose times don't all hold would receive the terms.
 fn takes_later(
     alloc: Global,
     atoms: &[Atom],
@@ -116,7 +117,7 @@ fn takes_later(
     }
 }
 
-/// Whether an offer whose times don't hold sends what matches the patterns.
+/// Returns whether an offer whose times don't all hold would send terms that match the patterns.
 fn gives_later(
     alloc: Global,
     atoms: &[Atom],
@@ -134,6 +135,7 @@ fn gives_later(
     }
 }
 
+/// Returns whether one of these offers receives the terms, and its times hold.
 fn any_takes(
     alloc: Global,
     atoms: &[Atom],
@@ -151,6 +153,7 @@ fn any_takes(
     Ok(false)
 }
 
+/// Returns whether one of these offers sends terms that match the patterns, and its times hold.
 fn any_gives(
     alloc: Global,
     atoms: &[Atom],
@@ -168,7 +171,7 @@ fn any_gives(
     Ok(false)
 }
 
-/// Whether a process other than the one with this number receives the terms.
+/// Returns whether this process receives the terms, and isn't the process with this number.
 fn receives_from(
     alloc: Global,
     bodies: &[Body],
@@ -186,7 +189,7 @@ fn receives_from(
     any_takes(alloc, atoms, other.offers.as_slice(), terms)
 }
 
-/// Whether a process other than the one with this number sends what matches the patterns.
+/// Returns whether this process sends terms that match the patterns, and isn't the process with this number.
 fn sends_to(
     alloc: Global,
     bodies: &[Body],
@@ -204,7 +207,7 @@ fn sends_to(
     any_gives(alloc, atoms, other.offers.as_slice(), patterns)
 }
 
-/// Whether another process receives the terms.
+/// Returns whether a process other than the one with this number receives the terms.
 fn has_receiver(
     alloc: Global,
     bodies: &[Body],
@@ -223,7 +226,7 @@ fn has_receiver(
     Ok(false)
 }
 
-/// Whether another process sends what matches the patterns.
+/// Returns whether a process other than the one with this number sends terms that match the patterns.
 fn has_sender(
     alloc: Global,
     bodies: &[Body],
@@ -242,7 +245,7 @@ fn has_sender(
     Ok(false)
 }
 
-/// The first of these offers whose times don't hold that receives the terms, by its atom.
+/// Returns the atom of the first of these offers that would receive the terms and whose times don't all hold.
 fn first_taking_later(
     alloc: Global,
     atoms: &[Atom],
@@ -260,7 +263,7 @@ fn first_taking_later(
     Ok(None)
 }
 
-/// The first of these offers whose times don't hold that sends what matches the patterns, by its atom.
+/// Returns the atom of the first of these offers that would send terms that match the patterns and whose times don't all hold.
 fn first_giving_later(
     alloc: Global,
     atoms: &[Atom],
@@ -278,7 +281,7 @@ fn first_giving_later(
     Ok(None)
 }
 
-/// The same for one process, if its number is another.
+/// Returns the atom of the first such offer of this process. Returns `None` if this is the process with this number.
 fn later_receiver(
     alloc: Global,
     bodies: &[Body],
@@ -296,7 +299,7 @@ fn later_receiver(
     first_taking_later(alloc, atoms, other.offers.as_slice(), terms)
 }
 
-/// The same for one process, if its number is another.
+/// Returns the atom of the first such offer of this process. Returns `None` if this is the process with this number.
 fn later_sender(
     alloc: Global,
     bodies: &[Body],
@@ -314,7 +317,7 @@ fn later_sender(
     first_giving_later(alloc, atoms, other.offers.as_slice(), patterns)
 }
 
-/// The first offer of another process whose times don't hold that receives the terms.
+/// Returns the first offer of another process that would receive the terms and whose times don't all hold.
 fn first_later_receiver(
     alloc: Global,
     bodies: &[Body],
@@ -333,7 +336,7 @@ fn first_later_receiver(
     Ok(None)
 }
 
-/// The first offer of another process whose times don't hold that sends what matches the patterns.
+/// Returns the first offer of another process that would send terms that match the patterns and whose times don't all hold.
 fn first_later_sender(
     alloc: Global,
     bodies: &[Body],
@@ -352,7 +355,7 @@ fn first_later_sender(
     Ok(None)
 }
 
-/// An offer of a process, by its atom.
+/// Returns the offer of a process with this atom, as a partner.
 fn partner(other: &Standing, atom: u32) -> Partner
     ensures { result ≡ record { process = other.now.number; body = other.now.body; atom = atom } }
 {
@@ -363,7 +366,7 @@ fn partner(other: &Standing, atom: u32) -> Partner
     }
 }
 
-/// Why no other process is ready: the times of this one don't hold, or there is none.
+/// Returns the reason if no other process is ready: `PartnerWaits` if there is a partner whose times don't all hold, `nobody` if not.
 fn partner_reason(partner: Option<Partner>, nobody: Reason) -> Reason
     ensures { result ≡ partner_reason partner nobody }
 {
@@ -373,7 +376,7 @@ fn partner_reason(partner: Option<Partner>, nobody: Reason) -> Reason
     }
 }
 
-/// For an atom that sends a message.
+/// Checks the conditions of `snd-msg`: its values exist, and another process receives them.
 pub(crate) fn receiver_reason(
     alloc: Global,
     bodies: &[Body],
@@ -392,7 +395,7 @@ pub(crate) fn receiver_reason(
     Ok(unless(received, partner_reason(later, Reason::NobodyReceives)))
 }
 
-/// For an atom that receives a message.
+/// Checks the conditions of `rec-msg`: its patterns exist, and another process sends terms that match.
 pub(crate) fn sender_reason(
     alloc: Global,
     bodies: &[Body],

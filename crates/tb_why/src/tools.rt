@@ -1,4 +1,5 @@
-//! Why an atom that speaks with a tool can't happen.
+//! The reasons of atoms that speak with a tool, or set a variable to a tool. Each check returns the reason of the first condition that
+//! fails, or `None` if all conditions hold. If the atom's values or patterns don't exist, the reason is `NoValue` or `NoPattern`.
 
 ghost use Rattle.std.specs.Prelude.{◌≡◌, IfOk, IsSome, slice_get, if◌then◌else◌};
 ghost use Rattle.std.specs.Option.{ForSome};
@@ -19,14 +20,14 @@ use tb_search::{Speaker, behind, fits_slot, next_term};
 use tb_terms::{Items, Name, NoMemory, Patterns, Term, Terms, is_within_limits};
 use tb_tools::{Bench, Stage};
 
-/// The reason, unless a condition holds.
+/// Returns the reason, or `None` if the condition holds.
 pub(crate) fn unless(holds: bool, reason: Reason) -> Option<Reason>
     ensures { result ≡ unless holds reason }
 {
     if holds { None } else { Some(reason) }
 }
 
-/// The lane of the tool that is the first of these terms.
+/// Returns the lane of the tool that is the first of these terms, if a lane has it.
 pub(crate) fn lane_named(bench: &Bench, terms: &Terms) -> Option<u8>
     ensures lane { result ≡ lane_named bench.now terms.now }
     ensures within { ForSome result IsLane }
@@ -38,7 +39,7 @@ pub(crate) fn lane_named(bench: &Bench, terms: &Terms) -> Option<u8>
     }
 }
 
-/// At which stage the tool of a lane is.
+/// Returns the reason that the tool of a lane is at its present stage.
 fn at_stage(bench: &Bench, lane: u8) -> Reason
     requires lane { IsLane lane }
     requires tool { IsSome (tool_at lane bench.now) }
@@ -47,7 +48,7 @@ fn at_stage(bench: &Bench, lane: u8) -> Reason
     Reason::AtStage(lane, bench.stage(lane))
 }
 
-/// For an atom for which the tool has to be leaving.
+/// Checks the conditions of `rec-disconnect` of a given tool: the tool is on a lane, and is leaving.
 pub(crate) fn leaving_reason(bench: &Bench, sent: &Option<Terms>) -> Option<Reason>
     ensures { result ≡ with_terms (λ terms. tool_reason (leaving_reason bench.now)
         (lane_named bench.now terms)) sent.now }
@@ -61,7 +62,7 @@ pub(crate) fn leaving_reason(bench: &Bench, sent: &Option<Terms>) -> Option<Reas
     }
 }
 
-/// For an atom for which the tool has to be live.
+/// Checks the conditions of `snd-terminate`: the tool is on a lane, and is live.
 pub(crate) fn live_reason(bench: &Bench, sent: &Option<Terms>) -> Option<Reason>
     ensures { result ≡ with_terms (λ terms. tool_reason (live_reason bench.now)
         (lane_named bench.now terms)) sent.now }
@@ -75,7 +76,7 @@ pub(crate) fn live_reason(bench: &Bench, sent: &Option<Terms>) -> Option<Reason>
     }
 }
 
-/// For an atom for which the tool has to be live, and no evaluation open.
+/// Checks the conditions of `snd-eval` and `snd-do`: the tool is on a lane, and is live, and no evaluation is open.
 pub(crate) fn idle_reason(bench: &Bench, sent: &Option<Terms>) -> Option<Reason>
     ensures { result ≡ with_terms (λ terms. tool_reason (idle_reason bench.now)
         (lane_named bench.now terms)) sent.now }
@@ -95,7 +96,7 @@ pub(crate) fn idle_reason(bench: &Bench, sent: &Option<Terms>) -> Option<Reason>
     }
 }
 
-/// Why an evaluation is open: its answer hasn't come, or no process has received it.
+/// Returns why an evaluation is open: its answer hasn't come, or no process has received the answer.
 fn open_reason(bench: &Bench, lane: u8) -> Reason
     requires { IsLane lane }
     ensures { result ≡ open_reason bench.now lane }
@@ -106,7 +107,7 @@ fn open_reason(bench: &Bench, lane: u8) -> Reason
     }
 }
 
-/// Where nothing that matches has come: this reason, unless the tool is leaving.
+/// Returns the reason if nothing that matches has come: `Ended` if the tool is leaving, and `reason` otherwise.
 fn missing(bench: &Bench, lane: u8, reason: Reason) -> Reason
     requires { IsLane lane }
     ensures { result ≡ missing bench.now lane reason }
@@ -118,7 +119,7 @@ fn missing(bench: &Bench, lane: u8, reason: Reason) -> Reason
     }
 }
 
-/// For an atom that takes the answer of a tool.
+/// Checks the conditions of `rec-value`: the tool is on a lane, is live or leaving, and has answered, and the answer matches.
 pub(crate) fn value_reason(
     alloc: Global,
     bench: &Bench,
@@ -147,7 +148,7 @@ pub(crate) fn value_reason(
     }
 }
 
-/// The same on the lane of a tool that is live or leaving.
+/// Checks the condition of `rec-value` on the answer: the tool of this lane has answered, and the answer matches.
 fn answer_reason(
     alloc: Global,
     bench: &Bench,
@@ -168,7 +169,7 @@ fn answer_reason(
     }
 }
 
-/// Whether the tool was asked.
+/// Returns why there is no answer: the tool hasn't answered, or no evaluation is open.
 fn unanswered(bench: &Bench, lane: u8) -> Reason
     requires { IsLane lane }
     ensures { result ≡ (if has_asked (tool_at lane bench.now) then Reason.NotAnswered lane
@@ -181,7 +182,7 @@ fn unanswered(bench: &Bench, lane: u8) -> Reason
     }
 }
 
-/// For an atom that receives an event.
+/// Checks the conditions of `rec-event`: the tool is on a lane, and is live or leaving, and a waiting event of the tool matches.
 pub(crate) fn event_reason(
     bench: &Bench,
     sent: &Option<Terms>,
@@ -211,7 +212,7 @@ pub(crate) fn event_reason(
     }
 }
 
-/// For an atom that acknowledges an event.
+/// Checks the conditions of `snd-ack-event`: the tool is on a lane, and is live, and an event with exactly these terms was received.
 pub(crate) fn received_reason(
     alloc: Global,
     bench: &Bench,
@@ -237,7 +238,7 @@ pub(crate) fn received_reason(
     }
 }
 
-/// For an atom that starts a tool of a kind.
+/// Checks the conditions of `execute`: the tool has a command, a lane is free, and the variable takes the new tool.
 pub(crate) fn execute_reason(
     alloc: Global,
     speaker: &Speaker,
@@ -256,7 +257,7 @@ pub(crate) fn execute_reason(
     }
 }
 
-/// The same, where the kind has a command.
+/// Checks the other conditions of `execute`, if the tool has a command.
 fn lane_reason(
     alloc: Global,
     speaker: &Speaker,
@@ -275,7 +276,8 @@ fn lane_reason(
     }
 }
 
-/// For an atom that takes a tool of a kind at a stage.
+/// Checks the conditions of `rec-connect` (stage `Waiting`), and of `rec-disconnect` for a variable (stage `Leaving`): the bus has a
+/// declared tool of this kind at this stage, and the variable takes it.
 pub(crate) fn kind_reason(speaker: &Speaker, stage: Stage, tool: u32, slot: u32) -> Option<Reason>
     ensures { result ≡ kind_reason (setting_spoken speaker.now) stage slot
         (slice_get (setting_spoken speaker.now).kinds tool) }
@@ -286,7 +288,7 @@ pub(crate) fn kind_reason(speaker: &Speaker, stage: Stage, tool: u32, slot: u32)
     }
 }
 
-/// The same, where the kind is there.
+/// Checks the same conditions for a declared tool of this name.
 fn found_reason(speaker: &Speaker, stage: Stage, name: &Name, slot: u32) -> Option<Reason>
     ensures { result ≡ found_reason (setting_spoken speaker.now) stage slot
         (first_at name.now stage speaker.now.bench.now) }
@@ -297,7 +299,7 @@ fn found_reason(speaker: &Speaker, stage: Stage, name: &Name, slot: u32) -> Opti
     }
 }
 
-/// Whether the term of a tool is within the limits, and a slot takes it.
+/// Checks whether a slot takes a tool: the tool's term is within the limits, and has the type of the slot.
 fn fits_reason(speaker: &Speaker, slot: u32, tool: &Term) -> Option<Reason>
     ensures { result ≡ fits_reason (setting_spoken speaker.now) slot tool.now }
 {

@@ -1,4 +1,4 @@
--- A log of which each entry's line is added to what a writer holds, and a front of that is put.
+-- A writer adds the line of each entry to the bytes that it holds, and writes a prefix of these bytes.
 use Rattle.std.proofs.Common.{◌≡◌, ℕ, ◌+◌, ◌<◌, ◌≤◌, suc, Option, List, [], ◌∷◌, ◌++◌, ap, sym, ◌∙◌, subst, append_assoc, append-nil, length, get_or, drop, arith}
 use Rattle.std.proofs.lemmas.List.{drop_more, drop_all}
 use Rattle.tb_edge.specs.Sinks.{Writes, WritesPrefix, Owes}
@@ -14,25 +14,25 @@ log_text_from-append number (entry ∷ log) more =
     ∙ (sym (append_assoc (entry_text number entry) (log_text_from (number + 1) log) (log_text_from (number + 1 + length log) more))
     ∙ ap (λ (n : ℕ). (entry_text number entry ++ log_text_from (number + 1) log) ++ log_text_from n more) (let e : number + 1 + length log ≡ number + suc (length log) = omega arith in e))
 
--- a log was put, and then a piece that goes on with it
+-- a log was written, and then a piece that continues it
 pub log-grown : (a b c : Option (List ℕ)) (log piece : List Entry) (written : ℕ) → written ≡ length log → Writes a b (log_text log) → Writes b c (log_text_from (written + 1) piece) → Writes a c (log_text (log ++ piece))
 log-grown a b c log piece written counted first second =
     let whole : log_text (log ++ piece) ≡ log_text log ++ log_text_from (written + 1) piece =
     log_text_from-append 1 log piece ∙ ap (λ (n : ℕ). log_text log ++ log_text_from n piece) (let e : 1 + length log ≡ written + 1 = omega (arith, counted) in e) in
     subst (λ (bytes : List ℕ). Writes a c bytes) (sym whole) (Writes-append a b c (log_text log) (log_text_from (written + 1) piece) first second)
 
--- an entry that is lent stands where the entry stands
+-- an element that equals the one at the index is the one at the index
 pub lent : {X : Type 0} (xs : List X) (at : ℕ) (x y : X) → y ≡ x → x ≡ get_or xs at x → y ≡ get_or xs at y
 lent xs at x y same is = subst (λ (z : _). z ≡ get_or xs at z) (sym same) is
 
--- the next entry's line, and what is left
+-- the line of the next entry, and the lines of the remaining entries
 line-next : (log : List Entry) (held : List ℕ) (number index : ℕ) (entry : Entry) → index < length log → entry ≡ get_or log index entry →
     held ++ log_text_from number (drop index log) ≡ (held ++ entry_text number entry) ++ log_text_from (number + 1) (drop (index + 1) log)
 line-next log held number index entry within is =
     ap (λ (es : List Entry). held ++ log_text_from number es) (drop_more log index entry within ∙ ap (λ (e : Entry). e ∷ drop (index + 1) log) (sym is))
     ∙ sym (append_assoc held (entry_text number entry) (log_text_from (number + 1) (drop (index + 1) log)))
 
--- what the next entry leaves is owed
+-- after the next entry, the bytes that the writer holds and the lines of the remaining entries are still to be written
 pub entries-next : (a b c : Option (List ℕ)) (all : List ℕ) (log : List Entry) (held rest : List ℕ) (written after index : ℕ) (entry : Entry) → index < length log → entry ≡ get_or log index entry →
     after ≡ written + 1 → Owes a b all (held ++ log_text_from (written + 1) (drop index log)) → Owes b c (held ++ entry_text (written + 1) entry) rest →
     Owes a c all (rest ++ log_text_from (after + 1) (drop (index + 1) log))
@@ -43,25 +43,25 @@ entries-next a b c all log held rest written after index entry within is counted
     subst (λ (n : ℕ). Owes a c all (rest ++ log_text_from (n + 1) (drop (index + 1) log))) (sym counted)
     (Owes-takes a b c all put.put (rest ++ left) (subst (λ (bytes : List ℕ). Owes a b all bytes) whole owed) put.takes)
 
--- of what is held with the next entry's line a front was put
+-- a prefix of the held bytes and the next entry's line was written, so a prefix of the whole text was written
 pub entries-prefix : (a b c : Option (List ℕ)) (all : List ℕ) (log : List Entry) (held : List ℕ) (written index : ℕ) (entry : Entry) → index < length log → entry ≡ get_or log index entry →
     Owes a b all (held ++ log_text_from (written + 1) (drop index log)) → WritesPrefix b c (held ++ entry_text (written + 1) entry) → WritesPrefix a c all
 entries-prefix a b c all log held written index entry within is owed prefix =
     WritesPrefix-owes_more a b c all (held ++ entry_text (written + 1) entry) (log_text_from (written + 1 + 1) (drop (index + 1) log))
     (subst (λ (bytes : List ℕ). Owes a b all bytes) (line-next log held (written + 1) index entry within is) owed) prefix
 
--- behind the last entry just what is held is owed
+-- after the last entry, only the held bytes are still to be written
 pub entries-all : (a b : Option (List ℕ)) (all : List ℕ) (log : List Entry) (held : List ℕ) (number index : ℕ) → length log ≤ index → Owes a b all (held ++ log_text_from number (drop index log)) → Owes a b all held
 entries-all a b all log held number index past owed =
     let none : held ++ log_text_from number (drop index log) ≡ held = ap (λ (es : List Entry). held ++ log_text_from number es) (drop_all index log past) ∙ append-nil held in
     subst (λ (bytes : List ℕ). Owes a b all bytes) none owed
 
--- what was held back was put
+-- the held bytes were written, so the whole text was written
 pub flushed : (a b c : Option (List ℕ)) (all held : List ℕ) → Owes a b all held → Writes b c held → Writes a c all
 flushed a b c all held owed takes =
     Writes-owes a c all (Owes-takes a b c all held [] (subst (λ (bytes : List ℕ). Owes a b all bytes) (sym (append-nil held)) owed) takes)
 
--- of what was held back a front was put
+-- a prefix of the held bytes was written, so a prefix of the whole text was written
 pub flushed-prefix : (a b c : Option (List ℕ)) (all held : List ℕ) → Owes a b all held → WritesPrefix b c held → WritesPrefix a c all
 flushed-prefix a b c all held owed prefix =
     WritesPrefix-owes_more a b c all held [] (subst (λ (bytes : List ℕ). Owes a b all bytes) (sym (append-nil held)) owed) prefix

@@ -1,4 +1,4 @@
-//! What is written to sinks: the line of a fault or an end, and a log entry by entry.
+//! Writes to sinks: the line of an error or of an end, and a log, entry by entry.
 #![tactic(auto)]
 
 mod line;

@@ -1,4 +1,4 @@
-//! A line is put piece by piece. It takes no memory.
+//! Writes a line to a sink, part by part. This takes no memory.
 ghost use Rattle.std.specs.Prelude.{◌≡◌, ◌++◌, ◌∷◌, [], ◌≤◌, OnOk, OnErr, decimal};
 ghost use Rattle.std.specs.List.{flat_map, join_with_byte};
 ghost use Rattle.tb_edge.specs.Faults.{Rose};
@@ -10,7 +10,7 @@ use tb_edge::{Failed, Sink};
 use tb_message::{Message, Rest};
 use tb_terms::Ident;
 
-/// Puts the prefix, the line and a newline.
+/// Writes the prefix, the text of the line and a newline. If the sink fails, it has taken a prefix of these bytes.
 pub fn put_line<E: Sink>(prefix: &[u8], line: &Message, err: &mut E) -> Result<(), Failed>
     ensures ok { OnOk result
         (Writes (E.taken err.old) (E.taken err.new)
@@ -27,7 +27,7 @@ pub fn put_line<E: Sink>(prefix: &[u8], line: &Message, err: &mut E) -> Result<(
     }
 }
 
-/// Puts the prefix and the line.
+/// Writes the prefix and the text of the line.
 fn put_text<E: Sink>(prefix: &[u8], line: &Message, err: &mut E) -> Result<(), Failed>
     ensures ok { OnOk result
         (Writes (E.taken err.old) (E.taken err.new) (prefix.now ++ message_text line.now)) }
@@ -57,7 +57,7 @@ fn put_words<E: Sink>(line: &Message, err: &mut E) -> Result<(), Failed>
     }
 }
 
-/// Puts what stands behind the words.
+/// Writes the rest of the line, after its words.
 fn put_rest<E: Sink>(rest: &Rest, err: &mut E) -> Result<(), Failed>
     ensures ok { OnOk result (Writes (E.taken err.old) (E.taken err.new) (rest_text rest.now)) }
     ensures prefix { OnErr result
@@ -85,7 +85,7 @@ fn put_number<E: Sink>(number: usize, err: &mut E) -> Result<(), Failed>
     err.put(buffer.format(number).as_bytes())
 }
 
-/// Puts names with a comma between each two.
+/// Writes names, joined by commas.
 fn put_names<E: Sink>(names: &[Ident], err: &mut E) -> Result<(), Failed>
     ensures ok { OnOk result
         (Writes (E.taken err.old) (E.taken err.new) (join_with_byte 44 names.now)) }
@@ -104,7 +104,7 @@ fn put_names<E: Sink>(names: &[Ident], err: &mut E) -> Result<(), Failed>
     }
 }
 
-/// Puts each name behind a comma.
+/// Writes a comma and the name, for each name.
 fn put_more_names<E: Sink>(names: &[Ident], err: &mut E) -> Result<(), Failed>
     ensures ok { OnOk result
         (Writes (E.taken err.old) (E.taken err.new) (flat_map (λ name. 44 ∷ name) names.now)) }
@@ -123,7 +123,7 @@ fn put_more_names<E: Sink>(names: &[Ident], err: &mut E) -> Result<(), Failed>
     Ok(())
 }
 
-/// Puts one text after another.
+/// Writes the first text and then the second one.
 fn put_both<E: Sink>(first: &[u8], second: &[u8], err: &mut E) -> Result<(), Failed>
     ensures ok { OnOk result
         (Writes (E.taken err.old) (E.taken err.new) (first.now ++ second.now)) }

@@ -1,4 +1,4 @@
-//! The text of a log, put piece by piece.
+//! Writes the text of a log to a sink, piece by piece.
 ghost use Rattle.std.specs.Prelude.{◌≡◌, ◌<◌, ◌≤◌, ◌+◌, ◌++◌, [], length, drop, OnOk, OnErr, IsErrOf, IsOkUnless};
 ghost use Rattle.tb_edge.specs.Faults.{Rose};
 ghost use Rattle.tb_edge.specs.Sinks.{Writes, WritesPrefix, Owes};
@@ -11,10 +11,10 @@ use tb_edge::{Failed, Sink};
 use tb_log::{Entry, Log, Seen, write_seen};
 use tb_terms::NoMemory;
 
-/// The buffer is handed to the sink as soon as it has so many bytes.
+/// The number of bytes, from which on a writer writes its buffer to the sink.
 pub const PIECE_BYTES: usize = 32_768;
 
-/// Why a log was not put whole.
+/// The reason why a log wasn't written completely.
 #[derive(Clone, Copy, Debug, PartialEq, Eq)]
 pub enum LogFault {
     /// The sink failed.
@@ -23,8 +23,8 @@ pub enum LogFault {
     NoMemory,
 }
 
-/// Writes the entries of a log in order, numbered from 1. It keeps lines back until there are many,
-/// or until it is flushed. After a fault it is done with: nothing is told of what it then keeps.
+/// Writes the lines of the entries of a log in order, numbered from 1. It holds lines back until it has at least `PIECE_BYTES` bytes,
+/// or until a call flushes it. After an error, a caller can't rely on the writer: no contract states which bytes it holds.
 #[derive(Drop)]
 pub struct LogWriter {
     buffer: Vec<u8>,
@@ -40,7 +40,7 @@ impl Model for LogWriter {
 }
 
 impl LogWriter {
-    /// A writer that has been given nothing.
+    /// Returns a writer that has received no entries.
     pub fn new(alloc: Global) -> LogWriter
         ensures { result ≡ record { written = 0; held = [] } }
     {
@@ -50,14 +50,14 @@ impl LogWriter {
         }
     }
 
-    /// How many entries it has been given.
+    /// Returns the number of entries that the writer has received.
     pub fn written(&self) -> u64
         ensures { result ≡ self.now.written }
     {
         self.written
     }
 
-    /// Takes the next entries.
+    /// Adds the lines of the next entries, and writes full buffers to the sink.
     pub fn put<O: Sink>(&mut self, entries: &[Entry], out: &mut O) -> Result<(), LogFault>
         ensures ok { OnOk result (Owes (O.taken out.old) (O.taken out.new)
             (self.old.held ++ log_text_from (self.old.written + 1) entries.now) self.new.held) }
@@ -79,7 +79,7 @@ impl LogWriter {
         Ok(())
     }
 
-    /// Hands over what was kept back.
+    /// Writes all bytes that the writer holds to the sink.
     pub fn flush<O: Sink>(&mut self, out: &mut O) -> Result<(), LogFault>
         ensures ok { OnOk result (Writes (O.taken out.old) (O.taken out.new) self.old.held) }
         ensures emptied { OnOk result (self.new ≡ record self.old { held = [] }) }
@@ -99,7 +99,7 @@ impl LogWriter {
         }
     }
 
-    /// Takes the next entries, and hands over everything.
+    /// Adds the lines of the next entries, and writes all bytes to the sink.
     pub fn put_and_flush<O: Sink>(&mut self, entries: &[Entry], out: &mut O) -> Result<(), LogFault>
         ensures ok { OnOk result (Writes (O.taken out.old) (O.taken out.new)
             (self.old.held ++ log_text_from (self.old.written + 1) entries.now)) }
@@ -117,7 +117,7 @@ impl LogWriter {
         }
     }
 
-    /// Takes the entries of a log behind the first so many.
+    /// Adds the lines of the entries of a log after the first `from` entries, and writes full buffers to the sink.
     pub fn put_behind<O: Sink>(
         &mut self,
         log: &Log,
@@ -146,7 +146,7 @@ impl LogWriter {
         Ok(())
     }
 
-    /// Takes the entries of a log behind the first so many, and hands over everything.
+    /// Adds the lines of the entries of a log after the first `from` entries, and writes all bytes to the sink.
     pub fn put_behind_and_flush<O: Sink>(
         &mut self,
         log: &Log,
@@ -188,7 +188,7 @@ impl LogWriter {
         }
     }
 
-    /// The line of the entry is added to the buffer.
+    /// Adds the line of the entry to the buffer.
     fn add_line(&mut self, seen: &Seen) -> Result<(), NoMemory>
         ensures { OnOk result (self.new ≡ record {
           written = self.old.written + 1;
@@ -207,7 +207,7 @@ impl LogWriter {
         }
     }
 
-    /// Hands the buffer over where it is full.
+    /// Writes the buffer to the sink if the buffer is full.
     fn flush_full<O: Sink>(&mut self, out: &mut O) -> Result<(), LogFault>
         ensures ok { OnOk result
             (Owes (O.taken out.old) (O.taken out.new) self.old.held self.new.held) }
@@ -226,7 +226,7 @@ impl LogWriter {
     }
 }
 
-/// Puts the text of a log.
+/// Writes the text of a log. If the call fails, the sink has taken a prefix of the text.
 pub fn put_log<O: Sink>(alloc: Global, log: &Log, out: &mut O) -> Result<(), LogFault>
     ensures ok { OnOk result
         (Writes (O.taken out.old) (O.taken out.new) (log_text log.now.entries)) }

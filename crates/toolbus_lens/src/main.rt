@@ -1,4 +1,4 @@
-//! The program: it makes the real files and sinks, and calls the lens with the words of its command line.
+//! The program: it makes the real files, input, and sinks, and calls the lens with the arguments of its command line.
 #![tactic(auto)]
 
 use std::env;

@@ -1,16 +1,16 @@
--- How arguments are scanned.
+-- How the reader scans arguments.
 use Rattle.std.specs.Prelude.{ℕ, Bool, false, ◌==◌, if◌then◌else◌, List, Option, None, Some}
 use Rattle.tb_cli.specs.Parts.{Part, AnOption, AWord, is_option}
 
--- the part that begins with this argument, if the next one is this
+-- the part that begins with this argument. `next` is the argument after it, if there is one
 abbrev pub part_of : List ℕ → Option (List ℕ) → Part
 part_of word next = if is_option word then AnOption word next else AWord word
 
--- it has so many arguments
+-- the number of arguments of the part that begins with this argument
 abbrev pub part_len : List ℕ → ℕ
 part_len word = if is_option word then 2 else 1
 
--- a value that is there, after no other that is sought
+-- whether there is a value and it is the sought one: `left` is the number of values to skip
 abbrev pub is_found : Option (List ℕ) → ℕ → Bool
 is_found None left = false
 is_found (Some value) left = left == 0

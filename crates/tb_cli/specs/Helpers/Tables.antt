@@ -1,4 +1,4 @@
--- The table of the code as that of the definitions.
+-- The options, forms and rows of the code, as the definitions have them.
 use Rattle.std.specs.Prelude.{map}
 use Rattle.tb_cli.specs.declared.table.Setting.{Setting as CodeSetting}
 use Rattle.tb_cli.specs.declared.table.Form.{Form as CodeForm}

@@ -1,4 +1,4 @@
--- What is kept for a position before its list is.
+-- The span of a position that has no list yet.
 use Rattle.tb_code.specs.declared.entry.Span.{Span}
 use Rattle.tb_code.specs.declared.node.Node.{Node}
 

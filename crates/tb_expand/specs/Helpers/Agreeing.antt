@@ -1,4 +1,5 @@
--- Variables that the checks know are those that an expansion sees, each with a slot that is there and a sort that is known.
+-- The agreement of the variables that the checks know with the variables that an expansion sees. Each has an existing slot and a known
+-- type.
 use Rattle.std.specs.Prelude.{◌≡◌, ℕ, ◌<◌, false, List, [], ◌∷◌}
 use Rattle.tb_syntax.specs.declared.script.Script.{Script}
 use Rattle.tb_types.specs.declared.scope.Known.{Known}

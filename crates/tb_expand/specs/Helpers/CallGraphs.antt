@@ -1,4 +1,4 @@
--- The graph of calls of a script, by the positions of its processes.
+-- The graph of the calls of a script, by the positions of its processes.
 use Rattle.std.specs.Prelude.{ℕ, List, [], map, slice_index_or, option_to_list, flat_map, Contains}
 use Rattle.tb_syntax.specs.declared.script.ProcDef.{ProcDef}
 use Rattle.tb_syntax.specs.declared.script.Script.{Script}
@@ -10,11 +10,11 @@ use Rattle.tb_expand.specs.Helpers.Graphs.{Graph}
 abbrev pub names_in : Script → List (List ℕ)
 names_in script = map process_name script.procs
 
--- the positions of the processes of these names; a name that no process has is left out
+-- the positions of the processes with these names; a name that no process has is left out
 abbrev pub positions_of : Script → List (List ℕ) → List ℕ
 positions_of script names = flat_map (λ name. option_to_list (position_of (names_in script) name)) names
 
--- each process leads to those that its body calls, in text order
+-- the call graph: the successors of a process are the processes that its body calls, in the order of the source
 abbrev pub graph_of : Script → Graph
 graph_of script = map (λ (d : ProcDef). positions_of script (called d.body)) script.procs
 
@@ -25,7 +25,7 @@ name_at script position = slice_index_or (names_in script) position []
 abbrev pub names_of : Script → List ℕ → List (List ℕ)
 names_of script positions = map (name_at script) positions
 
--- no two processes have one name
+-- no two processes have the same name
 abbrev pub NamesDiffer : Script → Type 0
 NamesDiffer script = Differ (names_in script)
 

@@ -1,4 +1,4 @@
--- An order of the processes of a script in which each stands behind those that it calls.
+-- An order of the processes of a script in which each process comes after the processes that it calls.
 use Rattle.std.specs.Prelude.{ℕ, List}
 use Rattle.tb_syntax.specs.declared.script.Script.{Script}
 use Rattle.tb_expand.specs.Helpers.Graphs.{IsOrder}

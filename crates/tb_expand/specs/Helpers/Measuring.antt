@@ -1,4 +1,4 @@
--- Sizes that aren't counted beyond the limits, and the size of a body by those of called processes.
+-- Sizes that are capped just above the limits, and the size of a body from the sizes of the called processes.
 use Rattle.std.specs.Prelude.{◌≡◌, ℕ, Bool, ◌||◌, nat_lt, List, map, length, min, slice_get, slice_set, Option, Some, None, option_and_then}
 use Rattle.tb_body.specs.InRange.{most_body_levels}
 use Rattle.tb_syntax.specs.declared.proc.Proc.{Proc}
@@ -11,11 +11,11 @@ use Rattle.tb_expand.specs.declared.size.Size.{Size}
 use Rattle.tb_expand.specs.Expansion.{most_atoms}
 use Rattle.tb_expand.specs.Helpers.Sizes.{nothing_size, atom_size, beside, above, tested_size, size_of}
 
--- one more than an expansion may have stands for all that is more
+-- a capped size: a count above a limit becomes the limit plus one
 abbrev pub capped : Size → Size
 capped x = record { atoms = min x.atoms 20001; levels = min x.levels 1001 }
 
--- a limit is passed
+-- the size passes a limit
 abbrev pub is_over : Size → Bool
 is_over x = nat_lt most_atoms x.atoms || nat_lt most_body_levels x.levels
 
@@ -23,7 +23,7 @@ abbrev pub called_measure : Option Size → Size
 called_measure None = nothing_size
 called_measure (Some x) = capped (above x)
 
--- the size that is known of the process of this name
+-- the known size of the process with this name
 abbrev pub known_size : Script → List Size → List ℕ → Option Size
 known_size script sizes name = option_and_then (slice_get sizes) (position_of (map process_name script.procs) name)
 
@@ -38,7 +38,7 @@ measure_step script sizes (Disrupt x y) = capped (beside x y)
 measure_step script sizes (If test x y) = capped (tested_size x y)
 measure_step script sizes (Let vars x) = capped (above x)
 
--- a body's size, where those of the processes are known by their positions
+-- the size of a body, from the sizes of the processes by position
 abbrev pub measure : Script → List Size → Proc → Size
 measure script sizes p = fold-Proc Size (measure_step script sizes) p
 
@@ -46,11 +46,11 @@ abbrev pub with_size_of : Script → List Size → ℕ → Option ProcDef → Li
 with_size_of script sizes position None = sizes
 with_size_of script sizes position (Some d) = slice_set sizes position (measure script sizes d.body)
 
--- the size of the process at this position is kept
+-- the sizes, after the size of the process at this position is stored
 abbrev pub with_measure : Script → List Size → ℕ → List Size
 with_measure script sizes position = with_size_of script sizes position (slice_get script.procs position)
 
--- each process has this size at its position
+-- the list has the capped size of each process at the process's position
 abbrev pub AreSizes : Script → List Size → Type 0
 AreSizes script sizes =
     (position : ℕ) (d : ProcDef) → slice_get script.procs position ≡ Some d → slice_get sizes position ≡ Some (capped (size_of script (length script.procs) d.body))

@@ -1,4 +1,4 @@
--- What is found out of a graph: an order, or a way that closes a cycle.
+-- The result for a graph: a topological order, or a cycle.
 use Rattle.tb_expand.specs.declared.order.Ordered.{Ordered}
 use Rattle.tb_expand.specs.declared.order.Ordered.TheVariants.{Order, Cyclic}
 use Rattle.tb_expand.specs.Helpers.Graphs.{Graph, IsOrder, IsGraphCycle}

@@ -1,4 +1,4 @@
--- How many atoms and levels the expansion of a process has, by its calls, with nothing expanded.
+-- The number of atoms and the depth of the expansion of a process, computed without an expansion.
 use Rattle.std.specs.Prelude.{ℕ, zero, suc, ◌+◌, max, Option, Some, None}
 use Rattle.tb_syntax.specs.declared.proc.Proc.{Proc}
 use Rattle.tb_syntax.specs.declared.proc.Proc.TheOpen.{Proc-F, Atom, Call as CallOf, Seq, Alt, Star, Par, Disrupt, If, Let}
@@ -8,18 +8,18 @@ use Rattle.tb_syntax.specs.declared.script.Script.{Script}
 use Rattle.tb_types.specs.Names.{process_named}
 use Rattle.tb_expand.specs.declared.size.Size.{Size}
 
--- what `nothing` has
+-- the size of `nothing`
 abbrev pub nothing_size : Size
 nothing_size = record { atoms = 0; levels = 1 }
 
 abbrev pub atom_size : Size
 atom_size = record { atoms = 1; levels = 1 }
 
--- two sides under one more level
+-- two sides under one operator
 abbrev pub beside : Size → Size → Size
 beside x y = record { atoms = x.atoms + y.atoms; levels = 1 + max x.levels y.levels }
 
--- one more level
+-- one side under one operator
 abbrev pub above : Size → Size
 above x = record { atoms = x.atoms; levels = 1 + x.levels }
 
@@ -27,7 +27,7 @@ abbrev pub tested_size : Size → Option Size → Size
 tested_size x None = above x
 tested_size x (Some y) = beside x y
 
--- the body of the called process stands under a `let`
+-- the size of a call: the body of the called process is under a `let`
 abbrev pub called_size : (Proc → Size) → Option ProcDef → Size
 called_size body None = nothing_size
 called_size body (Some d) = above (body d.body)
@@ -43,7 +43,7 @@ size_step script body (Disrupt x y) = beside x y
 size_step script body (If test x y) = tested_size x y
 size_step script body (Let vars x) = above x
 
--- a process, where it is known how large the bodies of called ones are
+-- the size of a process, for given sizes of the called bodies
 abbrev pub size_with : Script → (Proc → Size) → Proc → Size
 size_with script body p = fold-Proc Size (size_step script body) p
 

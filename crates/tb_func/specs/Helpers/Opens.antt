@@ -1,4 +1,4 @@
--- Which patterns are open: those that are not one term alone.
+-- The open patterns: those that aren't one term alone.
 use Rattle.std.specs.Prelude.{Bool, not, List}
 use Rattle.std.specs.Option.{is_some}
 use Rattle.std.specs.List.{list_any}

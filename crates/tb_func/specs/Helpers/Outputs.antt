@@ -1,4 +1,4 @@
--- What a printer that stands within a format prints in all, given the rest of the format and all arguments.
+-- The whole text of a printer within a format, given the rest of the format and all arguments.
 use Rattle.std.specs.Prelude.{ℕ, List, ◌++◌, drop, Option, option_map}
 use Rattle.tb_terms.specs.declared.term.Term.{Term}
 use Rattle.tb_func.specs.declared.printer.Printer.{Printer}

@@ -1,4 +1,4 @@
--- The patterns for which the parts of a pattern stand while it is built.
+-- The patterns that the parts of a pattern represent while it is built.
 use Rattle.std.specs.Prelude.{List, map}
 use Rattle.tb_terms.specs.declared.pattern.Pattern.{Pattern}
 use Rattle.tb_terms.specs.declared.pattern.Pattern.TheVariants as pattern

@@ -1,4 +1,4 @@
--- How a text is cut into tokens from the left, one after another. These functions serve the proof.
+-- How the lexer splits a source into tokens from the left. These functions serve the proof. `total` is the length of the source.
 use Rattle.std.specs.Prelude.{◌≡◌, ℕ, ℤ, suc, ◌+◌, ◌-◌, Bool, true, false, not, ◌&&◌, ◌||◌, ◌==◌, List, [], ◌∷◌, ◌++◌, length, take, drop, Option, Some, None, Result, Ok, Err, if◌then◌else◌}
 use Rattle.std.specs.List.{prefix_len}
 use Rattle.tb_terms.specs.Names.{is_digit, is_lower, is_upper, is_name_byte}
@@ -22,14 +22,14 @@ abbrev pub begins_with : ℕ → List ℕ → Bool
 begins_with byte [] = false
 begins_with byte (first ∷ bytes) = first == byte
 
--- whether a byte belongs to blanks and comments, read within a comment or not, and if so, whether a comment goes on behind it
+-- none if the byte belongs neither to whitespace nor to a comment; otherwise, whether a comment continues after it
 abbrev pub gap_step : Bool → ℕ → List ℕ → Option Bool
 gap_step true byte behind = Some (not (byte == 10))
 gap_step false byte behind =
     if (byte == 37) && begins_with 37 behind then Some true
     else (if is_blank byte then Some false else None)
 
--- what stands behind blanks and comments
+-- the bytes after whitespace and comments
 abbrev pub skip_gap : Bool → List ℕ → List ℕ
 skip_gap in_comment [] = []
 skip_gap in_comment (byte ∷ bytes) = elim (gap_step in_comment byte bytes) [
@@ -37,7 +37,7 @@ skip_gap in_comment (byte ∷ bytes) = elim (gap_step in_comment byte bytes) [
   | Some next ↦ skip_gap next bytes
 ]
 
--- what begins with this byte
+-- the kind of token that this byte can begin
 abbrev pub head_of : ℕ → Head
 head_of byte =
     if is_lower byte then head.Lower
@@ -53,7 +53,7 @@ has_head head.Quote (byte ∷ bytes) = byte == 34
 has_head head.Numeral (byte ∷ bytes) = is_digit byte || (byte == 45)
 has_head head.Other (byte ∷ bytes) = true
 
--- a piece that was read, and the bytes behind it
+-- a piece that was read, with the bytes after it, or its error
 abbrev pub Read : Type 0
 Read = Result (TokenKind × List ℕ) LexFault
 
@@ -67,7 +67,7 @@ abbrev pub in_range : ℕ → Option ℤ → List ℕ → Read
 in_range from None rest = Err (fault.IntRange from)
 in_range from (Some number) rest = Ok (kind.Int number, rest)
 
--- a number whose digits, and what follows them, have been found
+-- the number with these digits, before this rest, or its error
 abbrev pub number_from : ℕ → Bool → List ℕ → List ℕ → Read
 number_from from negative [] rest = Err (fault.BadByte from)
 number_from from negative (digit ∷ digits) rest =
@@ -80,7 +80,7 @@ number_at total bytes =
     let len = prefix_len is_digit unsigned in
     number_from (total - length bytes) negative (take len unsigned) (drop len unsigned)
 
--- the position of a byte that can't go on, or of the backslash before it
+-- the position of a byte that can't continue the string, or of the backslash before it
 abbrev pub bad_position : Within → ℕ → ℕ
 bad_position Between position = position
 bad_position Escaped position = position - 1
@@ -93,7 +93,7 @@ abbrev pub with_prefix : List ℕ → Result (List ℕ × List ℕ) LexFault →
 with_prefix prefix (Ok found) = Ok (prefix ++ found.0, found.1)
 with_prefix prefix (Err fault) = Err fault
 
--- the bytes of a string up to its closing quote, and what follows it
+-- the content of a string up to its closing quote, and the bytes after the quote
 abbrev pub string_rest : ℕ → ℕ → Within → List ℕ → Result (List ℕ × List ℕ) LexFault
 string_rest quote total within [] = Err (fault.OpenString quote)
 string_rest quote total within (byte ∷ bytes) = elim (string_turn within byte) [
@@ -120,7 +120,7 @@ bars_of behind = if begins_with 124 behind then Some symbol.Bars else None
 abbrev pub greater_of : List ℕ → Symbol
 greater_of behind = if begins_with 62 behind then symbol.Angles else symbol.Greater
 
--- the longest symbol of this first byte and those behind it
+-- the longest symbol that begins with this byte, before these bytes
 abbrev pub symbol_of : ℕ → List ℕ → Option Symbol
 symbol_of byte behind =
     if byte == 40 then Some symbol.LeftParen
@@ -155,7 +155,7 @@ piece_at head.Quote total bytes = string_at total bytes
 piece_at head.Numeral total bytes = number_at total bytes
 piece_at head.Other total bytes = symbol_at total bytes
 
--- the next token with the bytes behind it, or the end: with no fault, or with the first one
+-- the next token with the bytes after it, or the end: with no error, or with the first one
 pub data Next : Type 0 where
   Makes : Token → List ℕ → Next
   Ends : Option LexFault → Next
@@ -173,11 +173,11 @@ next_at limit count total (byte ∷ bytes) =
 abbrev pub next_of : ℕ → ℕ → ℕ → List ℕ → Next
 next_of limit count total bytes = next_at limit count total (skip_gap false bytes)
 
--- Behind so many tokens the bytes give these tokens, and then end so.
+-- After `count` tokens, the bytes give these tokens and then end: with no error, or with this one.
 abbrev pub Runs : ℕ → ℕ → ℕ → List ℕ → List Token → Option LexFault → Type 0
 Runs limit count total bytes [] end = next_of limit count total bytes ≡ Ends end
 Runs limit count total bytes (token ∷ tokens) end = (rest : List ℕ) × (next_of limit count total bytes ≡ Makes token rest) × Runs limit (count + 1) total rest tokens end
 
--- what is scanned of a whole text
+-- the tokens of a whole source before its end, and its error, if any
 abbrev pub Scans : List ℕ → List Token → Option LexFault → Type 0
 Scans bytes tokens end = Runs most_tokens 0 (length bytes) bytes tokens end

@@ -1,4 +1,4 @@
--- How an atom takes part in a handshake.
+-- The side of an atom in a handshake.
 use Rattle.std.specs.Prelude.{List, Option, option_map}
 use Rattle.tb_body.specs.declared.atom.Atom.{Atom}
 use Rattle.tb_process_steps.specs.Offers.{Offered}
@@ -8,7 +8,7 @@ use Rattle.tb_bus.specs.declared.action.Action.TheVariants.{Send, Receive}
 use Rattle.tb_living.specs.declared.looking.Part.{Part}
 use Rattle.tb_living.specs.declared.looking.Part.TheVariants.{Sends, Receives}
 
--- what an offered atom sends or receives, where its values are there
+-- the message that an offered atom sends or receives, if its terms or patterns have values
 abbrev pub message_by : Part → List Atom → Offered → Option Action
 message_by Sends atoms offered = option_map Send (sent_by atoms offered)
 message_by Receives atoms offered = option_map Receive (patterns_by atoms offered)

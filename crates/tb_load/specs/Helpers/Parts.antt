@@ -1,4 +1,4 @@
--- What the parts of a load guarantee to each other and to the calls that use them.
+-- The claims that the functions of a load guarantee to each other and to the calls that use them.
 use Rattle.std.specs.Prelude.{◌≡◌, ◌⊎◌, ℕ, List, ◌++◌, Result, Err}
 use Rattle.tb_load.specs.Loading.{IsRefused}
 use Rattle.tb_load.specs.declared.fault.LoadFault.{LoadFault}

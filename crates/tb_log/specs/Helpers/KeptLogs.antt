@@ -1,4 +1,4 @@
--- The entries for which what a log keeps stands, and when it stands for some.
+-- The entries that the lists of a `Log` represent, and the invariant of these lists.
 use Rattle.std.specs.Prelude.{◌≡◌, ◌≤◌, ◌<◌, ◌+◌, ℕ, List, length, map, take, drop, slice_get, Option, Some, None, ⊤}
 use Rattle.std.specs.List.{All}
 use Rattle.tb_terms.specs.declared.term.Term.{Term}
@@ -12,39 +12,43 @@ use Rattle.tb_log.specs.declared.kept.Other.{Other}
 use Rattle.tb_log.specs.declared.kept.Other.TheVariants as other
 use Rattle.tb_log.specs.Limits.{log_size, most_size}
 
--- a step has its share of the terms of all steps that are kept as it is
+-- a step, with its terms taken from a list that steps share
 abbrev pub label_kept : List Term → KeptStep → Label
 label_kept terms step = record { kind = step.kind; from = step.from; to = step.to; terms = take step.count (drop step.first terms) }
 
+-- an entry that keeps its own content
 abbrev pub other_entry : Other → Entry
 other_entry (other.Did label) = Did label
 other_entry (other.Fed input reply) = Fed input reply
 other_entry (other.Gave lane out) = Gave lane out
 
--- that one of the others; where there is none, what stands there says nothing
+-- the entry at an index of the list of others; `Quiet` if there is none, which the invariant excludes
 abbrev pub other_there : Option Other → Entry
 other_there None = Quiet
 other_there (Some it) = other_entry it
 
--- the terms of a step of numbers alone stand in a list beside that of all other steps
+-- the entry that one stored entry represents; the terms of a step of numbers are in the list of numbers, those of other steps in the
+-- list of terms
 abbrev pub entry_kept : List Term → List Term → List Other → Kept → Entry
 entry_kept terms numbers others (kept.Did step) = Did (label_kept terms step)
 entry_kept terms numbers others (kept.Numbers step) = Did (label_kept numbers step)
 entry_kept terms numbers others kept.Quiet = Quiet
 entry_kept terms numbers others (kept.Other at) = other_there (slice_get others at)
 
+-- the entries that the four lists of a log represent
 abbrev pub entries_kept : List Term → List Term → List Other → List Kept → List Entry
 entries_kept terms numbers others entries = map (entry_kept terms numbers others) entries
 
--- what an entry names stands among so many terms, so many numbers and so many others
+-- the indices of a stored entry are within the lists, which have this many terms, numbers and others
 abbrev pub NamesWithin : ℕ → ℕ → ℕ → Kept → Type 0
 NamesWithin terms numbers others (kept.Did step) = step.first + step.count ≤ terms
 NamesWithin terms numbers others (kept.Numbers step) = step.first + step.count ≤ numbers
 NamesWithin terms numbers others kept.Quiet = ⊤
 NamesWithin terms numbers others (kept.Other at) = at < others
 
--- Each entry names what is there, they are so large, and within the limits. A term has a size of 1 at least, so there are
--- no more terms than that, no more numbers, and no more others than entries.
+-- The invariant of a log: all indices are within the lists, `size` is the total size of the entries, and the log is within its
+-- limits. Each term has a size of at least 1. So there are at most `size` terms and at most `size` numbers. There are at most as many
+-- others as entries.
 pub record StandsFor (limit size : ℕ) (terms numbers : List Term) (others : List Other) (entries : List Kept) : Type 0 where
   pub named : All (NamesWithin (length terms) (length numbers) (length others)) entries
   pub sized : size ≡ log_size (entries_kept terms numbers others entries)

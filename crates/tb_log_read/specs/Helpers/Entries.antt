@@ -1,4 +1,4 @@
--- What a line says, if it is an entry's.
+-- The number and the entry that a line states, provided that the line is an entry's.
 use Rattle.std.specs.Prelude.{ℕ, List, Option, Some, None}
 use Rattle.tb_log.specs.declared.entry.Entry.{Entry}
 use Rattle.tb_log_read.specs.declared.line.Numbered.{Numbered}

@@ -1,4 +1,4 @@
--- The number, or the place, for which digits stand. The greatest number of a type stands for all greater ones.
+-- The number or the place that digits represent. A number that is too large for its type becomes the greatest number of the type.
 use Rattle.std.specs.Prelude.{ℕ, ◌-◌, ◌^◌, List, min}
 use Rattle.tb_read.specs.Spelling.{digits_value}
 use Rattle.tb_log.specs.declared.entry.Place.{Place}
@@ -13,6 +13,6 @@ number32 digits = min (number64 digits) (2 ^ 32 - 1)
 abbrev pub number8 : List ℕ → ℕ
 number8 digits = min (number64 digits) (2 ^ 8 - 1)
 
--- two numbers with a point between them
+-- a place: two numbers with a point between them
 abbrev pub place_of : List ℕ → Place
 place_of word = record { proc = number32 (prefix 46 word); atom = number32 (behind 46 word) }

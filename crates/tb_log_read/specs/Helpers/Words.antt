@@ -1,4 +1,4 @@
--- What a line's words stand for.
+-- The entry that the words of a line represent.
 use Rattle.std.specs.Prelude.{ℕ, false, List, [], Option, Some, None, codes, if◌then◌else◌}
 use Rattle.std.specs.Str.{bytes_eq}
 use Rattle.tb_terms.specs.Names.{is_name, is_string}
@@ -25,7 +25,7 @@ use Rattle.tb_log_read.specs.Helpers.Numbers.{number8, place_of}
 use Rattle.tb_log_read.specs.Helpers.Terms.{term_of, terms_of, label_terms}
 use Rattle.tb_log_read.specs.Helpers.Unescaping.{unescaped_from}
 
--- the kind of step with this word, where it neither speaks with a tool nor takes the bus down
+-- the kind of step with this word, if the step neither concerns a tool nor shuts down the bus
 abbrev pub plain_kind : List ℕ → Option LabelKind
 plain_kind word =
     if bytes_eq word (codes "msg") then Some kind.Msg
@@ -40,7 +40,7 @@ plain_kind word =
     else (if bytes_eq word (codes "create") then Some kind.Create
     else None)))))))))
 
--- the kind of step with this word, where it speaks with a tool or takes the bus down
+-- the kind of step with this word, if the step concerns a tool or shuts down the bus
 abbrev pub tool_or_down_kind : List ℕ → Option LabelKind
 tool_or_down_kind word =
     if bytes_eq word (codes "execute") then Some kind.Execute
@@ -65,6 +65,7 @@ kind_from None word = tool_or_down_kind word
 abbrev pub kind_of : List ℕ → Option LabelKind
 kind_of word = kind_from (plain_kind word) word
 
+-- the reason for dropping an input, by its word
 abbrev pub why_of : List ℕ → Option Why
 why_of word =
     if bytes_eq word (codes "unasked") then Some why.Unasked
@@ -79,7 +80,7 @@ abbrev pub labelled : LabelKind → Place → Place → Option (List Term) → O
 labelled kind from to None = None
 labelled kind from to (Some terms) = Some (Did (record { kind = kind; from = from; to = to; terms = terms }))
 
--- a step of this kind, by what stands behind its word
+-- a step of this kind, from the bytes after its word
 abbrev pub step_of : LabelKind → List ℕ → Option Entry
 step_of kind.Msg bytes =
     labelled kind.Msg (place_of (prefix 32 bytes)) (place_of (prefix 32 (behind 32 bytes))) (label_terms (behind 32 (behind 32 bytes)))
@@ -95,7 +96,7 @@ abbrev pub event_line : Option (List Term) → Option ToolLine
 event_line None = None
 event_line (Some terms) = Some (tool.Event terms)
 
--- a line of a tool with this name, and this in its parentheses
+-- a line from a tool with this name, and with these bytes in its parentheses
 abbrev pub named_line : List ℕ → List ℕ → Option ToolLine
 named_line name inner =
     if bytes_eq name (codes "snd-value") then value_line (term_of inner)
@@ -111,7 +112,7 @@ abbrev pub line_on : ℕ → Option ToolLine → Option Input
 line_on lane None = None
 line_on lane (Some line) = Some (input.Line lane line)
 
--- an input with this word, and what stands behind it
+-- an input, from its first word and the bytes after it
 abbrev pub input_of : List ℕ → List ℕ → Option Input
 input_of word rest =
     if bytes_eq word (codes "tick") then Some input.Tick
@@ -128,7 +129,7 @@ abbrev pub dropped_by : Option Why → Option Input → Option Entry
 dropped_by None input = None
 dropped_by (Some why) input = fed_by (Dropped why) input
 
--- a dropped input, by what stands behind the first word
+-- a dropped input, from the bytes after its first word
 abbrev pub drop_of : List ℕ → Option Entry
 drop_of bytes =
     let words = behind 32 bytes in dropped_by (why_of (prefix 32 bytes)) (input_of (prefix 32 words) (behind 32 words))
@@ -140,7 +141,7 @@ abbrev pub line_of : List ℕ → Option (List Term) → Option Out
 line_of name None = None
 line_of name (Some terms) = if is_name name then Some (out.Line (term.Appl name terms)) else None
 
--- what is handed out
+-- an output, from its bytes
 abbrev pub out_of : List ℕ → Option Out
 out_of bytes =
     if bytes_eq (prefix 32 bytes) (codes "start") then start_of (unescaped_from false (without_last (behind 34 bytes)))
@@ -154,7 +155,7 @@ gave_on lane (Some out) = Some (Gave lane out)
 abbrev pub gave_of : List ℕ → Option Entry
 gave_of bytes = gave_on (number8 (prefix 32 bytes)) (out_of (behind 32 bytes))
 
--- what is no step, by its first word and what stands behind it
+-- an entry that isn't a step, from its first word and the bytes after it
 abbrev pub other_of : List ℕ → List ℕ → Option Entry
 other_of word rest =
     if bytes_eq word (codes "quiet") then Some Quiet

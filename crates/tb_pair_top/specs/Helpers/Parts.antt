@@ -1,4 +1,4 @@
--- What the parts of the call say to each other.
+-- The claims that the private functions of the program guarantee to each other.
 use Rattle.std.specs.Prelude.{◌≡◌, ◌⊎◌, ℕ, List, Option, Result, Ok, Err}
 use Rattle.tb_edge.specs.Faults.{Rose}
 use Rattle.tb_edge.specs.Sinks.{Writes, WritesPrefix}
@@ -20,19 +20,19 @@ pub record HavePrograms (held : List ℕ → Option (List ℕ)) (first second : 
   pub has : HasProgram (held first) programs.first
   pub others_has : HasProgram (held second) programs.second
 
--- why two files give no two programs, and which names were asked for by then
+-- why two files don't give two programs, and which files were requested
 abbrev pub AreUnloaded : (List ℕ → Option (List ℕ)) → List ℕ → List ℕ → List (List ℕ) → List (List ℕ) → LoadFault → Type 0
 AreUnloaded held first second old new (load.Script fault) = IsOfOne (λ told. IsBadScript told fault) held first second old new
 AreUnloaded held first second old new load.File = IsOfOne (λ told. Unit {0}) held first second old new
 AreUnloaded held first second old new load.NoMemory = (new ≡ old) ⊎ IsOfOne (λ told. Unit {0}) held first second old new
 
--- the fault of a pair that a fault of its files is
+-- the error of a pair, by the error of its files
 abbrev pub of_load : LoadFault → PairFault
 of_load (load.Script fault) = Script fault
 of_load load.File = File
 of_load load.NoMemory = NoMemory
 
--- What came of both logs' text behind a pair that ended so.
+-- The answer of writing the text of both logs after a pair that ended for this reason.
 abbrev pub PutsLogs : {A : Type 0} → PairWhy → List ℕ → Option (List ℕ) → Option (List ℕ) → ℕ → ℕ → Result A PairFault → Type 0
 PutsLogs it text old new faults_old faults_new (Ok done) = (it ≡ why.Ended) × Writes old new text × (faults_new ≡ faults_old)
 PutsLogs it text old new faults_old faults_new (Err Clock) = (it ≡ why.Clock) × Writes old new text × (faults_new ≡ faults_old)
@@ -44,14 +44,14 @@ PutsLogs it text old new faults_old faults_new (Err (Script fault)) = ⊥
 PutsLogs it text old new faults_old faults_new (Err (Words fault)) = ⊥
 PutsLogs it text old new faults_old faults_new (Err File) = ⊥
 
--- what a pair comes to that ended so, where its logs are put
+-- the answer after a pair that ended for this reason, if its logs were written
 abbrev pub EndsAs : {A : Type 0} → PairWhy → Result A PairFault → Type 0
 EndsAs it (Ok done) = it ≡ why.Ended
 EndsAs it (Err Clock) = it ≡ why.Clock
 EndsAs it (Err Limit) = it ≡ why.Events
 EndsAs it _ = ⊥
 
--- a fault that comes of a run, once both scripts have programs
+-- an error of a run, after both scripts have programs
 abbrev pub IsRunFault : PairFault → Type 0
 IsRunFault Out = Unit {0}
 IsRunFault Clock = Unit {0}
@@ -62,7 +62,7 @@ IsRunFault (Script fault) = ⊥
 IsRunFault (Words fault) = ⊥
 IsRunFault File = ⊥
 
--- two buses that began with these programs
+-- two buses that started with these programs
 pub record AreStarted (programs : Programs) (events : ℕ) (cores : Cores) : Type 0 where
   pub first : Stays (started (pair_origin programs.first events)) cores.first
   pub second : Stays (started (pair_origin programs.second events)) cores.second

@@ -1,4 +1,4 @@
--- Processes as they are built: a tree with its height, which is within the limit, or none.
+-- Processes as the parser builds them: a tree with its height if the height is within the limit, and otherwise no tree.
 use Rattle.std.specs.Prelude.{ℕ, ◌+◌, ◌||◌, nat_le, nat_lt, max, List, [], ◌∷◌, Option, Some, None, if◌then◌else◌}
 use Rattle.tb_lex.specs.declared.symbol.Symbol.{Symbol}
 use Rattle.tb_lex.specs.declared.symbol.Symbol.TheVariants as sign
@@ -12,19 +12,19 @@ use Rattle.tb_parse.specs.declared.built.Chain.{Chain}
 use Rattle.tb_parse.specs.declared.built.Chain.TheVariants as chain
 use Rattle.tb_parse.specs.Helpers.Parsing.{Parser, after, mapped, create, timed, prim, transfer, merge, choice, sequence, turns}
 
--- what is built of a process
+-- what the parser builds for a process
 unfoldable pub built : Proc → Built
 built p = if nat_lt most_height (height p) then TooHigh else Tree p (height p)
 
--- what a parser of processes finds, as it is built
+-- a parser of processes, with the result as it is built
 abbrev pub as_built : Parser Proc → Parser Built
 as_built parser at ks = mapped built (parser at ks)
 
--- what stands behind the word `create`, which stands at the position
+-- the rest of an atom after the word `create`, which is at this position
 abbrev pub creation : ℕ → ℕ → Parser Proc
 creation room position at ks = after (create room at ks) (timed room position)
 
--- two sides with the height of the whole
+-- two sides with the height of the whole, or none if the whole would be too high
 abbrev pub fitting : Proc → ℕ → Proc → ℕ → Option Sides
 fitting x first y second = if nat_le most_height first || nat_le most_height second then None else Some (record { x = x; y = y; height = 1 + max first second })
 
@@ -45,7 +45,7 @@ abbrev pub one_side : (Proc → Proc) → Option (Proc × ℕ) → Built
 one_side make None = TooHigh
 one_side make (Some side) = Tree (make side.0) side.1
 
--- one process of two, or of one
+-- one process of two, and one process of one
 abbrev pub both : (Proc → Proc → Proc) → Built → Built → Built
 both join x y = both_sides join (sides_of x y)
 
@@ -58,7 +58,7 @@ join_of chain.Par = tree.Par
 join_of chain.Alt = tree.Alt
 join_of chain.Seq = tree.Seq
 
--- members of a chain as one process, from the right
+-- the members of a chain as one process, joined from the right
 abbrev pub joined : (Proc → Proc → Proc) → List Built → Built → Built
 joined join [] last = last
 joined join (x ∷ prefix) last = both join x (joined join prefix last)
@@ -69,7 +69,7 @@ sign_of chain.Par = sign.Bars
 sign_of chain.Alt = sign.Plus
 sign_of chain.Seq = sign.Point
 
--- what a chain is, and what its members are
+-- a whole chain, and a member of a chain
 abbrev pub chained : Chain → ℕ → Parser Proc
 chained chain.Disrupt room = transfer (prim room) room
 chained chain.Par room = merge (prim room) room
@@ -82,7 +82,7 @@ member chain.Par room = choice (prim room) room
 member chain.Alt room = sequence (prim room) room
 member chain.Seq room = turns (prim room) room
 
--- from the one that binds tightest
+-- the operators, from the one that binds tightest
 abbrev pub rank : Chain → ℕ
 rank chain.Seq = 0
 rank chain.Alt = 1

@@ -1,4 +1,5 @@
--- How tokens are read from the left, each construct by its first token. The laws of this crate tie it to what spells what.
+-- How the parser reads tokens from the left, and chooses each construct by its first token. Theorems of this crate connect it to
+-- the grammar (`Spells`).
 use Rattle.std.specs.Prelude.{ℕ, zero, suc, ◌+◌, Bool, true, false, nat_eq, List, [], ◌∷◌, Option, Some, None, codes, if◌then◌else◌}
 use Rattle.std.specs.Str.{bytes_eq}
 use Rattle.tb_terms.specs.declared.sort.Sort.{Sort}
@@ -24,12 +25,12 @@ use Rattle.tb_syntax.specs.declared.script.ToolDef.{ToolDef}
 use Rattle.tb_syntax.specs.AtomWords.{is_atom_word, is_time_word}
 use Rattle.tb_syntax.specs.Words.{is_free}
 
--- what was read, with the position behind it and the tokens that are left; or the position of the token that can't go on
+-- what was read, with the position after it and the tokens that are left; or the position of the token that can't continue
 pub data Outcome (A : Type 0) : Type 0 where
   Found : A → ℕ → List TokenKind → Outcome A
   Stops : ℕ → Outcome A
 
--- a position and the tokens from there
+-- from a position and the tokens from there, an outcome
 abbrev pub Parser : Type 0 → Type 0
 Parser A = ℕ → List TokenKind → Outcome A
 
@@ -75,7 +76,7 @@ is_word word (Lower name) = bytes_eq name word
 is_word word (Upper name) = false
 is_word word (Sign symbol) = false
 
--- whether the first token is so
+-- whether there is a first token, and it passes the test
 abbrev pub begins : (TokenKind → Bool) → List TokenKind → Bool
 begins test [] = false
 begins test (k ∷ ks) = test k
@@ -84,11 +85,11 @@ abbrev pub tail : List TokenKind → List TokenKind
 tail [] = []
 tail (k ∷ ks) = ks
 
--- one token that has to come
+-- one token that must come next
 abbrev pub expect : {A : Type 0} → (TokenKind → Bool) → A → Parser A
 expect test x at ks = if begins test ks then Found x (at + 1) (tail ks) else Stops at
 
--- one token that has to come, and then the rest
+-- one token that must come next, and then the rest
 abbrev pub skip : {A : Type 0} → (TokenKind → Bool) → Parser A → Parser A
 skip test next at ks = if begins test ks then next (at + 1) (tail ks) else Stops at
 
@@ -116,19 +117,19 @@ text at (Lower name ∷ ks) = Stops at
 text at (Upper name ∷ ks) = Stops at
 text at (Sign symbol ∷ ks) = Stops at
 
--- a name that a term, a tool or a sort may have
+-- a name that a term, a tool, or a type can have
 unfoldable pub free_name : Parser (List ℕ)
 free_name at ks = after (lower at ks) (λ name behind rest. if is_free name then Found name behind rest else Stops at)
 
--- In what follows a number bounds how many constructs may still be read; the number of tokens is always enough.
+-- Below, a number (`room`) bounds how many constructs can still be read. The number of tokens is always enough.
 
--- one thing or more, with a comma between each two
+-- one element or more, with a comma between each two
 unfoldable pub parted : {A : Type 0} → Parser A → ℕ → Parser (List A)
 parted item zero at ks = Stops at
 parted item (suc room) at ks = after (item at ks) (λ x behind rest.
     if begins (is_sign Comma) rest then mapped (λ xs. x ∷ xs) (parted item room (behind + 1) (tail rest)) else Found (x ∷ []) behind rest)
 
--- things in parentheses, which are left out where there are none
+-- elements in parentheses, or none if no parenthesis comes next
 unfoldable pub in_parens : {A : Type 0} → Parser A → ℕ → Parser (List A)
 in_parens item room at ks =
     if begins (is_sign LeftParen) ks then after (parted item room (at + 1) (tail ks)) (expect (is_sign RightParen)) else Found [] at ks
@@ -141,16 +142,16 @@ word_sort name =
     else (if bytes_eq name (codes "list") then Some (sorts.List sorts.Any)
     else (if bytes_eq name (codes "term") then Some sorts.Any else None))))
 
--- the sort that a name stands for
+-- the type that a name represents
 abbrev pub named_sort : List ℕ → Option Sort → Sort
 named_sort name None = sorts.Tool name
 named_sort name (Some s) = s
 
--- whether the name begins the sort of lists of some sort
+-- whether the name and the next token begin the type of lists of a given type
 abbrev pub is_list : List ℕ → List TokenKind → Bool
 is_list name rest = if bytes_eq name (codes "list") then begins (is_sign LeftParen) rest else false
 
--- a sort, and the position of its innermost name
+-- a type, and the position of its innermost name
 unfoldable pub sort : ℕ → Parser (Sort × ℕ)
 sort zero at ks = Stops at
 sort (suc room) at ks = after (free_name at ks) (λ name behind rest.
@@ -158,7 +159,7 @@ sort (suc room) at ks = after (free_name at ks) (λ name behind rest.
     then after (mapped (λ found. (sorts.List found.0, found.1)) (sort room (behind + 1) (tail rest))) (expect (is_sign RightParen))
     else Found (named_sort name (word_sort name), at) behind rest)
 
--- a sort that has a word, between `<` and `>`
+-- a placeholder after its `<`: the word of a type, and `>`
 unfoldable pub hole : Parser AstKind
 hole at ks = after (lower at ks) (λ name behind rest. after (sorted at behind rest (word_sort name)) (expect (is_sign Greater))) where
   sorted : ℕ → ℕ → List TokenKind → Option Sort → Outcome AstKind
@@ -184,7 +185,7 @@ unfoldable pub expr : ℕ → Parser Ast
 expr zero at ks = Stops at
 expr (suc room) at ks = mapped (λ found. record { kind = found; token = at }) (kind (expr room) room at ks)
 
--- the actuals of a call whose name stands at the position
+-- the arguments of a call whose name is at this position
 unfoldable pub call_of : ℕ → List ℕ → ℕ → Parser Call
 call_of room name position at ks = mapped (λ actuals. record { name = name; actuals = actuals; token = position }) (in_parens (expr room) room at ks)
 
@@ -199,7 +200,7 @@ unfoldable pub time : ℕ → Parser TimeDef
 time room at ks = after (lower at ks) (λ name. skip (is_sign LeftParen) (λ behind rest. after (expr room behind rest) (λ value.
     expect (is_sign RightParen) (record { name = name; value = value; token = at }))))
 
--- a name, which such a word is
+-- whether the token is the word of a time condition
 abbrev pub is_time : TokenKind → Bool
 is_time (Int n) = false
 is_time (Str bytes) = false
@@ -212,7 +213,7 @@ times inner zero at ks = Stops at
 times inner (suc room) at ks =
     if begins is_time ks then after (time inner at ks) (λ first at ks. mapped (λ rest. first ∷ rest) (times inner room at ks)) else Found [] at ks
 
--- the times of an atom that begins at the position
+-- the time conditions of an atom that begins at this position
 unfoldable pub timed : ℕ → ℕ → ActDef → Parser Proc
 timed room position what at ks = mapped (λ found. tree.Atom (record { act = what; times = found; token = position })) (times room room at ks)
 
@@ -220,7 +221,7 @@ unfoldable pub var : ℕ → Parser Var
 var room at ks = after (upper at ks) (λ name. skip (is_sign Colon) (λ behind rest.
     mapped (λ found. record { name = name; sort = found.0; token = at; sort_token = found.1 }) (sort room behind rest)))
 
--- what begins with an upper name at the position: an assignment or a call
+-- the rest of an assignment or of a call after its name, which is at this position
 unfoldable pub upper_proc : ℕ → List ℕ → ℕ → Parser Proc
 upper_proc room name position at ks =
     if begins (is_sign Assign) ks
@@ -231,7 +232,7 @@ unfoldable pub block : Parser Proc → ℕ → Parser Proc
 block whole room at ks = after (parted (var room) room at ks) (λ vars. skip (is_word (codes "in")) (λ at ks.
     after (whole at ks) (λ x. expect (is_word (codes "endlet")) (tree.Let vars x))))
 
--- what stands behind the first side of a test
+-- the rest of an `if` after its first process
 unfoldable pub sides : Parser Proc → Ast → Proc → Parser Proc
 sides whole test x at ks =
     if begins (is_word (codes "else")) ks
@@ -241,7 +242,7 @@ sides whole test x at ks =
 unfoldable pub conditional : Parser Proc → ℕ → Parser Proc
 conditional whole room at ks = after (expr room at ks) (λ value. skip (is_word (codes "then")) (λ at ks. after (whole at ks) (sides whole value)))
 
--- what begins with a lower name at the position
+-- the rest of a process after its first word, which is at this position
 unfoldable pub lower_proc : Parser Proc → ℕ → List ℕ → ℕ → Parser Proc
 lower_proc whole room name position at ks =
     if bytes_eq name (codes "let") then block whole room at ks
@@ -259,13 +260,13 @@ prim_of whole room at (Upper name ∷ ks) = upper_proc room name at (at + 1) ks
 prim_of whole room at (Sign symbol ∷ ks) =
     if is_sign LeftParen (Sign symbol) then after (whole (at + 1) ks) (expect (is_sign RightParen)) else Stops at
 
--- a thing, and behind the sign, where it stands, all the rest
+-- an element; if the symbol follows, then also all the rest as its right side
 unfoldable pub rightward : Symbol → (Proc → Proc → Proc) → Parser Proc → ℕ → Parser Proc
 rightward sign join item zero at ks = Stops at
 rightward sign join item (suc room) at ks = after (item at ks) (λ x behind rest.
     if begins (is_sign sign) rest then mapped (join x) (rightward sign join item room (behind + 1) (tail rest)) else Found x behind rest)
 
--- the turns that stand behind what was read so far
+-- the further elements after `*`, joined from the left to what was read so far
 unfoldable pub leftward : Parser Proc → ℕ → Proc → Parser Proc
 leftward item zero x at ks = Stops at
 leftward item (suc room) x at ks =
@@ -299,7 +300,7 @@ formal room at ks = after (var room at ks) (λ found behind rest.
       marked : Var → Bool → Formal
       marked found result = record { name = found.name; sort = found.sort; result = result; token = found.token; sort_token = found.sort_token }
 
--- what stands behind the word `process` at the position
+-- the rest of a definition after the word `process`, which is at this position
 unfoldable pub process : ℕ → ℕ → Parser ProcDef
 process room position at ks = after (upper at ks) (λ name at ks. after (in_parens (formal room) room at ks) (λ formals.
     skip (is_word (codes "is")) (λ at ks. mapped (λ body. record { name = name; formals = formals; body = body; token = position }) (proc room at ks))))
@@ -310,12 +311,12 @@ command at ks =
     then skip (is_sign Equals) (λ at ks. mapped Some (text at ks)) (at + 1) (tail ks)
     else Found None at ks
 
--- what stands behind the word `tool` at the position
+-- the rest of a declaration after the word `tool`, which is at this position
 unfoldable pub tool : ℕ → Parser ToolDef
 tool position at ks = after (free_name at ks) (λ name. skip (is_word (codes "is")) (skip (is_sign LeftBrace) (λ at ks.
     after (command at ks) (λ found. expect (is_sign RightBrace) (record { name = name; command = found; token = position })))))
 
--- what is defined so far
+-- the definitions, in order
 pub record Defined : Type 0 where
   pub procs : List ProcDef
   pub tools : List ToolDef
@@ -340,7 +341,7 @@ roots room at ks =
     if begins (is_sign RightParen) ks then Found [] (at + 1) (tail ks)
     else after (parted (call room) room at ks) (expect (is_sign RightParen))
 
--- nothing is left
+-- no token is left
 abbrev pub at_end : {A : Type 0} → A → Parser A
 at_end x at [] = Found x at []
 at_end x at (k ∷ ks) = Stops at

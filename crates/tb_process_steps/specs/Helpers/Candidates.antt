@@ -1,4 +1,4 @@
--- What is seen of an atom that was found.
+-- The offer that a call returns for a found atom.
 use Rattle.tb_process_steps.specs.declared.found.Found.{Found}
 use Rattle.tb_process_steps.specs.declared.offer.Offer.{Offer}
 

@@ -1,4 +1,4 @@
--- What is kept of what a term may do next.
+-- The facts that a look keeps of each offer of a term.
 use Rattle.std.specs.Prelude.{ℕ, Bool, List, map, Option, Some, None}
 use Rattle.tb_func.specs.declared.slot.Slot.{Slot}
 use Rattle.tb_body.specs.declared.atom.Atom.{Atom}
@@ -7,7 +7,7 @@ use Rattle.tb_process_steps.specs.Offers.{Offered, offers}
 use Rattle.tb_process_steps.specs.Atoms.{is_ready, times_of}
 use Rattle.tb_process_steps.specs.declared.found.Found.{Found}
 
--- an offer but for what is left then
+-- an offer without its rest, and whether it is ready
 pub record OfferView : Type 0 where
   pub atom : ℕ
   pub age : ℕ
@@ -17,15 +17,15 @@ pub record OfferView : Type 0 where
 abbrev pub offer_view : List Atom → ℕ → Offered → OfferView
 offer_view atoms now offered = record { atom = offered.atom; age = offered.age; ready = is_ready offered.store offered.age now (times_of atoms offered.atom); store = offered.store }
 
--- what a term may do next, on a bus that has seen so many ticks
+-- the offers of a term, at this number of ticks of the bus
 unfoldable pub offer_views : List Atom → ℕ → Process → List Slot → List OfferView
 offer_views atoms now term store = map (offer_view atoms now) (offers term store)
 
--- the store that a `let` made, or that of the process
+-- the store that a `let` made; without one, the store of the process
 abbrev pub or_own : Option (List Slot) → List Slot → List Slot
 or_own None base = base
 or_own (Some own) base = own
 
--- what was found, in a process with this store
+-- a found offer, in a process with this store
 abbrev pub shown : List Slot → Found → OfferView
 shown base found = record { atom = found.atom; age = found.age; ready = found.ready; store = or_own found.own base }

@@ -1,4 +1,4 @@
--- What the nodes of a plan stand for: each for a tree, built of those of earlier nodes.
+-- The trees that the nodes of a plan represent. The tree of a node is built from the trees of earlier nodes.
 use Rattle.std.specs.Prelude.{◌≡◌, ℕ, ◌<◌, ◌≤◌, Bool, true, ◌&&◌, nat_lt, IsTrue, List, [], ◌∷◌, ◌++◌, length, Some, None, fold, slice_get, slice_index_or}
 use Rattle.tb_body.specs.declared.tree.Tree.{Tree}
 use Rattle.tb_body.specs.declared.tree.Tree.TheVariants as tree
@@ -10,7 +10,7 @@ use Rattle.tb_process_steps.specs.declared.node.Node.TheVariants.{At, Seq, Alt, 
 abbrev pub made_at : List Tree → ℕ → Tree
 made_at made at = slice_index_or made at (tree.At 0)
 
--- one node, by the trees of the earlier ones
+-- the tree of a node, built from the trees of the earlier nodes
 abbrev pub built : List Tree → Node → Tree
 built made (At atom) = tree.At atom
 built made (Seq x y) = tree.Seq (made_at made x) (made_at made y)
@@ -25,18 +25,18 @@ built made (Let settings x) = tree.Let settings (made_at made x)
 abbrev pub with_node : List Tree → Node → List Tree
 with_node made node = made ++ built made node ∷ []
 
--- the trees of all nodes, in their order
+-- the trees of all nodes, in the order of the nodes
 unfoldable pub trees : List Node → List Tree
 trees nodes = fold with_node [] nodes
 
 abbrev pub tree_at : List Node → ℕ → Tree
 tree_at nodes at = made_at (trees nodes) at
 
--- the term of a node that is just entered
+-- the term of a node that the process has just entered
 unfoldable pub process_at : List Node → ℕ → Process
 process_at nodes at = fresh (tree_at nodes at)
 
--- the parts of a node stand before it
+-- the parts of the node at this position are at earlier positions
 abbrev pub is_behind : ℕ → Node → Bool
 is_behind at (At atom) = true
 is_behind at (Seq x y) = nat_lt x at && nat_lt y at
@@ -51,7 +51,7 @@ is_behind at (Let settings x) = nat_lt x at
 abbrev pub AreBehind : List Node → Type 0
 AreBehind nodes = (at : ℕ) → (node : Node) → slice_get nodes at ≡ Some node → IsTrue (is_behind at node)
 
--- a node for this tree has been added, and the earlier nodes stand for what they stood for
+-- The new nodes have a node for this tree at the given position. The earlier nodes represent the same trees as before.
 pub record HasAdded (old : List Node) (new : List Node) (at : ℕ) (whole : Tree) : Type 0 where
   pub behind : AreBehind new
   pub within : at < length new

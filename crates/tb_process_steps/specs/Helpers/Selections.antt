@@ -1,4 +1,4 @@
--- The offer at a position, told by what is left then and in which store; past the end, how far.
+-- The rest and the store of the offer at an index; past the last offer, the index minus the number of offers.
 use Rattle.std.specs.Prelude.{ℕ, zero, suc, Bool, true, false, List, [], ◌∷◌, Option, Some, None, option_map}
 use Rattle.tb_func.specs.declared.slot.Slot.{Slot}
 use Rattle.tb_process_steps.specs.Processes.{Process}
@@ -19,32 +19,32 @@ selected_at k [] = Past k
 selected_at zero (offered ∷ others) = On offered.residual offered.store
 selected_at (suc k) (offered ∷ others) = selected_at k others
 
--- the offer of a term at this position
+-- the offer of a term at this index
 unfoldable pub selected : Process → List Slot → ℕ → Selected
 selected term store k = selected_at k (offers term store)
 
--- with something else left
+-- the selection with a changed rest
 abbrev pub selected_with : (Option Process → Option Process) → Selected → Selected
 selected_with f (Past rest) = Past rest
 selected_with f (On left store) = On (f left) store
 
--- past the end, that of the next list
+-- past the last offer, the selection in the next list
 abbrev pub or_past : Selected → (ℕ → Selected) → Selected
 or_past (Past rest) next = next rest
 or_past (On left store) next = On left store
 
--- the part that a test chooses by what it says
+-- the part that the truth value of a test selects
 abbrev pub chosen : Option Bool → ℕ → Option ℕ → Option ℕ
 chosen (Some true) x y = Some x
 chosen (Some false) x y = y
 chosen None x y = None
 
--- what was found, in a process with this store
+-- the selection that a result of the search represents, in a process with this store
 abbrev pub selected_of : List Node → ℕ → List Slot → Fired → Selected
 selected_of nodes ticks base (fired.Past rest) = Past rest
 selected_of nodes ticks base (fired.Taken left own) = On (option_map (term_of nodes ticks) left) (or_own own base)
 
--- what is left has its parts in the plan
+-- each part of the rest is a node of the plan
 abbrev pub is_left_on : List Node → ℕ → Option Running → Bool
 is_left_on nodes ticks None = true
 is_left_on nodes ticks (Some term) = is_on nodes ticks term

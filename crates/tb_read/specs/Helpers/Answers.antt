@@ -1,4 +1,4 @@
--- What a function answers that may find a fault, or run out of memory; and how bytes begin that it is given.
+-- The results of functions that can find an error or run out of memory, and the bytes with which a token can begin.
 use Rattle.std.specs.Prelude.{◌≡◌, ℕ, Bool, true, false, ◌||◌, ◌==◌, List, [], ◌∷◌, Option, Some, None, Result, Ok, Err}
 use Rattle.std.specs.Prelude.{Vec}
 use Rattle.std.specs.Global.{Global}
@@ -12,7 +12,7 @@ use Rattle.tb_read.specs.declared.kind.Kind.TheVariants as kind
 use Rattle.tb_read.specs.declared.shape.Shape.{Shape}
 use Rattle.tb_read.specs.Scanning.{Makes, Ends, next_of, after, Scans}
 
--- a claim of each fault but running out of memory, which is free
+-- the claim holds of the error, or the error is `NoMemory`
 abbrev pub Faulted : (TermFault → Type 0) → TermFault → Type 0
 Faulted P fault.NoMemory = Unit {0}
 Faulted P (fault.Syntax position) = P (fault.Syntax position)
@@ -21,23 +21,24 @@ Faulted P (fault.IntRange position) = P (fault.IntRange position)
 Faulted P fault.TooLarge = P fault.TooLarge
 Faulted P fault.TooDeep = P fault.TooDeep
 
--- what was returned, seen by view, is what is found
+-- the returned value, through `view`, is the found one, or the returned error is the found one or `NoMemory`
 abbrev pub Gives : {X Y : Type 0} → (X → Y) → Result X TermFault → Result Y TermFault → Type 0
 Gives view (Ok x) found = found ≡ Ok (view x)
 Gives view (Err e) found = Faulted (λ f. found ≡ Err f) e
 
--- The next token was found with the bytes behind it and was taken, or the text has ended, or this is the fault.
+-- The next token was found with the bytes after it, and the shape took it; or the source ended; or this is the error; or the error is
+-- `NoMemory`.
 abbrev pub IsNext : Shape → Shape → ℕ → List ℕ → Result (Option (Token × Bor (List ℕ))) TermFault → Type 0
 IsNext old new total bytes (Ok None) = next_of old total bytes ≡ Ends None
 IsNext old new total bytes (Ok (Some found)) = (next_of old total bytes ≡ Makes found.0 found.1.now) × (new ≡ after old found.0)
 IsNext old new total bytes (Err e) = Faulted (λ f. next_of old total bytes ≡ Ends (Some f)) e
 
--- the tokens are those of the whole text, or the fault is that at which the scan ends
+-- the tokens are those of the whole source, or the scan ends with this error, or the error is `NoMemory`
 abbrev pub HasScanned : List ℕ → Result (Vec Token Global) TermFault → Type 0
 HasScanned bytes (Ok tokens) = Scans bytes tokens.items None
 HasScanned bytes (Err e) = Faulted (λ f. (tokens : List Token) × Scans bytes tokens (Some f)) e
 
--- the bytes begin as a token of this kind does
+-- the first byte can begin a token of this kind
 abbrev pub begins_with : Kind → List ℕ → Bool
 begins_with next [] = false
 begins_with kind.LeftParen (byte ∷ bytes) = byte == 40

@@ -1,4 +1,4 @@
--- How a term is put together from its tokens.
+-- How a term is built from its tokens.
 use Rattle.std.specs.Prelude.{ℕ, List, [], ◌∷◌, ◌++◌, Option, Some, None}
 use Rattle.std.specs.Option.{option_to_list}
 use Rattle.tb_terms.specs.declared.term.Term.{Term, out-Term}

@@ -1,4 +1,4 @@
--- The size and the levels of a term, counted over its tokens.
+-- The size and the depth of a term, counted over its tokens.
 use Rattle.std.specs.Prelude.{ℕ, ◌+◌, ◌-◌, nat_lt, List, [], ◌∷◌, length, max, sum_by, Option, Some, None, if◌then◌else◌}
 use Rattle.tb_read.specs.declared.token.Token.{Token}
 use Rattle.tb_read.specs.declared.token.Token.TheVariants.{Int, Str, Name, LeftParen, RightParen, LeftBracket, RightBracket, Comma}
@@ -18,7 +18,7 @@ token_size Comma = 0
 abbrev pub tokens_size : List Token → ℕ
 tokens_size tokens = sum_by token_size tokens
 
--- the level of the node that begins with this token within so many brackets
+-- the level of the node that begins with this token, within this number of open brackets
 abbrev pub token_level : ℕ → Token → ℕ
 token_level nested (Int number) = nested + 1
 token_level nested (Str bytes) = nested + 1
@@ -39,12 +39,12 @@ nested_after nested RightParen = nested - 1
 nested_after nested RightBracket = nested - 1
 nested_after nested Comma = nested
 
--- the deepest level of tokens that stand within so many brackets
+-- the deepest level of tokens within this number of open brackets
 abbrev pub tokens_levels : ℕ → List Token → ℕ
 tokens_levels nested [] = 0
 tokens_levels nested (token ∷ tokens) = max (token_level nested token) (tokens_levels (nested_after nested token) tokens)
 
--- how the term with these tokens passes limits of size and levels
+-- the limit that the term with these tokens exceeds: of size, or else of depth
 abbrev pub over_limit : ℕ → ℕ → List Token → Option TermFault
 over_limit size levels tokens =
     if nat_lt size (tokens_size tokens) then Some TooLarge

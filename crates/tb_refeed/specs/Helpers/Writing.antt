@@ -1,4 +1,4 @@
--- What is written for one entry, and which entries are short.
+-- The feed line of one entry, and the entries that are short enough for a feed.
 use Rattle.std.specs.Prelude.{◌≡◌, ℕ, ◌-◌, ◌≤◌, nat_le, Bool, true, false, List, [], length, take, slice_get, Option, Some, None}
 use Rattle.std.specs.List.{list_all}
 use Rattle.tb_tool_line.specs.ToolLines.{most_line_bytes}
@@ -15,10 +15,11 @@ abbrev pub line_if : Option Input → List ℕ
 line_if None = []
 line_if (Some input) = feed_line input
 
--- the line of what came in by an entry, if anything did
+-- the feed line of an entry's input; empty if the entry has none that a feed can represent
 abbrev pub entry_line : Entry → List ℕ
 entry_line entry = line_if (came_in_by entry)
 
+-- the input isn't a tool's line that is too long for a feed
 abbrev pub is_short_input : Input → Bool
 is_short_input input.Tick = true
 is_short_input input.NoTicks = true
@@ -26,7 +27,7 @@ is_short_input (input.Line lane line) = nat_le (length (tool_line_words line)) m
 is_short_input (input.Gone lane) = true
 is_short_input (input.Cut lane) = true
 
--- no line of a tool is too long for a feed
+-- the entry has no tool's line that is too long for a feed
 abbrev pub is_short : Entry → Bool
 is_short (Did label) = true
 is_short Quiet = true
@@ -36,7 +37,7 @@ is_short (Gave lane out) = true
 abbrev pub are_short : List Entry → Bool
 are_short entries = list_all is_short entries
 
--- the entries before this one are short, and it isn't
+-- the entry with this number is the first one that isn't short
 pub record StopsShort (entries : List Entry) (number : ℕ) : Type 0 where
   pub entry : Entry
   pub from_one : 1 ≤ number
@@ -44,6 +45,7 @@ pub record StopsShort (entries : List Entry) (number : ℕ) : Type 0 where
   pub before : are_short (take (number - 1) entries) ≡ true
   pub long : is_short entry ≡ false
 
+-- the claim of an error about these entries: it is never `Line`, and `NoMemory` makes no claim
 abbrev pub IsCaused : List Entry → RefeedFault → Type 0
 IsCaused entries (fault.Line number) = ⊥
 IsCaused entries (fault.TooLong number) = StopsShort entries number

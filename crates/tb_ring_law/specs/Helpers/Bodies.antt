@@ -1,4 +1,4 @@
--- The ring's bodies and roots.
+-- The bodies and roots of the ring's program.
 use Rattle.std.specs.Prelude.{ℕ, pos, List, [], ◌∷◌, map, Some, None, codes}
 use Rattle.tb_terms.specs.declared.term.Term.{Term}
 use Rattle.tb_terms.specs.declared.term.Term.TheVariants as term
@@ -16,22 +16,23 @@ use Rattle.tb_body.specs.declared.tree.Tree.TheVariants as tree
 use Rattle.tb_body.specs.declared.program.Root.{Root}
 use Rattle.tb_ring_law.specs.Helpers.Pieces.{Link, ring_links}
 
--- a number, as an expression and as a term
+-- a number as an expression
 abbrev pub number : ℕ → Expr
 number n = expr.Int (pos n)
 
+-- the value of a number
 abbrev pub worth : ℕ → Term
 worth n = term.Int (pos n)
 
--- an atom without times
+-- an atom without delays and timeouts
 abbrev pub plain : Act → Atom
 plain does = record { act = does; times = [] }
 
--- this slot begins with the value of its sort
+-- this slot gets the initial value of its type
 abbrev pub setting : ℕ → List Setting
 setting slot = record { slot = slot; start = None } ∷ []
 
--- one more than this slot has
+-- the value of this slot plus one
 abbrev pub one_more : ℕ → Expr
 one_more slot = expr.Call Add (expr.Var slot ∷ number 1 ∷ [])
 

@@ -1,4 +1,4 @@
--- The ring's text in pieces: each token with the blanks in front of it.
+-- The ring's source in pieces: each token with the whitespace before it.
 use Rattle.std.specs.Prelude.{ℕ, zero, suc, ◌-◌, pos, Bool, true, false, not, ◌&&◌, ◌==◌, List, [], ◌∷◌, ◌++◌, map, codes, ◌+◌}
 use Rattle.std.specs.List.{list_all, flat_map, prefix_len}
 use Rattle.std.specs.Fmt.{signed_decimal}
@@ -11,7 +11,7 @@ use Rattle.tb_lex.specs.declared.kind.TokenKind.TheVariants.{Int, Str, Lower, Up
 use Rattle.tb_lex.specs.declared.symbol.Symbol.{Symbol}
 use Rattle.tb_lex.specs.declared.symbol.Symbol.TheVariants as sign
 
--- what stands in front of a token: nothing, a blank or a newline
+-- the whitespace before a token: nothing, a space or a newline
 pub data Gap : Type 0 where
   None : Gap
   Blank : Gap
@@ -26,7 +26,7 @@ pub record Piece : Type 0 where
   pub gap : Gap
   pub kind : TokenKind
 
--- the text of a token; the ring has no strings
+-- the text of a token; the ring's source has no strings
 abbrev pub text_of : TokenKind → List ℕ
 text_of (Int number) = signed_decimal number
 text_of (Str bytes) = []
@@ -34,7 +34,7 @@ text_of (Lower name) = name
 text_of (Upper name) = name
 text_of (Sign symbol) = symbol_text symbol
 
--- the pieces in a row, and then the rest
+-- the text of the pieces in order, followed by the rest
 abbrev pub pieces_text : List Piece → List ℕ → List ℕ
 pieces_text [] rest = rest
 pieces_text (piece ∷ pieces) rest = gap_text piece.gap ++ (text_of piece.kind ++ pieces_text pieces rest)
@@ -42,13 +42,13 @@ pieces_text (piece ∷ pieces) rest = gap_text piece.gap ++ (text_of piece.kind 
 abbrev pub kinds_in : List Piece → List TokenKind
 kinds_in pieces = map (λ (piece : Piece). piece.kind) pieces
 
--- a symbol doesn't go on with what follows it
+-- a symbol doesn't form a longer symbol with the text that follows it
 abbrev pub is_symbol_apart : Symbol → List ℕ → Bool
 is_symbol_apart sign.Colon rest = not (begins_with 61 rest)
 is_symbol_apart sign.Greater rest = not (begins_with 62 rest)
 is_symbol_apart _ rest = true
 
--- this is the text of a token, and what follows doesn't go on with it
+-- the text of this kind is one token, and doesn't form a longer token with the text that follows it
 abbrev pub is_apart : TokenKind → List ℕ → Bool
 is_apart (Int number) rest = (prefix_len is_digit rest == 0) && not (begins_with 46 rest)
 is_apart (Str bytes) rest = false
@@ -60,7 +60,7 @@ abbrev pub are_apart : List Piece → List ℕ → Bool
 are_apart [] rest = true
 are_apart (piece ∷ pieces) rest = is_apart piece.kind (pieces_text pieces rest) && are_apart pieces rest
 
--- 64 bits hold a number
+-- a number fits into 64 bits
 abbrev pub is_wide : TokenKind → Bool
 is_wide (Int number) = has_64_bits number
 is_wide (Str bytes) = true
@@ -109,7 +109,8 @@ node_pieces =
     ∷ word (codes "add") ∷ left ∷ tight (Upper (codes "T")) ∷ comma ∷ spaced (number 1) ∷ right ∷ right ∷ right
     ∷ spaced (Sign sign.Star) ∷ word (codes "delta") ∷ word (codes "endlet") ∷ []
 
--- process First is let T : int in snd-msg(2, 1) . (rec-msg(1, T?) . if less(T, messages) then snd-msg(2, add(T, 1)) else shutdown(done) fi) * delta endlet
+-- process First is let T : int in snd-msg(2, 1) . (rec-msg(1, T?) . if less(T, messages) then snd-msg(2, add(T, 1)) else shutdown(done)
+-- fi) * delta endlet
 abbrev pub first_pieces : ℕ → List Piece
 first_pieces messages =
     on_line (Lower (codes "process")) ∷ name (codes "First")
@@ -131,7 +132,7 @@ abbrev pub call_pieces : ℕ → ℕ → List Piece
 call_pieces process next =
     comma ∷ name (codes "Node") ∷ left ∷ tight (number process) ∷ comma ∷ spaced (number next) ∷ right ∷ []
 
--- the definitions, and the first root
+-- the process definitions and the first root
 abbrev pub front_pieces : ℕ → List Piece
 front_pieces messages = node_pieces ++ (first_pieces messages ++ start_pieces)
 
@@ -140,18 +141,19 @@ pub record Link : Type 0 where
   pub process : ℕ
   pub next : ℕ
 
--- so many processes from this one on, each of which sends to the one behind it, and then the last, which sends to the first
+-- `count` processes from this process on, each of which sends to the next process; and then the last process, which sends to the first
+-- process
 abbrev pub links : ℕ → ℕ → List Link
 links process zero = record { process = process; next = 1 } ∷ []
 links process (suc count) = record { process = process; next = process + 1 } ∷ links (process + 1) count
 
--- all processes but the first
+-- all processes of the ring except the first
 abbrev pub ring_links : ℕ → List Link
 ring_links n = links 2 (n - 2)
 
 abbrev pub links_kinds : List Link → List TokenKind
 links_kinds row = flat_map (λ (link : Link). kinds_in (call_pieces link.process link.next)) row
 
--- the tokens of the ring's script, by how many processes it has and how many messages are sent
+-- the tokens of the ring's script, by its numbers of processes and messages
 abbrev pub ring_kinds : ℕ → ℕ → List TokenKind
 ring_kinds n messages = kinds_in (front_pieces messages) ++ (links_kinds (ring_links n) ++ kinds_in (right ∷ []))

@@ -1,4 +1,4 @@
--- The ring's script as a tree. Each construct has the position of its first token.
+-- The ring's script as a syntax tree. Each construct has the index of its first token.
 use Rattle.std.specs.Prelude.{ℕ, ◌+◌, ◌*◌, pos, false, List, [], ◌∷◌, map, Some, codes}
 use Rattle.tb_terms.specs.declared.sort.Sort.TheVariants as sort
 use Rattle.tb_syntax.specs.declared.ast.Ast.{Ast}
@@ -81,10 +81,10 @@ first_call = record { name = codes "First"; actuals = []; token = 96 }
 abbrev pub node_call : ℕ → ℕ → ℕ → Call
 node_call token process next = record { name = codes "Node"; actuals = number_at (token + 2) process ∷ number_at (token + 4) next ∷ []; token = token }
 
--- each call has seven tokens with the comma, and that of the second process stands at 98
+-- each call has seven tokens with the comma before it; the call of the second process begins at token 98
 abbrev pub link_call : Link → Call
 link_call link = node_call (7 * link.process + 84) link.process link.next
 
--- The script of n processes that send so many messages.
+-- The script of a ring of n processes that send this number of messages.
 abbrev pub ring_script : ℕ → ℕ → Script
 ring_script n messages = record { procs = node_def ∷ first_def messages ∷ []; tools = []; roots = first_call ∷ map link_call (ring_links n) }

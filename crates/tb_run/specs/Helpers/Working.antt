@@ -1,4 +1,4 @@
--- What a worker of a run has done while it goes on, and the effect of one item that it delivers or writes.
+-- The effects of a worker that goes on, and of one item that it delivers or writes.
 use Rattle.std.specs.Prelude.{◌≡◌, ◌≤◌, ◌<◌, ◌^◌, ◌⊎◌, ℕ, true, false, List, [], ◌∷◌, length, map, Option, Some, None}
 use Rattle.tb_edge.specs.Faults.{Rose}
 use Rattle.tb_edge.specs.Ends.{InletView, and_given, and_taken, ClockView, and_ticked, has_ended}
@@ -21,7 +21,7 @@ use Rattle.tb_run.specs.Dropping.{AreLetIn}
 use Rattle.tb_run.specs.Seats.{Adds, FoundFull, SameMarks, Stops}
 use Rattle.tb_run.specs.Workers.{AreLines, AreTicks, Counts, cut_count, was_over}
 
--- a reply that says that the bus has shut down ends a worker
+-- the end of a worker after a reply: `Down` if the input was dropped because the bus had shut down, none at any other reply
 abbrev pub end_of : Reply → Option WorkEnd
 end_of Took = None
 end_of (Dropped why.Unasked) = None
@@ -31,7 +31,7 @@ end_of (Dropped why.Stranger) = None
 end_of (Dropped why.Bad) = None
 end_of (Dropped why.Down) = Some end.Down
 
--- a reader that goes on: it has delivered all items of the inlet
+-- a reader that goes on: it has delivered all items that the inlet gave
 pub record Reads (lane : ℕ) (old new : SeatView) (gave_old gave_new : Option InletView) : Type 0 where
   pub more : List Entry
   pub adds : Adds old new more
@@ -51,7 +51,7 @@ pub record Writes (lane : ℕ) (old new : SeatView) (took_old took_new : Option 
   pub counts : Counts faults_old faults_new (cut_count lane more)
   pub marks : SameMarks old new
 
--- a tick worker that goes on: so many ticks were delivered
+-- a tick worker that goes on: it has delivered `fed` ticks
 pub record Ticks (old new : SeatView) (told_old told_new : Option ClockView) (faults_old faults_new : ℕ) (fed : ℕ) : Type 0 where
   pub more : List Entry
   pub adds : Adds old new more
@@ -60,7 +60,7 @@ pub record Ticks (old new : SeatView) (told_old told_new : Option ClockView) (fa
   pub count : length more ≡ fed
   pub told : told_new ≡ and_ticked told_old fed false
   pub none : has_ended told_old → fed ≡ 0
-  -- no call of the clock failed
+  -- the clock's count of failures is unchanged
   pub calm : faults_new ≡ faults_old
   pub marks : SameMarks old new
 
@@ -90,7 +90,7 @@ CutsOff lane old new (Some end.Over) = ⊥
 CutsOff lane old new (Some end.Down) = ⊥
 CutsOff lane old new (Some end.Failed) = ⊥
 
--- an item is written; or it fails to be written, which is reported
+-- an item failed to be written; its `cut` was delivered, or the call that delivers it was rejected
 pub record Fails (lane : ℕ) (old new : SeatView) (took_old took_new : Option (List Taken)) (faults_old faults_new : ℕ) (answer : Option WorkEnd) : Type 0 where
   pub told : took_new ≡ took_old
   pub rose : Rose faults_old faults_new
@@ -98,6 +98,7 @@ pub record Fails (lane : ℕ) (old new : SeatView) (took_old took_new : Option (
   pub fits : faults_old < 2 ^ 64 → faults_new < 2 ^ 64
   pub cuts_off : CutsOff lane old new answer
 
+-- an item was written
 pub record PutsIt (out : Out) (old new : SeatView) (took_old took_new : Option (List Taken)) (faults_old faults_new : ℕ) (answer : Option WorkEnd) : Type 0 where
   pub told : took_new ≡ and_taken took_old (taken_of out ∷ [])
   pub never_falls : faults_old ≤ faults_new
@@ -105,5 +106,6 @@ pub record PutsIt (out : Out) (old new : SeatView) (took_old took_new : Option (
   pub same : new ≡ old
   pub goes_on : answer ≡ None
 
+-- an item was written, or it failed to be written
 abbrev pub Puts : ℕ → Out → SeatView → SeatView → Option (List Taken) → Option (List Taken) → ℕ → ℕ → Option WorkEnd → Type 0
 Puts lane out old new took_old took_new faults_old faults_new answer = PutsIt out old new took_old took_new faults_old faults_new answer ⊎ Fails lane old new took_old took_new faults_old faults_new answer

@@ -1,4 +1,4 @@
--- What the parts of the loader make and find: helpers of its proofs.
+-- The results of the parts of the loader, for its proofs.
 use Rattle.std.specs.Prelude.{◌≡◌, ◌<◌, ◌≤◌, ℕ, List, length, Option, Some, None, option_map, find, IsSome, All, Result, Ok, Err}
 use Rattle.std.specs.List.{AllZip}
 use Rattle.tb_body.specs.declared.body.Body.{Body}
@@ -24,20 +24,20 @@ use Rattle.tb_script.specs.declared.fault.ScriptFault.TheVariants as fault
 use Rattle.tb_script.specs.Programs.{HasTokens, IsTextOf, IsProgramOf, first_too_large}
 use Rattle.tb_script.specs.Findings.{HasNoTokens, HasNoScript, IsFound, NoTokens, NoScript}
 
--- the text has these tokens, no others, and no fault of its tokens
+-- the source has these tokens, no other tokens, and no error of its tokens
 pub record HasOnlyTokens (text : List ℕ) (tokens : List Token) : Type 0 where
   pub has_tokens : HasTokens text tokens
   pub one : (others : List Token) → HasTokens text others → others ≡ tokens
   pub sound : (f : LexFault) → HasNoTokens text f → ⊥
 
--- the text spells this script within the limits, and no other; and it has no fault
+-- the source parses as this script within the limits, and as no other; it has no error of its tokens or of its grammar
 pub record IsOnlyScript (text : List ℕ) (script : Script) : Type 0 where
   pub is_text : IsTextOf text script
   pub one : (other : Script) → IsTextOf text other → other ≡ script
   pub has_tokens : (f : LexFault) → HasNoTokens text f → ⊥
   pub has_script : (f : ParseFault) → HasNoScript text f → ⊥
 
--- the script of a text, or why it has none
+-- the script of a source, or the error of its tokens or of its grammar
 abbrev pub HasReadScript : List ℕ → Result Script ScriptFault → Type 0
 HasReadScript text (Ok script) = IsOnlyScript text script
 HasReadScript text (Err (fault.Lex f)) = IsFound text (NoTokens f)
@@ -55,34 +55,34 @@ pub record AreExpansions (script : Script) (bodies : List Body) : Type 0 where
   pub small : first_too_large script ≡ None
   pub bodies_are : AllZip (IsExpansion script) script.procs bodies
 
--- this is the first process that is too large
+-- no calls form a cycle, and this is the first process whose expansion is too large
 pub record IsFirstLarge (script : Script) (name : List ℕ) : Type 0 where
   pub no_cycle : HasNoCycle script
   pub first : first_too_large script ≡ Some name
 
--- the bodies of a proper script, or why it has none
+-- the bodies of a well-formed script, or the reason why it has none
 abbrev pub HasBodies : Script → Result (List Body) ExpandFault → Type 0
 HasBodies script (Ok bodies) = AreExpansions script bodies
 HasBodies script (Err (expand.Recursion names)) = IsCycle script names
 HasBodies script (Err (expand.TooLarge name)) = IsFirstLarge script name
 HasBodies script (Err expand.NoMemory) = Unit {0}
 
--- that the processes of a proper script have bodies, or why they don't
+-- that the processes of a well-formed script have bodies, or the reason why they don't
 abbrev pub MayHaveBodies : {A : Type 0} → Script → Result A ExpandFault → Type 0
 MayHaveBodies script (Ok done) = (bodies : List Body) × AreExpansions script bodies
 MayHaveBodies script (Err f) = HasBodies script (Err f)
 
--- too many roots
+-- there are this many roots, more than `most_roots`
 pub record HasMany (script : Script) (count : ℕ) : Type 0 where
   pub are : count ≡ length script.roots
   pub many : most_roots < count
 
--- the roots aren't too many, and this is the program
+-- there aren't too many roots, and this is the program
 pub record IsJoined (script : Script) (program : Program) : Type 0 where
   pub few : length script.roots ≤ most_roots
   pub meaning : IsProgramOf script program
 
--- the program of a script whose expansions are small, or why it has none
+-- the program of a script whose expansions aren't too large, or the reason why it has none
 abbrev pub HasJoined : Script → Result Program ScriptFault → Type 0
 HasJoined script (Ok program) = IsJoined script program
 HasJoined script (Err (fault.Roots count)) = HasMany script count
@@ -94,7 +94,7 @@ HasJoined script (Err (fault.Expand f)) = ⊥
 HasJoined script (Err (fault.TooLong count)) = ⊥
 HasJoined script (Err (fault.NotBuilt token)) = ⊥
 
--- each actual has a value
+-- each argument of the call has a value
 abbrev pub HasValues : Call → Type 0
 HasValues call = All (λ (e : Ast). IsSome (closed_value e)) call.actuals
 
@@ -105,7 +105,7 @@ HaveValues calls = All HasValues calls
 abbrev pub first_large_of : Script → List ProcDef → Option (List ℕ)
 first_large_of script defs = option_map (λ (d : ProcDef). d.name) (find (λ (d : ProcDef). is_too_large (expansion_of script d)) defs)
 
--- a fault of the checks, or of the expansions, as a fault of the script: running out of memory is told alike
+-- an error of the checks, or of the expansions, as an error of the script: both report out of memory as `NoMemory`
 abbrev pub of_check : CheckFault → ScriptFault
 of_check check.NoMemory = fault.NoMemory
 of_check (check.Twice token) = fault.Check (check.Twice token)

@@ -1,4 +1,4 @@
--- In which state a tool must be for an action.
+-- The state of a tool that an action needs.
 use Rattle.std.specs.Prelude.{ℕ, Bool}
 use Rattle.tb_tools.specs.Lanes.{BenchState}
 use Rattle.tb_tools.specs.Acts.{can_leave, can_eval, is_taken_at, is_live_at}

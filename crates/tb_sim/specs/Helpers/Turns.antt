@@ -1,4 +1,4 @@
--- How the code goes through a simulation: one or two turns at a time.
+-- The iterations of the code in a simulation: each makes one or two turns.
 use Rattle.std.specs.Prelude.{◌≡◌, ℕ, ◌+◌, ◌-◌, ◌<◌, ◌≤◌, List, [], ◌∷◌, ◌++◌, length, drop, true, false}
 use Rattle.tb_log.specs.declared.entry.Input.{Input}
 use Rattle.tb_log.specs.declared.entry.Input.TheVariants.{NoTicks}
@@ -10,7 +10,7 @@ use Rattle.tb_sim.specs.declared.ends.SimEnd.TheVariants as end
 use Rattle.tb_sim.specs.declared.ends.Turned.{Turned}
 use Rattle.tb_sim.specs.declared.ends.Turned.TheVariants as turned
 
--- turn after turn the simulation makes these entries, and then has this state
+-- the next turns of the simulation log these entries, and lead to this state
 abbrev pub SimLeads : Limits → Sim → List Entry → Sim → Type 0
 SimLeads limits sim [] end = end ≡ sim
 SimLeads limits sim (entry ∷ log) end = (next : Sim) × (turn limits sim ≡ Makes entry next) × SimLeads limits next log end
@@ -19,7 +19,7 @@ SimLeads limits sim (entry ∷ log) end = (next : Sim) × (turn limits sim ≡ M
 unfoldable pub sim_of : List Input → CoreState → Progress → Sim
 sim_of feed core so_far = record { bus = bus_now core; log = core.log; steps_made = so_far.steps; quiet = ends_quiet core.log; left = drop so_far.inputs feed }
 
--- a core that was led on by turns of the simulation
+-- a core before and after some turns of the simulation
 pub record LedOn (steps : ℕ) (feed : List Input) (old : CoreState) (so_far : Progress) (new : CoreState) (next : Progress) : Type 0 where
   pub origin : new.origin ≡ old.origin
   pub running : new.stopped ≡ old.stopped
@@ -27,7 +27,7 @@ pub record LedOn (steps : ℕ) (feed : List Input) (old : CoreState) (so_far : P
   pub log : new.log ≡ old.log ++ entries
   pub turns : SimLeads (limits_of steps old.origin) (sim_of feed old so_far) entries (sim_of feed new next)
 
--- a core that ran out of memory within the turns
+-- a core before some turns, and when memory runs out after them
 pub record LeftWithin (steps : ℕ) (feed : List Input) (old : CoreState) (so_far : Progress) (new : CoreState) : Type 0 where
   pub origin : new.origin ≡ old.origin
   pub stopped : new.stopped ≡ old.stopped
@@ -35,16 +35,16 @@ pub record LeftWithin (steps : ℕ) (feed : List Input) (old : CoreState) (so_fa
   pub log : new.log ≡ old.log ++ entries
   pub prefix : IsSimPrefix (limits_of steps old.origin) (sim_of feed old so_far) entries
 
--- how many more entries the log of a core may have
+-- the number of entries that the log of a core may still get, by its limit
 abbrev pub entries_left : CoreState → ℕ
 entries_left core = core.origin.limit - length core.log
 
--- a core has logged more, within its limit
+-- the core has logged at least one entry, and its log is within the limit of entries
 pub record IsLonger (old new : CoreState) : Type 0 where
   pub more : length old.log < length new.log
   pub within : length new.log ≤ old.origin.limit
 
--- it has come no further than it may
+-- the progress is within the limit of steps and the length of the feed
 pub record IsWithin (steps : ℕ) (feed : List Input) (so_far : Progress) : Type 0 where
   pub steps_made : so_far.steps ≤ steps
   pub inputs_fed : so_far.inputs ≤ length feed
@@ -63,12 +63,13 @@ HandsOut lane so_far old new (turned.End end.Events) = Stays old new × (is_full
 HandsOut lane so_far old new (turned.End end.Down) = ⊥
 HandsOut lane so_far old new (turned.End end.Steps) = ⊥
 
--- The effect of the first of these inputs, or, if there is none, of the notice that no more ticks come.
+-- The effect of the first of these inputs. If there is none, the effect of the end of ticks.
 abbrev pub HandsInNext : List Input → Progress → CoreState → CoreState → Turned → Type 0
 HandsInNext [] so_far old new turned = HandsIn NoTicks so_far old new turned
 HandsInNext (input ∷ left) so_far old new turned = HandsIn input (record so_far { inputs = so_far.inputs + 1 }) old new turned
 
--- What one iteration did: it sent an item, made a step, or logged `quiet` and delivered the next input; or it is the end, perhaps after `quiet`.
+-- The effect of one iteration: it sent an item, or took a step, or logged `quiet` and delivered an input. Or the simulation ends, perhaps
+-- after `quiet`.
 abbrev pub Goes : ℕ → List Input → CoreState → Progress → CoreState → Turned → Type 0
 Goes steps feed old so_far new (turned.On next) =
     LedOn steps feed old so_far new next × IsWithin steps feed next × (ends_quiet new.log ≡ false) × IsLonger old new

@@ -1,4 +1,5 @@
--- The tokens that are printed for a script: parentheses round a process only where the grammar needs them, tools before processes.
+-- The tokens that are printed for a script: a process is in parentheses only if the grammar needs them, and tools come before
+-- processes.
 use Rattle.std.specs.Prelude.{ℕ, zero, suc, Bool, true, false, List, [], ◌∷◌, ◌++◌, map, flat_map, Option, Some, None, codes, if◌then◌else◌}
 use Rattle.tb_terms.specs.declared.sort.Sort.{Sort, out-Sort}
 use Rattle.tb_terms.specs.declared.sort.Sort.TheOpen as sort
@@ -29,18 +30,18 @@ use Rattle.tb_syntax.specs.declared.script.ToolDef.{ToolDef}
 use Rattle.tb_syntax.specs.Binding.{is_looser}
 use Rattle.tb_syntax.specs.Spelling.{word, in_parens, mark, command_tokens}
 
--- a comma between each two
+-- the parts, with a comma between each two
 abbrev pub parted : List (List TokenKind) → List TokenKind
 parted [] = []
 parted (part ∷ []) = part
 parted (part ∷ next ∷ parts) = part ++ Sign Comma ∷ parted (next ∷ parts)
 
--- the comma before what stands at this position
+-- the comma before the element at this position
 abbrev pub comma_before : ℕ → List TokenKind
 comma_before zero = []
 comma_before (suc position) = Sign Comma ∷ []
 
--- in parentheses, which are left out where there is nothing
+-- the parts in parentheses, or no tokens if there are no parts
 abbrev pub optional : List (List TokenKind) → List TokenKind
 optional [] = []
 optional (part ∷ parts) = in_parens (parted (part ∷ parts))
@@ -53,7 +54,7 @@ is_any (sort.List members) = false
 is_any sort.Any = true
 is_any (sort.Tool name) = false
 
--- lists of any terms are `list` alone
+-- the type of lists of any terms is `list` alone
 abbrev pub list_tokens : Bool → List TokenKind → List TokenKind
 list_tokens true members = word (codes "list")
 list_tokens false members = Lower (codes "list") ∷ in_parens members
@@ -69,7 +70,7 @@ sort_step (sort.Tool name) = word name
 abbrev pub sort_tokens : Sort → List TokenKind
 sort_tokens = para-Sort (List TokenKind) sort_step
 
--- the one word of a sort
+-- the word of a type in a placeholder
 abbrev pub hole_word : sort.Sort-F Sort → List ℕ
 hole_word sort.Bool = codes "bool"
 hole_word sort.Int = codes "int"
@@ -126,7 +127,7 @@ atom_tokens atom = act_tokens atom.act ++ flat_map time_tokens atom.times
 abbrev pub var_tokens : Var → List TokenKind
 var_tokens var = Upper var.name ∷ Sign Colon ∷ sort_tokens var.sort
 
--- what is bound as its own level says, where it stands at another
+-- the tokens of a construct of level `own` at a place of level `at`: in parentheses if the construct is looser
 abbrev pub placed : Level → Level → List TokenKind → List TokenKind
 placed own at tokens = if is_looser own at then in_parens tokens else tokens
 
@@ -140,7 +141,7 @@ else_tokens (Some y) = Lower (codes "else") ∷ (y level.Proc ++ Lower (codes "f
 abbrev pub let_tokens : List TokenKind → List TokenKind → List TokenKind
 let_tokens vars x = Lower (codes "let") ∷ (vars ++ Lower (codes "in") ∷ (x ++ Lower (codes "endlet") ∷ []))
 
--- one construct, with the tokens of each part, at its level, in the part's place
+-- the tokens of one construct, from those of each part at the level of the part's place
 abbrev pub proc_step : tree.Proc-F (Level → List TokenKind) → Level → List TokenKind
 proc_step (tree.Atom atom) at = atom_tokens atom
 proc_step (tree.Call call) at = call_tokens call

@@ -1,4 +1,4 @@
--- What each kind of token is by its type: its number has 64 bits, its string and its names are such.
+-- The invariants of a token's parts: a number has 64 bits; a string or a name has the form that its type requires.
 use Rattle.std.specs.Prelude.{Bool, true}
 use Rattle.tb_terms.specs.Names.{is_name, is_ident, is_string}
 use Rattle.tb_terms.specs.Proper.{has_64_bits}

@@ -1,4 +1,4 @@
--- The text that is printed for tokens: between each two of them nothing, a blank, or a new line.
+-- The printed text of tokens: between each two tokens nothing, a space, or a newline (LF).
 use Rattle.std.specs.Prelude.{ℕ, Bool, true, false, List, [], ◌∷◌, ◌++◌, codes, if◌then◌else◌}
 use Rattle.std.specs.Fmt.{signed_decimal}
 use Rattle.tb_terms.specs.Texts.{quoted}
@@ -15,7 +15,7 @@ use Rattle.tb_syntax.specs.Words.{is_among}
 abbrev pub definition_words : List (List ℕ)
 definition_words = codes "process" ∷ codes "tool" ∷ codes "toolbus" ∷ []
 
--- the words that a process may follow
+-- the words after which a process can come
 abbrev pub leading_words : List (List ℕ)
 leading_words = codes "is" ∷ codes "in" ∷ codes "then" ∷ codes "else" ∷ []
 
@@ -26,14 +26,14 @@ token_text (Lower name) = name
 token_text (Upper name) = name
 token_text (Sign symbol) = symbol_text symbol
 
--- the signs behind which nothing stands
+-- the symbols with no space after them
 abbrev pub symbol_before : Symbol → Before
 symbol_before LeftParen = Opening
 symbol_before LeftBracket = Opening
 symbol_before Less = Opening
 symbol_before _ = Other
 
--- what a token is to the one behind it
+-- what a token is to the token after it
 abbrev pub before_next : TokenKind → Before
 before_next (Int number) = Other
 before_next (Str text) = Other
@@ -41,7 +41,7 @@ before_next (Lower name) = if is_among leading_words name then Other else Name
 before_next (Upper name) = Name
 before_next (Sign symbol) = symbol_before symbol
 
--- the signs in front of which nothing stands
+-- the symbols with no space before them
 abbrev pub is_closing : Symbol → Bool
 is_closing RightParen = true
 is_closing RightBracket = true
@@ -49,13 +49,13 @@ is_closing Comma = true
 is_closing Question = true
 is_closing _ = false
 
--- the signs that stand at once behind a name
+-- the symbols with no space between a name and them
 abbrev pub is_joining : Symbol → Bool
 is_joining LeftParen = true
 is_joining Greater = true
 is_joining _ = false
 
--- the space in front of a token that doesn't stand behind an opening sign: a definition begins a line
+-- the space before a token that doesn't follow an opening symbol: a definition begins a line
 abbrev pub space : TokenKind → List ℕ
 space (Int number) = 32 ∷ []
 space (Str text) = 32 ∷ []
@@ -80,6 +80,6 @@ abbrev pub text_from : Before → List TokenKind → List ℕ
 text_from before [] = []
 text_from before (kind ∷ kinds) = gap before kind ++ token_text kind ++ text_from (before_next kind) kinds
 
--- the text of tokens, with a new line at its end
+-- the text of tokens, with a newline (LF) at its end
 abbrev pub tokens_text : List TokenKind → List ℕ
 tokens_text kinds = text_from Nothing kinds ++ 10 ∷ []

@@ -1,4 +1,4 @@
--- What the parts of the top call guarantee to each other.
+-- The claims that the private functions of the program guarantee to each other.
 use Rattle.std.specs.Prelude.{◌≡◌, ◌⊎◌, ℕ, List, [], ◌∷◌, ◌++◌, Option, Some, None, IsSome, option_to_list, Result, Ok, Err}
 use Rattle.tb_body.specs.declared.program.Program.{Program}
 use Rattle.tb_edge.specs.Sinks.{Writes, WritesPrefix}
@@ -47,55 +47,56 @@ IsBadFeed bytes (Feed (feed_fault.Line number)) = IsFirstBad bytes number
 IsBadFeed bytes NoMemory = Unit {0}
 IsBadFeed bytes _ = ⊥
 
--- why the file of a feed gives none
+-- why the file of a feed gives no inputs
 abbrev pub IsUnread : (List ℕ → Option (List ℕ)) → Option (List ℕ) → Fault → Type 0
 IsUnread held name (Feed fault) = IsFeedRefused held name fault
 IsUnread held name File = IsSome name
 IsUnread held name NoMemory = Unit {0}
 IsUnread held name _ = ⊥
 
--- an error that is reported only after the script has its program
+-- an error of a command after its script has a program
 abbrev pub IsBehindScript : Fault → Type 0
 IsBehindScript (Script fault) = ⊥
 IsBehindScript _ = Unit {0}
 
--- the result of a simulation that ended so, after all was written
+-- the answer after a simulation with this end, if the whole output was written
 abbrev pub EndsAs : {A : Type 0} → SimEnd → Result A Fault → Type 0
 EndsAs last (Ok done) = last ≡ sim.Down
 EndsAs last (Err (Limit bound.Steps)) = last ≡ sim.Steps
 EndsAs last (Err (Limit bound.Events)) = last ≡ sim.Events
 EndsAs last _ = ⊥
 
--- The result of writing a text after a simulation that ended so: it was written whole, or its sink failed, or memory ran out.
+-- The answer of writing a text after a simulation with this end: the whole text was written, or a prefix because the sink failed or memory
+-- ran out.
 abbrev pub PutsText : {A : Type 0} → List ℕ → SimEnd → Option (List ℕ) → Option (List ℕ) → Result A Fault → Type 0
 PutsText text last old new (Err Out) = WritesPrefix old new text
 PutsText text last old new (Err NoMemory) = WritesPrefix old new text
 PutsText text last old new answer = EndsAs last answer × Writes old new text
 
--- the result of a simulation alone
+-- an error of a command after its feed is read
 abbrev pub IsBehindFeed : Fault → Type 0
 IsBehindFeed Out = Unit {0}
 IsBehindFeed (Limit bound) = Unit {0}
 IsBehindFeed NoMemory = Unit {0}
 IsBehindFeed _ = ⊥
 
--- whatever file the inputs come from, and whatever file the program is that of, the outcome is that of their simulation with so many steps
+-- for all files of the inputs and of the program: the outcome of `sim` for the simulation with this number of steps
 abbrev pub IsSimulated : {A : Type 0} → ℕ → Origin → List Input → Option (List ℕ) → Option (List ℕ) → Result A Fault → Type 0
 IsSimulated steps origin inputs old new answer =
     (held : List ℕ → Option (List ℕ)) (script : List ℕ) (name : Option (List ℕ)) → IsFed held name inputs → HasProgram (held script) origin.program →
     SimOutcome held (record { script = script; feed = name; connects = origin.connects; steps = steps; events = origin.limit }) old new answer
 
--- The same for a text that is written at once: memory ran out before it was written.
+-- The answer of writing a text at once after a simulation with this end. If memory ran out, nothing was written.
 abbrev pub PutsWhole : {A : Type 0} → List ℕ → SimEnd → Option (List ℕ) → Option (List ℕ) → Result A Fault → Type 0
 PutsWhole text last old new (Err Out) = WritesPrefix old new text
 PutsWhole text last old new (Err NoMemory) = new ≡ old
 PutsWhole text last old new answer = EndsAs last answer × Writes old new text
 
--- whatever ring's script the program is that of, the outcome is that of its simulation
+-- for all rings whose script has this program: the outcome of `ring` for its simulation
 abbrev pub IsRingSimulated : {A : Type 0} → Program → ℕ → Option (List ℕ) → Option (List ℕ) → Result A Fault → Type 0
 IsRingSimulated program n old new answer = (k : ℕ) → IsFound (ring_text n k) (Program' program) → RingOutcome n k old new answer
 
--- the result of a run that ended so
+-- the answer after a run that ended for this reason
 abbrev pub EndsRun : {A : Type 0} → RunWhy → Result A Fault → Type 0
 EndsRun it (Ok done) = it ≡ why.Ended
 EndsRun it (Err Clock) = it ≡ why.Clock
@@ -105,19 +106,19 @@ EndsRun it (Err (Limit bound.Events)) = it ≡ why.Events
 EndsRun it (Err NoMemory) = it ≡ why.NoMemory
 EndsRun it _ = ⊥
 
--- whatever file the program is that of, the outcome is that of a run with so many ticks
+-- for all files of the program: the outcome of `run` with this number of ticks
 abbrev pub IsLive : {A : Type 0} → ℕ → Origin → OutsideView → OutsideView → Result A Fault → Type 0
 IsLive ticks origin old new answer =
     (held : List ℕ → Option (List ℕ)) (script : List ℕ) → HasProgram (held script) origin.program →
     LiveOutcome held (record { script = script; connects = origin.connects; ticks = ticks; events = origin.limit }) old new answer
 
--- an error that comes without the clock and the crew
+-- an error of neither the clock nor the crew
 abbrev pub IsInside : Fault → Type 0
 IsInside Clock = ⊥
 IsInside Crew = ⊥
 IsInside _ = Unit {0}
 
--- an error of a run, once its script has a program
+-- an error of a run after its script has a program
 abbrev pub IsLiveFault : Fault → Type 0
 IsLiveFault Out = Unit {0}
 IsLiveFault Clock = Unit {0}
@@ -133,7 +134,7 @@ IsLogUnread told File = Unit {0}
 IsLogUnread told NoMemory = Unit {0}
 IsLogUnread told _ = ⊥
 
--- whatever file the program is that of, and whatever file the bytes are of, the outcome is that of the bytes as a log of the program
+-- for all files of the program and of the bytes: the outcome of `verify` for these bytes as a log of the program
 abbrev pub IsVerified : {A : Type 0} → Program → List (List ℕ) → List ℕ → Option (List ℕ) → Option (List ℕ) → Result A Fault → Type 0
 IsVerified program connects bytes old new answer =
     (held : List ℕ → Option (List ℕ)) (script log : List ℕ) → HasProgram (held script) program → IsLoadedWithin most_log_bytes (held log) bytes →

@@ -1,4 +1,4 @@
--- The fault that is answered for what was noted.
+-- The error that reports a violation.
 use Rattle.std.specs.Prelude.{ℕ}
 use Rattle.tb_types.specs.declared.violation.Violation.{Violation}
 use Rattle.tb_types.specs.declared.violation.Rule.{Rule}

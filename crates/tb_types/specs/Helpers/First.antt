@@ -1,4 +1,4 @@
--- The first of what is noted: that of the least condition, and among these that at the least token.
+-- The first of several violations: by the number of the condition, then by the token.
 use Rattle.std.specs.Prelude.{◌==◌, Bool, ◌||◌, ◌&&◌, nat_lt, List, fold, Option, Some, None, if◌then◌else◌}
 use Rattle.tb_types.specs.declared.violation.Violation.{Violation}
 use Rattle.tb_types.specs.Numbers.{number_of}

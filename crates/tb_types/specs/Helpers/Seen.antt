@@ -1,4 +1,4 @@
--- Whether a name is among those that the program has seen so far.
+-- Whether a name is among the names that the program has seen so far.
 use Rattle.std.specs.Prelude.{ℕ, Bool, List, is_some}
 use Rattle.std.specs.Borrow.{Bor}
 use Rattle.std.specs.Str.{bytes_eq}

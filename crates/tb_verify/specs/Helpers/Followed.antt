@@ -1,4 +1,4 @@
--- How far a core has followed the text of a log, and what is known when it stops.
+-- The state of a core that follows the text of a log, and the claim of each result.
 use Rattle.std.specs.Prelude.{◌≡◌, ◌≤◌, ℕ, List, [], ◌∷◌, ◌++◌, length, Bool, true, false, Result, Ok, Err}
 use Rattle.tb_bus.specs.Buses.{Bus, start}
 use Rattle.tb_bus.specs.Traces.{IsLegal, IsTrace}
@@ -13,12 +13,12 @@ use Rattle.tb_verify.specs.declared.verdict.Verdict.{Verdict}
 use Rattle.tb_verify.specs.declared.verdict.VerifyFault.{VerifyFault}
 use Rattle.tb_verify.specs.declared.verdict.VerifyFault.TheVariants as fault
 
--- neither limit is passed
+-- the log has at most `limit` entries, and its terms are within the limit of size
 pub record IsWithin (limit : ℕ) (log : List Entry) : Type 0 where
   pub few : length log ≤ limit
   pub small : log_size log ≤ most_size
 
--- the core has logged the lines up to here, and is not stopped
+-- the core has logged the lines before `rest`, which are a trace, and isn't stopped
 pub record IsFollowed (origin : Origin) (bytes rest : List ℕ) (core : CoreState) : Type 0 where
   pub started : core.origin ≡ origin
   pub running : core.stopped ≡ false
@@ -27,17 +27,17 @@ pub record IsFollowed (origin : Origin) (bytes rest : List ℕ) (core : CoreStat
   pub trace : IsTrace (start origin) core.log
   pub within : IsWithin origin.limit core.log
 
--- the line is that of an entry with this number that may come next, and the core has logged the entry; or it is the line of no such entry
+-- `true`: the line is that of an entry with this number that can come next, and the core has logged this entry. `false`: it isn't.
 abbrev pub FollowsLine : CoreState → ℕ → List ℕ → Bool → CoreState → Type 0
 FollowsLine old number line true new =
     (entry : Entry) × IsLine number entry line × Logs old new (entry ∷ []) × (has_room old.origin.limit old.log entry ≡ true)
 FollowsLine old number line false new = (entry : Entry) (next : Bus) → IsLine number entry line → IsLegal (bus_now old) entry next → ⊥
 
--- the line is that of an entry that may come next, and the log has no capacity for the entry
+-- the line is that of an entry that can come next, and the core's log has no capacity for this entry
 abbrev pub IsCrowdedLine : CoreState → ℕ → List ℕ → Type 0
 IsCrowdedLine core number line = (entry : Entry) × IsLine number entry line × IsCrowded core entry
 
--- what an answer claims of the bytes
+-- the claim of a result about the bytes: with a verdict, the log is crowded at no line; `NoMemory` makes no claim
 abbrev pub Settles : Origin → List ℕ → Result Verdict VerifyFault → Type 0
 Settles origin bytes (Ok verdict) = IsVerdict origin bytes verdict × ((number : ℕ) → IsCrowdedAt origin bytes number → ⊥)
 Settles origin bytes (Err fault.Full) = (number : ℕ) × IsCrowdedAt origin bytes number

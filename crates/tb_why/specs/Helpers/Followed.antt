@@ -1,4 +1,4 @@
--- What is known once a core has followed a log.
+-- The state after a core has followed a log, and the claim if it couldn't.
 use Rattle.std.specs.Prelude.{◌≡◌, ℕ, List, ◌∷◌, ◌++◌, false}
 use Rattle.tb_bus.specs.Buses.{start}
 use Rattle.tb_bus.specs.Traces.{IsLegal, IsTrace, after, replay}
@@ -12,7 +12,8 @@ use Rattle.tb_why.specs.Standing.{standings}
 use Rattle.tb_why.specs.declared.stall.Waiter.{Waiter}
 use Rattle.tb_why.specs.declared.standing.Standing.{Standing}
 
--- The log is a trace that the core has followed, and while the bus is up, it leads to a bus of which this is seen, and these are its lines.
+-- The log is a trace, and the core has followed it. The entries before the step that shuts down the bus (all entries if there is no such
+-- step) lead to a bus with these ticks, these processes with their offers (`seen`), and these findings (`lines`).
 pub record IsEnd (origin : Origin) (log : List Entry) (core : CoreState) (ticks : ℕ) (seen : List Standing) (lines : List Waiter) : Type 0 where
   pub trace : IsTrace (start origin) log
   pub started : core.origin ≡ origin
@@ -22,7 +23,7 @@ pub record IsEnd (origin : Origin) (log : List Entry) (core : CoreState) (ticks 
   pub stands : seen ≡ standings (replay (start origin) (while_up log))
   pub waits : lines ≡ waiters (replay (start origin) (while_up log))
 
--- The core can follow the entries up to one, which may come next, and for which its log has no capacity then.
+-- The entries before some entry are a trace from the bus of the core. This entry can come next, but the core's log has no capacity for it.
 pub record IsCrowdedIn (core : CoreState) (entries : List Entry) : Type 0 where
   pub before : List Entry
   pub entry : Entry

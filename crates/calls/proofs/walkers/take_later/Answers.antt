@@ -15,7 +15,7 @@ advance-requires-clause-taken g c =
     let within = within-ticked (g.W.Walker.view.walking c.args.plan.now c.look.new.self) (g.W.Walker.view.walking c.args.plan.now c.tick.new.self) c.args.k c.tick.ensures.aged (omega arith) in
     is_taken g.W.Walker.view c.args.plan.now c.tick.new.self c.in_ok-taken.taken c.args.k c.new-none.result within c.in_ok-taken.ensures.taken (λ offered here. takes_none offered.store c.new-none.result c.new-none.ensures)
 
--- a tick has come, and the step takes no time
+-- one tick passes, and the step takes no time
 pub returns-clause-ticks : goal.returns-clause-ticks
 returns-clause-ticks g c =
     let count = c.offer_count.ensures.all c.args.plan.now c.look.ensures.on in

@@ -1,4 +1,4 @@
--- what the arguments give for each operand and option
+-- the values that the arguments give for each operand and option
 use Rattle.std.proofs.Common.{refl}
 use Rattle.tb_cli.specs.declared.table.Kind.TheVariants.{File}
 use Rattle.tb_cli.specs.Table.{feed, connect, steps, events}

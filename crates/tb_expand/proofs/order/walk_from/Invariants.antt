@@ -1,7 +1,7 @@
 use Rattle.tb_expand.specs.Helpers.Walks.{HasBegun, left_in}
 use Rattle.tb_expand.proofs.order.walk_from.Given as goal
 
--- the position was visited, and no position is new that wasn't before
+-- the position was visited, and each position that is new was new before
 abbrev pub invariant-loop-position : goal.invariant-loop-position
 invariant-loop-position l = HasBegun l.graph l.fn.walk l.walk l.root
 

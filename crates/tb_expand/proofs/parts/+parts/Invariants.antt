@@ -4,7 +4,7 @@ use Rattle.tb_expand.specs.Helpers.Sizes.{called_size, size_of}
 use Rattle.tb_expand.proofs.PartSteps.{levels_with, other_levels}
 use Rattle.tb_expand.proofs.parts.+parts.Given as goal
 
--- what is built has fewer levels in each part
+-- each part has fewer levels than the whole
 
 abbrev pub decreases-part_of : goal.decreases-part_of
 decreases-part_of l = 4 * levels_with l.names.now.script.now l.depth l.p.now

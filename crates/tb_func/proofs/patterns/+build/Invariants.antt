@@ -5,7 +5,7 @@ use Rattle.tb_func.specs.Values.{all_of}
 use Rattle.tb_func.proofs.Prefixes.{with_prefix}
 use Rattle.tb_func.proofs.patterns.+build.Given as goal
 
--- the expressions that are left, behind the patterns found
+-- the remaining expressions, after the patterns found so far
 abbrev pub invariant-build_all-loop-expr : goal.invariant-build_all-loop-expr
 invariant-build_all-loop-expr l =
     with_prefix (as_patterns l.parts) (all_of (map (pattern_of l.s) (drop l.expr-index l.exprs))) ≡ all_of (map (pattern_of l.s) l.exprs)

@@ -5,7 +5,7 @@ use Rattle.tb_gen.proofs.ring.push_nodes.Given as goal
 abbrev pub decreases-loop-process : goal.decreases-loop-process
 decreases-loop-process l = l.n - l.process
 
--- with the processes that are left they are all
+-- with the remaining processes, they are all processes
 abbrev pub invariant-loop-process : goal.invariant-loop-process
 invariant-loop-process l = record {
   within : l.process ≤ l.n;

@@ -4,7 +4,7 @@ use Rattle.tb_index.specs.Marks.{wide}
 use Rattle.tb_index.specs.Helpers.Pairs.{has, in_many, is_among}
 use Rattle.tb_index.proofs.counts.count_many.Given as goal
 
--- who sends under a mark is counted, or its pair is still to come
+-- each process that sends under a mark is counted, or its pair is still to come
 abbrev pub invariant-loop-pair : goal.invariant-loop-pair
 invariant-loop-pair l =
     ((mark : Mark) (its : ℕ) → has l.initial.counted mark its ≡ true → has l.counted mark its ≡ true)

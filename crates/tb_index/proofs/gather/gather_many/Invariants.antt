@@ -5,7 +5,7 @@ use Rattle.tb_index.specs.declared.mark.Mark.{Mark}
 use Rattle.tb_index.specs.Helpers.Pairs.{in_many, is_among, is_wanted}
 use Rattle.tb_index.proofs.gather.gather_many.Given as goal
 
--- who has a wanted mark was added, or its pair is still to come; what is to come is there
+-- each process with a wanted mark is added, or its pair is still to come; each pair to come is in the set
 abbrev pub invariant-loop-pair : goal.invariant-loop-pair
 invariant-loop-pair l =
     ((proc : ℕ) → contains nat_cmp l.initial.found proc ≡ true → contains nat_cmp l.found proc ≡ true)

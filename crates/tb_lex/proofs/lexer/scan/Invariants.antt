@@ -4,7 +4,7 @@ use Rattle.tb_lex.specs.declared.fault.LexFault.{LexFault}
 use Rattle.tb_lex.specs.Helpers.Scanning.{Runs, Scans}
 use Rattle.tb_lex.proofs.lexer.scan.Given as goal
 
--- whatever the rest gives completes the tokens so far to those of the whole text
+-- the tokens so far, and then those of the rest, are the tokens of the whole source
 abbrev pub invariant-tokens : goal.invariant-tokens
 invariant-tokens l = record {
   within : length l.rest ≤ length l.bytes;

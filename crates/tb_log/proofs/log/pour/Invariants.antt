@@ -1,7 +1,7 @@
 use Rattle.std.proofs.Common.{◌≡◌, ◌≤◌, ◌+◌, ◌++◌, length, reverse, vec_len, vec_capacity}
 use Rattle.tb_log.proofs.log.pour.Given as goal
 
--- those that are left still come behind, the last one first
+-- the remaining terms are still to be added, the last one first
 abbrev pub invariant-loop-term : goal.invariant-loop-term
 invariant-loop-term l = record {
   poured : l.into.items ++ reverse l.terms ≡ l.initial.into.items ++ reverse l.initial.terms;

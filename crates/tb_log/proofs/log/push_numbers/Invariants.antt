@@ -2,7 +2,7 @@ use Rattle.std.proofs.Common.{◌≡◌, ◌+◌, ◌++◌, length, take, vec_le
 use Rattle.tb_log.specs.Seens.{number_terms}
 use Rattle.tb_log.proofs.log.push_numbers.Given as goal
 
--- those so far are numbers, and stand behind what was there
+-- the terms so far are numbers, and they are after the old content
 abbrev pub invariant-loop-term : goal.invariant-loop-term
 invariant-loop-term l = record {
   pushed : number_terms l.into.items ≡ number_terms l.initial.into.items ++ take l.term-index l.terms;

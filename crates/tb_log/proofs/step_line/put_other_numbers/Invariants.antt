@@ -4,7 +4,7 @@ use Rattle.tb_terms.specs.Texts.{term_text}
 use Rattle.tb_terms.specs.declared.term.Term.TheVariants.{Int}
 use Rattle.tb_log.proofs.step_line.put_other_numbers.Given as goal
 
--- the numbers behind those that are left are written
+-- the numbers after the remaining ones are written
 abbrev pub invariant-loop-left : goal.invariant-loop-left
 invariant-loop-left l = record {
   within : l.left ≤ length l.numbers;

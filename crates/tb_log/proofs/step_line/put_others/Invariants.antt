@@ -3,7 +3,7 @@ use Rattle.std.specs.List.{flat_map}
 use Rattle.tb_terms.specs.Texts.{term_text}
 use Rattle.tb_log.proofs.step_line.put_others.Given as goal
 
--- the terms behind those that are left are written
+-- the terms after the remaining ones are written
 abbrev pub invariant-loop-left : goal.invariant-loop-left
 invariant-loop-left l = record {
   within : l.left ≤ length l.terms;

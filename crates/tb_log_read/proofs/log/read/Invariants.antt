@@ -3,7 +3,7 @@ use Rattle.tb_log.specs.LogText.{log_text}
 use Rattle.tb_log_read.specs.Lines.{IsLog}
 use Rattle.tb_log_read.proofs.log.read.Given as goal
 
--- the lines so far are the text of a log, and each has one byte at least
+-- the lines so far are the text of a log, and each line has at least one byte
 abbrev pub invariant-lines : goal.invariant-lines
 invariant-lines l = record {
   is_log : IsLog l.entries;

@@ -3,7 +3,7 @@ use Rattle.tb_match.specs.Joining.{with_prefix}
 use Rattle.tb_match.specs.Matches.{match_term, match_all}
 use Rattle.tb_match.proofs.matching.match_each.Given as goal
 
--- the parts that are left, behind what is bound so far
+-- the remaining parts, joined to the binds so far
 abbrev pub invariant-loop-position : goal.invariant-loop-position
 invariant-loop-position l =
     with_prefix l.binds (match_all (map match_term (drop l.position l.patterns)) (drop l.position l.terms))

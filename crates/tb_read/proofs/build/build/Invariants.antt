@@ -2,7 +2,7 @@ use Rattle.std.proofs.Common.{◌≡◌, reverse, vec_len}
 use Rattle.tb_read.specs.Helpers.Building.{built_from, nothing}
 use Rattle.tb_read.proofs.build.build.Given as goal
 
--- the tokens that are left, the last of them first, complete what all tokens make
+-- the remaining tokens, the last first, complete the result of all tokens
 abbrev pub invariant-loop-token : goal.invariant-loop-token
 invariant-loop-token l = built_from l.builder (reverse l.tokens.items) ≡ built_from nothing l.fn.tokens.items
 

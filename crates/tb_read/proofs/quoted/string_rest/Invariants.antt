@@ -3,7 +3,7 @@ use Rattle.tb_read.specs.Lexing.{string_rest, with_prefix}
 use Rattle.tb_read.specs.declared.quoted.Within.TheVariants.{Between}
 use Rattle.tb_read.proofs.quoted.string_rest.Given as goal
 
--- what is put, and what the bytes that are left put, is the whole string
+-- the bytes added so far, and those that the remaining bytes add, are the whole string
 abbrev pub invariant-loop-position : goal.invariant-loop-position
 invariant-loop-position l =
     with_prefix l.put.items (string_rest l.total l.within (drop l.position l.bytes)) ≡ string_rest l.total Between l.bytes

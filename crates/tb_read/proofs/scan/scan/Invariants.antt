@@ -4,7 +4,7 @@ use Rattle.tb_read.specs.declared.fault.TermFault.{TermFault}
 use Rattle.tb_read.specs.Scanning.{Runs, Scans}
 use Rattle.tb_read.proofs.scan.scan.Given as goal
 
--- whatever the rest gives completes the tokens so far to those of the whole text
+-- the tokens of any scan of the rest complete the tokens so far to those of the whole source
 abbrev pub invariant-tokens : goal.invariant-tokens
 invariant-tokens l = record {
   within : length l.rest ≤ length l.bytes;

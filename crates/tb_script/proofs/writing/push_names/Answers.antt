@@ -8,7 +8,7 @@ joined : (first : List ℕ) (others : List (List ℕ)) → first ++ flat_map (λ
 joined first [] = append-nil first
 joined first (next ∷ others) = ap (λ (rest : List ℕ). first ++ 44 ∷ rest) (joined next others)
 
--- the first name and the others were put
+-- the first name and the other names were written
 whole : (names : List (List ℕ)) (first put : List ℕ) (others : List (List ℕ)) (old mid new : List ℕ) → names ≡ first ∷ others → put ≡ first → mid ≡ old ++ put → new ≡ mid ++ flat_map (λ (name : List ℕ). 44 ∷ name) others →
     new ≡ old ++ join_with_byte 44 names
 whole names first put others old mid new is same begun h =

@@ -3,7 +3,7 @@ use Rattle.tb_bus.specs.Exchanges.{setting_by}
 use Rattle.tb_search.specs.Indexed.{all_rest}
 use Rattle.tb_search.proofs.resting.all_rest.Given as goal
 
--- the actions that are left decide
+-- the remaining actions determine the result
 abbrev pub invariant-loop-ready : goal.invariant-loop-ready
 invariant-loop-ready g l =
     let setting = setting_by l.program.bodies l.program.tools l.bench l.living.body in

@@ -6,7 +6,7 @@ use Rattle.tb_search.proofs.search.first_between.Given as goal
 abbrev pub decreases-loop-at : goal.decreases-loop-at
 decreases-loop-at g l = l.end - l.at
 
--- the processes that are left decide
+-- the remaining processes determine the result
 abbrev pub invariant-loop-at : goal.invariant-loop-at
 invariant-loop-at g l =
     let scene = scene_of l.searched.program.now.bodies l.searched.program.now.tools l.searched.bench.now (rows_of l.searched.all.now) l.searched.marks in

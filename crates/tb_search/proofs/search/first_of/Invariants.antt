@@ -3,7 +3,7 @@ use Rattle.tb_search.specs.Candidates.{candidates_among, scene_of, row_of, rows_
 use Rattle.tb_bus.specs.Steps.{first}
 use Rattle.tb_search.proofs.search.first_of.Given as goal
 
--- the actions that are left decide
+-- the remaining actions determine the result
 abbrev pub invariant-loop-index : goal.invariant-loop-index
 invariant-loop-index g l =
     let scene = scene_of l.searched.program.now.bodies l.searched.program.now.tools l.searched.bench.now (rows_of l.searched.all.now) l.searched.marks in

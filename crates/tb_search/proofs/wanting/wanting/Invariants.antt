@@ -2,7 +2,7 @@ use Rattle.std.proofs.Common.{◌≡◌, ◌++◌, drop}
 use Rattle.tb_search.specs.Candidates.{all_take, wanting, rows_of}
 use Rattle.tb_search.proofs.wanting.wanting.Given as goal
 
--- the processes that are left decide whether there is room; and those that want it are those so far, and then those among them
+-- the remaining processes decide whether there is capacity; the wanting processes are those so far, then those of the remaining ones
 abbrev pub invariant-loop-index : goal.invariant-loop-index
 invariant-loop-index g l =
     (all_take l.terms (rows_of (drop l.index l.all)) ≡ all_take l.terms (rows_of l.all))

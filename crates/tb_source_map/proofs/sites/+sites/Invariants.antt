@@ -4,7 +4,7 @@ use Rattle.tb_expand.specs.Helpers.Sizes.{called_size, size_of}
 use Rattle.tb_expand.proofs.PartSteps.{levels_with, other_levels}
 use Rattle.tb_source_map.proofs.sites.+sites.Given as goal
 
--- the expansion has fewer levels in each part
+-- the depth of the expansion bounds the recursion: it is smaller in each part
 
 abbrev pub decreases-push_sites : goal.decreases-push_sites
 decreases-push_sites l = 4 * levels_with l.names.now.script.now l.depth l.p.now

@@ -3,6 +3,6 @@ use Rattle.std.specs.List.{list_all}
 use Rattle.tb_terms.specs.Names.{is_text_byte}
 use Rattle.tb_terms.proofs.text.are_text_bytes.Given as goal
 
--- the bytes that are left decide
+-- the remaining bytes decide
 abbrev pub invariant-loop-byte : goal.invariant-loop-byte
 invariant-loop-byte l = list_all is_text_byte (drop l.byte-index l.bytes) ≡ list_all is_text_byte l.bytes

@@ -3,7 +3,7 @@ use Rattle.tb_types.specs.Calls.{actuals_faults}
 use Rattle.tb_types.specs.Scopes.{visible}
 use Rattle.tb_types.proofs.calls.push_actuals.Given as goal
 
--- what the actuals that are left break stands behind what was noted
+-- the violations of the remaining arguments come after the noted violations
 abbrev pub invariant-loop-position : goal.invariant-loop-position
 invariant-loop-position l =
     l.into ++ actuals_faults l.names.script.now (visible l.scope) l.manner l.formals l.position (drop l.position l.actuals)

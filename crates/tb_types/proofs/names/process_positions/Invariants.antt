@@ -4,7 +4,7 @@ use Rattle.tb_types.specs.Helpers.Seen.{was_seen}
 use Rattle.tb_types.specs.NamePositions.{position_in, position_of, process_name}
 use Rattle.tb_types.proofs.names.process_positions.Given as goal
 
--- The names so far have their positions. What the names that are left repeat stands behind what was noted.
+-- The names so far have their positions. The violations of the remaining names come after the noted violations.
 abbrev pub invariant-loop-position : goal.invariant-loop-position
 invariant-loop-position l = record {
   kept : (name : List ℕ) → position_in l.positions name ≡ position_of (map process_name (take l.position l.processes)) name;

@@ -3,7 +3,7 @@ use Rattle.std.specs.List.{flat_map}
 use Rattle.tb_edge.specs.Sinks.{Owes}
 use Rattle.tb_write.proofs.line.put_more_names.Given as goal
 
--- the names that are left are owed
+-- the remaining names are still to be written
 abbrev pub invariant-loop-name : goal.invariant-loop-name
 invariant-loop-name g l = record {
   owed : Owes (g.E.Sink.taken l.initial.err) (g.E.Sink.taken l.err) (flat_map (λ name. 44 ∷ name) l.names) (flat_map (λ name. 44 ∷ name) (drop l.name-index l.names));
