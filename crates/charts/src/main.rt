@@ -1,5 +1,6 @@
-//! Draws the charts that `index` names, and compares each with the file of its name. A line of it has the form, the script, the log,
-//! the first and the last number of the entries (`0 0` for all), and the file that is expected.
+//! Draws the charts that `index` names, and compares each with its expected text. Each line of `index` has the form, the script, the log,
+//! the numbers of the first and the last entry (`0 0` for the whole log), and the file with the expected text. If the bus began with
+//! commands, their number follows.
 #![tactic(auto)]
 
 use std::alloc::Global;
@@ -27,7 +28,7 @@ fn main(rt: HostRuntime) -> io::Result<()> {
     println!(rt; "{} passed, {} failed", tally.passed, tally.failed)
 }
 
-/// Whether the chart of a line is the one that its file has.
+/// Returns whether the chart of a line has the expected text. If the log has an error, the expected text is the number of its line.
 fn is_as_expected(rt: &HostRuntime, line: &str) -> io::Result<bool> {
     let mut words = line.split(' ');
     let (Some(form), Some(script), Some(log)) = (words.next(), words.next(), words.next()) else {
@@ -36,6 +37,7 @@ fn is_as_expected(rt: &HostRuntime, line: &str) -> io::Result<bool> {
     let (Some(from), Some(to), Some(expected)) = (words.next(), words.next(), words.next()) else {
         return Ok(false);
     };
+    let commands = words.next().unwrap_or("0").parse::<usize>().unwrap_or(0);
     let source = fs::read(rt, script)?;
     let bytes = fs::read(rt, log)?;
     let expected = fs::read(rt, expected)?;
@@ -44,6 +46,7 @@ fn is_as_expected(rt: &HostRuntime, line: &str) -> io::Result<bool> {
         title: log.as_bytes(),
         source: source.as_slice(),
         span: span_of(from, to),
+        commands,
     };
     match drawn(rt.alloc(), &subject, bytes.as_slice()) {
         Ok(found) => Ok(found.as_slice() == expected.as_slice()),
@@ -76,16 +79,18 @@ fn output_of(form: &str) -> Output {
     }
 }
 
-/// What a chart is drawn from, beside its log.
+/// The input of a chart, except its log.
 #[derive(Clone, Copy)]
 struct Subject<'a> {
     output: Output,
     title: &'a [u8],
     source: &'a [u8],
     span: Span,
+    /// The number of commands with which the bus began.
+    commands: usize,
 }
 
-/// The chart of a log.
+/// Returns the chart of a log.
 fn drawn(alloc: Global, subject: &Subject, log: &[u8]) -> Result<Vec<u8>, ChartFault> {
     let Ok(cast) = load_cast(alloc, subject.source) else {
         return Err(ChartFault::Line(0));
@@ -103,7 +108,7 @@ fn drawn_entries(
     cast: &Cast,
     entries: &[Entry],
 ) -> Result<Vec<u8>, ChartFault> {
-    let chart = chart_of(alloc, cast, 0, entries, subject.span)?;
+    let chart = chart_of(alloc, cast, subject.commands, entries, subject.span)?;
     let mut into = Vec::new(alloc);
     write_chart(
         alloc,

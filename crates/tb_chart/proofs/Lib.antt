@@ -4,8 +4,11 @@ pub mod LineLemmas
 pub mod ListLemmas
 pub mod NameLemmas
 pub mod NeedLemmas
+pub mod PassLemmas
 pub mod PlaceLemmas
 pub mod RefusalLemmas
+pub mod RightLemmas
 pub mod RowLemmas
 pub mod SceneLemmas
+pub mod SeatLemmas
 pub mod ToolLemmas

@@ -1,5 +1,5 @@
 -- Lemmas on the rows of a chart.
-use Rattle.std.proofs.Common.{◌≡◌, ◌∙◌, ◌+◌, ◌<◌, ◌++◌, ◌∷◌, ℕ, List, length, drop, take, get_or, ap, sym}
+use Rattle.std.proofs.Common.{◌≡◌, ◌∙◌, ◌+◌, ◌<◌, ◌++◌, ◌∷◌, [], ℕ, List, length, drop, take, get_or, ap, sym}
 use Rattle.std.proofs.lemmas.List.{append_assoc, drop_more}
 use Rattle.std.proofs.lemmas.List.Sums.{fold_more}
 use Rattle.tb_log.specs.declared.entry.Entry.{Entry}
@@ -7,6 +7,7 @@ use Rattle.tb_chart.specs.declared.cast.Cast.{Cast}
 use Rattle.tb_chart.specs.declared.chart.Span.{Span}
 use Rattle.tb_chart.specs.Players.{players_after, players_of}
 use Rattle.tb_chart.specs.Rows.{SeenRow, rows_from, rows_of}
+use Rattle.tb_chart.specs.Tools.{tools_after, tools_of}
 
 -- one entry more, before which the processes are `old`, and after it `players`
 pub rows-more : (cast cast' : Cast) (span : Span) (old players : List ℕ) (index : ℕ) (entries : List Entry) (entry : Entry) (before now whole : List SeenRow)
@@ -35,3 +36,11 @@ players-more cast cast' old players index entries entry within here same before 
     ∙ ap (λ those. players_after cast those entry) before
     ∙ ap (players_after cast (players_of cast (take index entries))) here
     ∙ sym (fold_more (players_after cast) cast.roots.items entries index entry within)
+
+-- the tools after one entry more
+pub tools-more : (old : List (List ℕ)) (index : ℕ) (entries : List Entry) (entry : Entry) → index < length entries
+    → entry ≡ get_or entries index entry → old ≡ tools_of (take index entries) → tools_after old entry ≡ tools_of (take (index + 1) entries)
+tools-more old index entries entry within here before =
+    ap (λ those. tools_after those entry) before
+    ∙ ap (tools_after (tools_of (take index entries))) here
+    ∙ sym (fold_more tools_after [] entries index entry within)

@@ -9,3 +9,4 @@ pub mod Players
 pub mod Refused
 pub mod Rows
 pub mod Terms
+pub mod Tools

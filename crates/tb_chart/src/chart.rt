@@ -1,12 +1,12 @@
 //! The chart of a log: lifelines, and a row for each entry that it shows.
 ghost use Rattle.std.specs.Prelude.{◌≡◌, ◌++◌, ◌∷◌, [], length, All, Bool, IfErr, IfOk, IsTrue, OnOk, map};
-ghost use Rattle.tb_chart.specs.Helpers.Additions.{GoesOn, IsEndFault, IsEntryFault, Sound, Stay, StayNeeded, are_all, are_players};
+ghost use Rattle.tb_chart.specs.Helpers.Additions.{GoesOn, HasEnds, IsEndFault, IsEntryFault, IsRightIn, Sound, Stay, StayNeeded, are_all, are_players};
 ghost use Rattle.tb_chart.specs.Ends.{ends_of, fits};
 ghost use Rattle.tb_chart.specs.Figures.{figure};
 ghost use Rattle.tb_chart.specs.Lifelines.{HasBody, HasFirst, HasLines, HasOnly, Once, have_lines, is_needed};
 ghost use Rattle.tb_chart.specs.Named.{NamesTools};
 ghost use Rattle.tb_chart.specs.Players.{players_of};
-ghost use Rattle.tb_chart.specs.Refused.{IsRefused};
+ghost use Rattle.tb_chart.specs.Refused.{AreRight, IsRefused};
 ghost use Rattle.tb_chart.specs.declared.row.Who.{Who};
 ghost use Rattle.tb_chart.specs.Rows.{is_seen, is_shown, row, seen_row, rows_from, rows_of};
 
@@ -14,7 +14,6 @@ use crate::cast::Cast;
 use crate::fault::ChartFault;
 use crate::figure::{Figure, ends_of, figure_of};
 use crate::lines::{Lines, add_players};
-use crate::named::are_named;
 use crate::row::{Row, Who};
 use crate::scene::Scene;
 use std::alloc::Global;
@@ -37,8 +36,9 @@ pub struct Chart<'a> {
     pub rows: Vec<Row<'a>>,
 }
 
-/// Returns the chart of the entries in the span. The entries before it only say who is there. A fault names an entry with a
-/// process or a lane that isn't there, or a step of a tool. The code rejects a step of a tool only if the tool isn't there.
+/// Returns the chart of the entries in the span. An entry outside the span has no row, but can be rejected too. `Line` names the first
+/// entry that is wrong, or is an `execute` for which no lane is free. Which `execute` that is, no clause states. `commands` is the number
+/// of commands with which the bus began.
 pub fn chart_of<'a>(
     alloc: Global,
     cast: &Cast,
@@ -57,14 +57,16 @@ pub fn chart_of<'a>(
     ensures once { IfOk result (λ chart. Once chart.lines) }
     ensures needed { IfOk result (λ chart. HasOnly
         (is_needed span.all (length cast.now.roots.items) chart.rows.items) chart.lines) }
-    ensures err { IfErr result (IsRefused cast.now entries.now) }
+    ensures err { IfErr result (IsRefused cast.now span entries.now) }
+    ensures right { IfOk result
+        (λ chart. AreRight cast.now span cast.now.roots.items [] 1 entries.now) }
 {
     let mut scene = Scene::new(alloc, cast, commands)?;
     let mut lines = root_lines(alloc, &scene, span.all)?;
     let mut rows = Vec::new(alloc);
     for (index, entry) in entries.iter().enumerate() {
         let number = index as u64 + 1;
-        add_entry(cast, &mut scene, &mut lines, &mut rows, number, entry, span)?;
+        add_entry(&mut scene, &mut lines, &mut rows, number, entry, span)?;
     }
     Ok(Chart { lines, rows })
 }
@@ -86,9 +88,8 @@ fn root_lines(alloc: Global, scene: &Scene, all: bool) -> Result<Lines, NoMemory
 }
 
 /// Goes on by an entry, and adds its row if it is shown.
-#[tactic(auto, using(crate::proofs::LineLemmas::sound_goes, crate::proofs::RefusalLemmas::end_fault))]
+#[tactic(auto, using(crate::proofs::LineLemmas::sound_goes, crate::proofs::RefusalLemmas::lost_fault, crate::proofs::RefusalLemmas::end_fault, crate::proofs::RightLemmas::right_hidden, crate::proofs::RightLemmas::right_shown))]
 fn add_entry<'a>(
-    cast: &Cast,
     scene: &mut Scene,
     lines: &mut Lines,
     rows: &mut Vec<Row<'a>>,
@@ -99,8 +100,8 @@ fn add_entry<'a>(
     ensures goes_on { OnOk result (GoesOn entry.now scene.old scene.new) }
     ensures rows { OnOk result (map seen_row rows.new.items
         ≡ map seen_row rows.old.items ++ rows_of span scene.new.players.items number entry.now) }
-    ensures named { OnOk result (All (NamesTools cast.now.tools.items) rows.old.items
-        → All (NamesTools cast.now.tools.items) rows.new.items) }
+    ensures named { OnOk result (All (NamesTools scene.old.cast.now.tools.items) rows.old.items
+        → All (NamesTools scene.old.cast.now.tools.items) rows.new.items) }
     ensures lines { OnOk result (All (HasLines lines.old) rows.old.items
         → All (HasLines lines.new) rows.new.items) }
     ensures stay { OnOk result (Stay lines.old lines.new) }
@@ -108,8 +109,8 @@ fn add_entry<'a>(
         → Sound scene.new.players.items lines.new) }
     ensures needed { OnOk result
         (StayNeeded rows.old.items rows.new.items lines.old lines.new) }
-    ensures err { IfErr result (IsEntryFault (length scene.old.lanes.items)
-        scene.old.cast.now scene.old.players.items number entry.now) }
+    ensures err { IfErr result (IsEntryFault scene.old span number entry.now) }
+    ensures right { OnOk result (IsRightIn scene.old span number entry.now) }
 {
     if !scene.follow(entry)? {
         return Err(ChartFault::Line(number));
@@ -117,7 +118,7 @@ fn add_entry<'a>(
     if !is_shown(span.from, span.to, number, figure_of(entry)) {
         return Ok(());
     }
-    add_row(cast, scene, lines, rows, number, entry)
+    add_row(scene, lines, rows, number, entry)
 }
 
 /// Whether an entry of this figure has a row.
@@ -138,9 +139,7 @@ fn is_seen(figure: Figure) -> bool
 }
 
 /// Adds the row of an entry.
-#[tactic(auto, using(crate::proofs::RefusalLemmas::unnamed))]
 fn add_row<'a>(
-    cast: &Cast,
     scene: &Scene,
     lines: &mut Lines,
     rows: &mut Vec<Row<'a>>,
@@ -149,8 +148,8 @@ fn add_row<'a>(
 ) -> Result<(), ChartFault>
     ensures rows { OnOk result (map seen_row rows.new.items
         ≡ map seen_row rows.old.items ++ row scene.now.players.items number entry.now ∷ []) }
-    ensures named { OnOk result (All (NamesTools cast.now.tools.items) rows.old.items
-        → All (NamesTools cast.now.tools.items) rows.new.items) }
+    ensures named { OnOk result (All (NamesTools scene.now.cast.now.tools.items) rows.old.items
+        → All (NamesTools scene.now.cast.now.tools.items) rows.new.items) }
     ensures lines { OnOk result (All (HasLines lines.old) rows.old.items
         → All (HasLines lines.new) rows.new.items) }
     ensures stay { OnOk result (Stay lines.old lines.new) }
@@ -158,16 +157,12 @@ fn add_row<'a>(
         → Sound scene.now.players.items lines.new) }
     ensures needed { OnOk result
         (StayNeeded rows.old.items rows.new.items lines.old lines.new) }
-    ensures err { IfErr result (IsEndFault (length scene.now.lanes.items)
-        scene.now.players.items number entry.now) }
+    ensures err { IfErr result (IsEndFault scene.now number entry.now) }
+    ensures there { OnOk result (HasEnds scene.now entry.now (ends_of (figure entry.now))) }
 {
-    let wanted = ends_of(figure_of(entry));
-    let Some(ends) = scene.ends(wanted, entry) else {
+    let Some(ends) = scene.ends(ends_of(figure_of(entry)), entry) else {
         return Err(ChartFault::Line(number));
     };
-    if !are_named(cast.tools.as_slice(), entry, wanted, ends) {
-        return Err(ChartFault::Line(number));
-    }
     add_lines(lines, scene, ends)?;
     rows.push(row_of(scene, number, entry, ends))?;
     Ok(())

@@ -5,7 +5,7 @@ use tb_terms::NoMemory;
 /// Why there is no chart.
 #[derive(Clone, Copy)]
 pub enum ChartFault {
-    /// The line, counted from 1, of an entry with a process, a tool, or a lane that isn't there.
+    /// The line, counted from 1, of the first entry that is wrong, or is an `execute` for which no lane is free.
     Line(u64),
     /// Out of memory. This says nothing of the log.
     NoMemory,

@@ -1,11 +1,14 @@
 //! Who is there as a log goes on: the processes, the tools and their lanes.
-ghost use Rattle.std.specs.Prelude.{◌≡◌, ◌⊎◌, ◌<◌, ◌≤◌, ◌^◌, ℕ, None, Bool, true, false, length, IsTrue, IfOk, IfNone, IfSome};
-ghost use Rattle.tb_chart.specs.Helpers.Additions.{Follows, IfNo, Keeps, are_players, is_player};
+ghost use Rattle.std.specs.Prelude.{◌≡◌, ◌<◌, ◌≤◌, ◌^◌, ℕ, [], None, Some, Bool, false, length, IsTrue, IfOk, IfNone, IfSome, OnOk};
+ghost use Rattle.tb_chart.specs.Helpers.Additions.{AddsSeat, Follows, HasNoTool, HasEnds, HasNumber, IfNo, IfYes, IsAbsentIn, IsThere, Keeps, LacksEndIn, LacksNumber, Passes, are_players, is_player, seat_of};
 ghost use Rattle.tb_chart.specs.Ends.{fits, is_at};
 ghost use Rattle.tb_chart.specs.Numbers.{numbered};
 ghost use Rattle.tb_chart.specs.Players.{bodies_of, created_by};
-ghost use Rattle.tb_chart.specs.Refused.{IsAbsent, IsLostInput, LacksEnd, is_lane};
-ghost use Rattle.tb_chart.specs.Terms.{creates, is_number};
+ghost use Rattle.tb_chart.specs.Named.{are_named, is_named, tool_fits};
+ghost use Rattle.tb_chart.specs.Refused.{is_lane};
+ghost use Rattle.tb_chart.specs.Terms.{creates, is_declared, is_number};
+ghost use Rattle.tb_chart.specs.Tools.{first_number, number_in, tool_name, tool_number};
+ghost use Rattle.tb_terms.specs.declared.term.Term.{out-Term};
 ghost use Rattle.tb_log.specs.Shapes.{lane_count};
 ghost use Rattle.std.specs.List.{list_any};
 ghost use Rattle.std.specs.Str.{bytes_eq};
@@ -13,6 +16,7 @@ ghost use Rattle.std.specs.Str.{bytes_eq};
 use crate::cast::{Cast, index_of, numbered};
 use crate::figure::End;
 use crate::lane::{Lane, Turn, UNUSED};
+use crate::named::{is_declared, speaks_of};
 use crate::row::{Seat, Who};
 use std::alloc::Global;
 use tb_log::{Entry, Input, LANES, Label, LabelKind, Out, Reply, ToolLine};
@@ -34,6 +38,7 @@ impl<'a> Scene<'a> {
         ensures players { IfOk result (λ scene. scene.players.items ≡ cast.now.roots.items) }
         ensures cast { IfOk result (λ scene. scene.cast.now ≡ cast.now) }
         ensures lanes { IfOk result (λ scene. length scene.lanes.items ≡ lane_count) }
+        ensures seats { IfOk result (λ scene. scene.seats.items ≡ []) }
     {
         Ok(Scene {
             cast,
@@ -43,10 +48,12 @@ impl<'a> Scene<'a> {
         })
     }
 
-    /// Goes on by an entry. Returns whether the processes and tools that the entry names are there.
-    #[tactic(auto, using(crate::proofs::SceneLemmas::follows_kept, crate::proofs::SceneLemmas::follows_gave, crate::proofs::SceneLemmas::follows_input))]
+    /// Goes on by an entry. Returns false if something is wrong with the entry apart from its ends, or if it is an `execute` and no lane is
+    /// free.
+    #[tactic(auto, using(crate::proofs::SceneLemmas::follows_kept, crate::proofs::SceneLemmas::follows_gave, crate::proofs::PassLemmas::passes, crate::proofs::PassLemmas::passes_gave))]
     pub(crate) fn follow(&mut self, entry: &Entry) -> Result<bool, NoMemory>
-        ensures { IfOk result (Follows entry.now self.old self.new) }
+        ensures goes { IfOk result (Follows entry.now self.old self.new) }
+        ensures right { IfOk result (λ ok. IfYes ok (Passes self.old entry.now)) }
     {
         match entry {
             Entry::Did(label) => self.follow_step(label),
@@ -57,12 +64,15 @@ impl<'a> Scene<'a> {
     }
 
     /// Returns who is at these ends of what is shown of an entry, if they are there.
+    #[tactic(auto, using(crate::proofs::SceneLemmas::lacks_first, crate::proofs::SceneLemmas::lacks_second, crate::proofs::PassLemmas::no_ends, crate::proofs::PassLemmas::both_there))]
     pub(crate) fn ends(&self, ends: Option<(End, End)>, entry: &Entry) -> Option<Option<(Who, Who)>>
         ensures fit { IfSome result (λ found. IsTrue (fits entry.now ends found)) }
         ensures are { IfSome result
             (λ found. IsTrue (are_players self.now.players.items found)) }
-        ensures none { IfNone result
-            (LacksEnd (length self.now.lanes.items) self.now.players.items entry.now ends) }
+        ensures named { IfSome result
+            (λ found. IsTrue (are_named self.now.cast.now.tools.items entry.now ends found)) }
+        ensures none { IfNone result (LacksEndIn self.now entry.now ends) }
+        ensures there { IfSome result (λ found. HasEnds self.now entry.now ends) }
     {
         match ends {
             None => Some(None),
@@ -75,11 +85,14 @@ impl<'a> Scene<'a> {
     }
 
     /// Returns who is at this end of what is shown of an entry, if it is there.
+    #[tactic(auto, using(crate::proofs::PassLemmas::process_there, crate::proofs::PassLemmas::child_there, crate::proofs::PassLemmas::program_there, crate::proofs::PassLemmas::notes_there))]
     fn who(&self, end: End, entry: &Entry) -> Option<Who>
         ensures at { IfSome result (λ found. IsTrue (is_at entry.now end found)) }
         ensures is { IfSome result (λ found. IsTrue (is_player self.now.players.items found)) }
-        ensures none { IfNone result
-            (IsAbsent (length self.now.lanes.items) self.now.players.items entry.now end) }
+        ensures named { IfSome result
+            (λ found. IsTrue (is_named self.now.cast.now.tools.items entry.now end found)) }
+        ensures none { IfNone result (IsAbsentIn self.now entry.now end) }
+        ensures there { IfSome result (λ found. IsThere self.now entry.now end) }
     {
         match end {
             End::Process(number) => self.process(number),
@@ -87,12 +100,45 @@ impl<'a> Scene<'a> {
                 Some(number) => self.process(number),
                 None => None,
             },
-            End::Tool => {
-                let seat = self.seats.get(index_of(tool_number(entry)?)?)?;
-                Some(Who::Tool(*seat))
-            }
+            End::Tool => self.tool(entry),
             End::Lane(lane) => self.program(lane),
             End::Notes => Some(Who::Notes),
+        }
+    }
+
+    /// Returns the tool that a step names, if there is one with this number and name.
+    #[tactic(auto, using(crate::proofs::SeatLemmas::no_seat, crate::proofs::SeatLemmas::no_name, crate::proofs::PassLemmas::tool_there))]
+    fn tool(&self, entry: &Entry) -> Option<Who>
+        ensures at { IfSome result (λ found. IsTrue (is_at entry.now End.Tool found)) }
+        ensures is { IfSome result (λ found. IsTrue (is_player self.now.players.items found)) }
+        ensures named { IfSome result
+            (λ found. IsTrue (tool_fits self.now.cast.now.tools.items entry.now found)) }
+        ensures none { IfNone result (HasNoTool self.now entry.now) }
+        ensures there { IfSome result (λ found. IsThere self.now entry.now (End.Tool)) }
+    {
+        let Entry::Did(label) = entry else {
+            return None;
+        };
+        let Some(seat) = self.seat(label.terms.as_slice()) else {
+            return None;
+        };
+        if speaks_of(self.cast.tools.as_slice(), entry, seat.kind) {
+            Some(Who::Tool(seat))
+        } else {
+            None
+        }
+    }
+
+    /// Returns the seat of the tool with the number in the first of these terms, if it is there.
+    fn seat(&self, terms: &[Term]) -> Option<Seat>
+        ensures { result ≡ seat_of self.now.seats.items terms.now }
+    {
+        match tool_number(terms) {
+            Some(number) => match numbered(self.seats.as_slice(), number) {
+                Some(seat) => Some(*seat),
+                None => None,
+            },
+            None => None,
         }
     }
 
@@ -113,6 +159,8 @@ impl<'a> Scene<'a> {
         ensures at { IfSome result (λ found. IsTrue (is_at (Entry.Quiet) (End.Lane lane) found)) }
         ensures is { IfSome result (λ found. IsTrue (is_player self.now.players.items found)) }
         ensures none { IfNone result (is_lane (length self.now.lanes.items) lane ≡ false) }
+        ensures there { IfSome result
+            (λ found. IsTrue (is_lane (length self.now.lanes.items) lane)) }
     {
         match numbered(self.lanes.as_slice(), u64::from(lane)) {
             Some(place) => Some(Who::Tool(Seat {
@@ -123,9 +171,10 @@ impl<'a> Scene<'a> {
         }
     }
 
-    #[tactic(auto, using(crate::proofs::SceneLemmas::follows_kept, crate::proofs::SceneLemmas::follows_tool, crate::proofs::SceneLemmas::follows_tool_result))]
+    #[tactic(auto, using(crate::proofs::SceneLemmas::follows_kept, crate::proofs::SceneLemmas::follows_tool, crate::proofs::PassLemmas::passes, crate::proofs::PassLemmas::passes_turn))]
     fn follow_step(&mut self, label: &Label) -> Result<bool, NoMemory>
-        ensures { IfOk result (Follows (Entry.Did label.now) self.old self.new) }
+        ensures goes { IfOk result (Follows (Entry.Did label.now) self.old self.new) }
+        ensures right { IfOk result (λ ok. IfYes ok (Passes self.old (Entry.Did label.now))) }
     {
         match label.kind {
             LabelKind::Create => self.create(label),
@@ -155,9 +204,11 @@ impl<'a> Scene<'a> {
     }
 
     /// A process more. Its number is the next one.
+    #[tactic(auto, using(crate::proofs::SceneLemmas::create_fails, crate::proofs::SeatLemmas::seated_kept, crate::proofs::PassLemmas::passes_create))]
     fn create(&mut self, label: &Label) -> Result<bool, NoMemory>
         requires { label.now.kind ≡ LabelKind.Create }
-        ensures { IfOk result (Follows (Entry.Did label.now) self.old self.new) }
+        ensures goes { IfOk result (Follows (Entry.Did label.now) self.old self.new) }
+        ensures right { IfOk result (λ ok. IfYes ok (Passes self.old (Entry.Did label.now))) }
     {
         match self.created(label) {
             Some(body) => {
@@ -206,27 +257,26 @@ impl<'a> Scene<'a> {
     }
 
     /// A tool more, on the lowest free lane.
+    #[tactic(auto, using(crate::proofs::SceneLemmas::follows_execute, crate::proofs::SceneLemmas::execute_fails))]
     fn execute(&mut self, label: &Label) -> Result<bool, NoMemory>
-        ensures { Keeps self.old self.new }
+        requires { label.now.kind ≡ LabelKind.Execute }
+        ensures goes { IfOk result (Follows (Entry.Did label.now) self.old self.new) }
+        ensures right { IfOk result (λ ok. IfYes ok (Passes self.old (Entry.Did label.now))) }
     {
-        let kind = match tool_name(label) {
-            Some(name) => self.cast.tool(name),
-            None => None,
-        };
-        let (Some(kind), Some(lane)) = (kind, lowest_free(self.lanes.as_slice())) else {
+        let (Some(name), Some(lane)) = (tool_name(label), lowest_free(self.lanes.as_slice())) else {
             return Ok(false);
         };
-        self.seats.push(Seat {
-            lane,
-            kind: Some(kind),
-        })?;
-        Ok(self.turn(lane, Turn::Execute(kind)))
+        match self.kind_of(name)? {
+            Some(kind) => self.add_seat(lane, kind, Turn::Execute(kind)),
+            None => Ok(false),
+        }
     }
 
+    #[tactic(auto, using(crate::proofs::SceneLemmas::follows_kept, crate::proofs::SceneLemmas::follows_left, crate::proofs::PassLemmas::passes, crate::proofs::PassLemmas::passes_left))]
     fn follow_input(&mut self, input: &Input) -> Result<bool, NoMemory>
-        ensures keeps { Keeps self.old self.new }
-        ensures lost { IfOk result (λ ok. IfNo ok
-            (IsLostInput (length self.old.lanes.items) self.old.cast.now input.now)) }
+        ensures goes { IfOk result (Follows (Entry.Fed input.now (Reply.Took)) self.old self.new) }
+        ensures right { IfOk result
+            (λ ok. IfYes ok (Passes self.old (Entry.Fed input.now (Reply.Took)))) }
     {
         match input {
             Input::Line(lane, line) => self.follow_line(*lane, line),
@@ -236,11 +286,12 @@ impl<'a> Scene<'a> {
         }
     }
 
+    #[tactic(auto, using(crate::proofs::SceneLemmas::follows_line, crate::proofs::PassLemmas::passes_line))]
     fn follow_line(&mut self, lane: u8, line: &ToolLine) -> Result<bool, NoMemory>
-        ensures keeps { Keeps self.old self.new }
-        ensures lost { IfOk result (λ ok. IfNo ok
-            (IsLostInput (length self.old.lanes.items) self.old.cast.now
-            (Input.Line lane line.now))) }
+        ensures goes { IfOk result
+            (Follows (Entry.Fed (Input.Line lane line.now) (Reply.Took)) self.old self.new) }
+        ensures right { IfOk result (λ ok. IfYes ok
+            (Passes self.old (Entry.Fed (Input.Line lane line.now) (Reply.Took)))) }
     {
         match line {
             ToolLine::Connect(name) => self.connect(lane, name.as_bytes()),
@@ -251,44 +302,71 @@ impl<'a> Scene<'a> {
         }
     }
 
+    #[tactic(auto, using(crate::proofs::SceneLemmas::follows_connect, crate::proofs::SceneLemmas::follows_strange))]
     fn connect(&mut self, lane: u8, name: &[u8]) -> Result<bool, NoMemory>
-        ensures keeps { Keeps self.old self.new }
-        ensures lost { IfOk result (λ ok. IfNo ok
-            ((is_lane (length self.old.lanes.items) lane ≡ false)
-            ⊎ (list_any (λ tool. bytes_eq tool name.now) self.old.cast.now.tools.items
-            ≡ false))) }
+        ensures goes { IfOk result (Follows
+            (Entry.Fed (Input.Line lane (ToolLine.Connect name.now)) (Reply.Took)) self.old
+            self.new) }
+        ensures right { IfOk result (λ ok. IfYes ok (Passes self.old
+            (Entry.Fed (Input.Line lane (ToolLine.Connect name.now)) (Reply.Took)))) }
     {
-        match self.cast.tool(name) {
-            Some(kind) => {
-                self.seats.push(Seat {
-                    lane,
-                    kind: Some(kind),
-                })?;
-                Ok(self.turn(lane, Turn::Connect(kind)))
-            }
+        match self.kind_of(name)? {
+            Some(kind) => self.add_seat(lane, kind, Turn::Connect(kind)),
             None => Ok(false),
         }
     }
 
-    /// What a step does on the lane of its tool.
-    fn tool_turn(&mut self, label: &Label, turn: Turn) -> bool
-        ensures { Keeps self.old self.new }
+    /// Returns the position of the tool that is declared with this name. `Cast::tool` knows the positions of the first 2^32 declarations,
+    /// and there is no memory for more.
+    fn kind_of(&self, name: &[u8]) -> Result<Option<u32>, NoMemory>
+        ensures some { IfOk result (λ kind. IfSome kind (λ kind.
+            IsTrue (is_declared self.now.cast.now.tools.items (Some kind) name.now))) }
+        ensures none { IfOk result (λ kind. IfNone kind
+            (list_any (λ tool. bytes_eq tool name.now) self.now.cast.now.tools.items ≡ false)) }
     {
-        match self.lane_of(label) {
-            Some(lane) => self.turn(lane, turn),
+        match self.cast.tool(name) {
+            Some(kind) => {
+                if is_declared(self.cast.tools.as_slice(), Some(kind), name) {
+                    Ok(Some(kind))
+                } else {
+                    Err(NoMemory)
+                }
+            }
+            None => Ok(None),
+        }
+    }
+
+    /// A tool of this kind more, on a lane. Returns whether there is such a lane.
+    fn add_seat(&mut self, lane: u8, kind: u32, turn: Turn) -> Result<bool, NoMemory>
+        ensures adds { OnOk result
+            (AddsSeat (record { lane = lane; kind = Some kind }) self.old self.new) }
+        ensures is { IfOk result (λ ok. ok ≡ is_lane (length self.old.lanes.items) lane) }
+    {
+        self.seats.push(Seat {
+            lane,
+            kind: Some(kind),
+        })?;
+        Ok(self.turn(lane, turn))
+    }
+
+    /// What a step does on the lane of its tool. Returns whether there is such a tool.
+    #[tactic(auto, using(crate::proofs::SeatLemmas::no_number, crate::proofs::SeatLemmas::no_lane, crate::proofs::PassLemmas::number_there))]
+    fn tool_turn(&mut self, label: &Label, turn: Turn) -> bool
+        ensures keeps { Keeps self.old self.new }
+        ensures none { IfNo result (LacksNumber self.old label.now.terms) }
+        ensures some { IfYes result (HasNumber self.old label.now.terms) }
+    {
+        match self.seat(label.terms.as_slice()) {
+            Some(seat) => self.turn(seat.lane, turn),
             None => false,
         }
     }
 
-    fn lane_of(&self, label: &Label) -> Option<u8> {
-        let seat = self.seats.get(index_of(number_of_tool(label)?)?)?;
-        Some(seat.lane)
-    }
-
     /// What happens on a lane. Returns whether there is such a lane.
+    #[tactic(auto, using(crate::proofs::SeatLemmas::lane_there, crate::proofs::SeatLemmas::lane_absent, crate::proofs::SeatLemmas::lane_zero))]
     fn turn(&mut self, lane: u8, turn: Turn) -> bool
         ensures keeps { Keeps self.old self.new }
-        ensures none { IfNo result (is_lane (length self.old.lanes.items) lane ≡ false) }
+        ensures is { result ≡ is_lane (length self.old.lanes.items) lane }
     {
         let Some(index) = index_of(u64::from(lane)) else {
             return false;
@@ -393,30 +471,38 @@ fn small(number: u64) -> Option<u32>
     }
 }
 
-/// The number of the tool that an entry names.
-fn tool_number(entry: &Entry) -> Option<u64> {
-    match entry {
-        Entry::Did(label) => number_of_tool(label),
+/// The number of the tool that the first of these terms names: the term is the name, with the number.
+fn tool_number(terms: &[Term]) -> Option<u64>
+    ensures { result ≡ tool_number terms.now }
+{
+    match terms {
+        [Term::Appl(_, parts), ..] => first_number(parts.as_slice()),
         _ => None,
     }
 }
 
-/// The number of the tool that a step names: its first term is the name, with the number.
-fn number_of_tool(label: &Label) -> Option<u64> {
-    match label.terms.as_slice().first()? {
-        Term::Appl(_, parts) => positive(parts.as_slice().first()?),
+fn first_number(terms: &[Term]) -> Option<u64>
+    ensures { result ≡ first_number terms.now }
+{
+    match terms {
+        [first, ..] => positive(first),
+        [] => None,
+    }
+}
+
+/// The name of the tool that a step names.
+fn tool_name(label: &Label) -> Option<&[u8]>
+    ensures { IfSome result (λ name. tool_name label.now.terms ≡ Some name.now) }
+{
+    match label.terms.as_slice() {
+        [Term::Appl(name, _), ..] => Some(name.as_bytes()),
         _ => None,
     }
 }
 
-fn tool_name(label: &Label) -> Option<&[u8]> {
-    match label.terms.as_slice().first()? {
-        Term::Appl(name, _) => Some(name.as_bytes()),
-        _ => None,
-    }
-}
-
+/// The number that a term is.
 fn positive(term: &Term) -> Option<u64>
+    ensures is { result ≡ number_in (out-Term term.now) }
     ensures some { IfSome result (λ number. IsTrue (is_number number term.now)) }
     ensures none { IfNone result ((number : ℕ) → is_number number term.now ≡ false) }
 {

@@ -1,4 +1,4 @@
-//! A chart as one page that needs nothing else: the data of the chart, within a page that draws it.
+//! A chart as one HTML page without other files: the data of the chart, within a page that draws it.
 
 use crate::label::{Texts, head_name, place_number};
 use crate::page::{PAGE_AFTER, PAGE_BEFORE};
@@ -50,7 +50,7 @@ fn push_string(text: &[u8], into: &mut Vec<u8>) -> Result<(), NoMemory> {
     push_text(b"\"", into)
 }
 
-/// A comma before all but the first.
+/// Appends a comma before each item but the first.
 fn push_comma(index: usize, comma: &[u8], into: &mut Vec<u8>) -> Result<(), NoMemory> {
     if index == 0 {
         return Ok(());
@@ -58,7 +58,7 @@ fn push_comma(index: usize, comma: &[u8], into: &mut Vec<u8>) -> Result<(), NoMe
     push_text(comma, into)
 }
 
-/// For each definition of a process, where its atoms are.
+/// Appends the places of the atoms of each process definition.
 fn push_bodies(cast: &Cast, into: &mut Vec<u8>) -> Result<(), NoMemory> {
     for (index, role) in cast.roles.iter().enumerate() {
         push_comma(index, b",", into)?;
@@ -67,7 +67,7 @@ fn push_bodies(cast: &Cast, into: &mut Vec<u8>) -> Result<(), NoMemory> {
     Ok(())
 }
 
-/// The first byte of each atom's token, and the byte after the token.
+/// Appends the position of the first byte of each atom's token, and the position after the token.
 fn push_sites(sites: &[Site], into: &mut Vec<u8>) -> Result<(), NoMemory> {
     push_text(b"[", into)?;
     for (index, site) in sites.iter().enumerate() {
@@ -85,7 +85,8 @@ fn push_lines(cast: &Cast, chart: &Chart, into: &mut Vec<u8>) -> Result<(), NoMe
     Ok(())
 }
 
-/// A lifeline: of what it is, its name, and the number of the process or of the lane.
+/// Appends a lifeline: whether it is of a process, of notes or of a tool, its name, and the number of the process or of the lane (0 for
+/// notes).
 fn push_lifeline(
     cast: &Cast,
     chart: &Chart,
@@ -117,7 +118,8 @@ fn push_rows(alloc: Global, chart: &Chart, into: &mut Vec<u8>) -> Result<(), NoM
     Ok(())
 }
 
-/// A row: its number and kind, its lifelines, its line, its text, and the definition and the atom of each place.
+/// Appends a row: its number and kind, the columns of its two lifelines, its line of the log, its label, and the definition and the atom
+/// of each process that takes part. A row without lifelines has the columns -1.
 fn push_row(chart: &Chart, row: &Row, texts: &Texts, into: &mut Vec<u8>) -> Result<(), NoMemory> {
     push_text(b"[", into)?;
     push_number(row.number, into)?;
@@ -142,7 +144,7 @@ fn push_row(chart: &Chart, row: &Row, texts: &Texts, into: &mut Vec<u8>) -> Resu
     push_text(b"]", into)
 }
 
-/// The word for how an entry is drawn.
+/// Returns the word that tells the page how to draw an entry.
 fn kind_name(entry: &Entry) -> &'static [u8] {
     match figure_of(entry) {
         Figure::Arrow(kind, _, _) => arrow_name(kind),
@@ -167,7 +169,7 @@ fn arrow_name(kind: ArrowKind) -> &'static [u8] {
     }
 }
 
-/// The places of a step: the definition of the process, and the atom.
+/// Appends the places of a step: the process definition and the atom. A message has two places.
 fn push_atoms(row: &Row, into: &mut Vec<u8>) -> Result<(), NoMemory> {
     let Entry::Did(label) = row.entry else {
         return Ok(());

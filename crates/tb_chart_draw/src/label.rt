@@ -1,4 +1,4 @@
-//! The texts of a chart: its rows, and the heads of its lifelines.
+//! The texts of a chart: the texts of its rows, and the heads of its lifelines.
 
 use crate::push::{push_number, push_text};
 use std::alloc::Global;
@@ -6,17 +6,17 @@ use tb_chart::{Cast, Chart, Drawn, Row, Spot};
 use tb_log::{Entry, Input, LabelKind, Out, Reply, kind_word, write_entry};
 use tb_terms::NoMemory;
 
-/// Memory for the texts of one row after another.
+/// The texts of one row. Their memory is used again for the next row.
 #[derive(Drop)]
 pub(crate) struct Texts {
     /// The line of the log, without its newline.
     pub line: Vec<u8>,
-    /// What is written at the arrow.
+    /// The label, which is written at the arrow.
     pub label: Vec<u8>,
 }
 
 impl Texts {
-    /// Nothing is written yet.
+    /// Returns empty texts.
     pub(crate) fn new(alloc: Global) -> Texts {
         Texts {
             line: Vec::new(alloc),
@@ -24,7 +24,7 @@ impl Texts {
         }
     }
 
-    /// Writes the texts of a row as it is drawn.
+    /// Replaces the texts by those of this row. A drawn row can represent several ticks.
     pub(crate) fn write(&mut self, row: &Row, drawn: Drawn) -> Result<(), NoMemory> {
         self.write_row(row)?;
         if drawn.ticks > 1 {
@@ -33,7 +33,7 @@ impl Texts {
         Ok(())
     }
 
-    /// How many ticks there are, and where the last one is.
+    /// Replaces the label by the number of ticks, and the number of the last one.
     fn write_ticks(&mut self, drawn: Drawn) -> Result<(), NoMemory> {
         self.label.clear();
         push_number(drawn.ticks, &mut self.label)?;
@@ -55,7 +55,7 @@ impl Texts {
     }
 }
 
-/// The word before the terms of a step, which a message needs none of.
+/// Returns the word before the terms of a step. A message needs none.
 fn word_of(entry: &Entry) -> &'static [u8] {
     match entry {
         Entry::Did(label) => match label.kind {
@@ -66,7 +66,7 @@ fn word_of(entry: &Entry) -> &'static [u8] {
     }
 }
 
-/// How many words of an entry's line give its number, its kind, and who takes part.
+/// Returns the number of words of an entry's line that the label leaves out: its number, its kind, and the parties.
 fn skipped_words(entry: &Entry) -> usize {
     match entry {
         Entry::Did(label) => match label.kind {
@@ -80,7 +80,7 @@ fn skipped_words(entry: &Entry) -> usize {
     }
 }
 
-/// The part of a line after so many words, each with its space.
+/// Returns the part of a line after this number of words, each with its space.
 fn behind_words(line: &[u8], words: usize) -> &[u8] {
     let mut left = words;
     for (place, byte) in line.iter().enumerate() {
@@ -116,7 +116,7 @@ fn kind_name(cast: &Cast, kind: Option<u32>) -> &[u8] {
     }
 }
 
-/// Writes which process or which lane a lifeline is of. If lifelines are close, a process has only its number.
+/// Appends the process or the lane of a lifeline. If the lifelines are close, a process has only its number.
 pub(crate) fn push_head_place(
     chart: &Chart,
     spot: Spot,

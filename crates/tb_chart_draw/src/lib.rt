@@ -1,4 +1,4 @@
-//! Charts as texts: a picture, lines for a terminal, and a page.
+//! The forms in which a chart is written: a picture (SVG), lines for a terminal, and a page.
 #![tactic(auto)]
 
 mod html;

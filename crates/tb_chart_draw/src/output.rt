@@ -9,17 +9,17 @@ use tb_terms::NoMemory;
 /// The form in which a chart is written.
 #[derive(Clone, Copy)]
 pub enum Output {
-    /// A picture.
+    /// A picture (SVG).
     Svg,
     /// Lines for a terminal.
     Text,
-    /// A page that draws the chart beside the source.
+    /// An HTML page that draws the chart beside the source.
     Html,
-    /// The data of such a page, alone.
+    /// The data of such a page alone, as JSON.
     Json,
 }
 
-/// Appends a chart in this form. The source is that of the cast. A text for a terminal has no title.
+/// Appends a chart in this form. `source` must be the script of the cast. Lines for a terminal have no title.
 pub fn write_chart(
     alloc: Global,
     output: Output,

@@ -1,4 +1,4 @@
-//! The page around the data of a chart: it draws the rows in sight, and answers keys and pointer.
+//! The page around the data of a chart. Its script draws the rows in sight, and handles keys and the pointer.
 
 /// The part of the page before the data.
 pub(crate) const PAGE_BEFORE: &[u8] = br##"<!DOCTYPE html>

@@ -1,16 +1,16 @@
-//! Pieces of text.
+//! Functions that append pieces of text.
 
 use itoa::Buffer;
 use tb_terms::NoMemory;
 
-/// How a text must be written so that it reads as itself.
+/// The form in which a text is escaped and cut off.
 #[derive(Clone, Copy)]
 pub(crate) enum Form {
-    /// As it is, and what is cut off has a sign of ASCII.
+    /// The text isn't escaped. A `~` replaces the part that is cut off.
     Ascii,
-    /// In a text or an attribute of XML.
+    /// Text or an attribute value of XML. An ellipsis replaces the part that is cut off.
     Xml,
-    /// In a string of JSON, within a page.
+    /// A JSON string within an HTML page. An ellipsis replaces the part that is cut off.
     Json,
 }
 
@@ -27,7 +27,7 @@ pub(crate) fn push_number(number: u64, into: &mut Vec<u8>) -> Result<(), NoMemor
     Ok(())
 }
 
-/// Appends a text in which each `#` represents the next of these numbers.
+/// Appends a text. Each `#` of the text is replaced by the next of these numbers.
 pub(crate) fn push_filled(
     text: &[u8],
     numbers: &[usize],
@@ -52,7 +52,7 @@ fn push_nth(numbers: &[usize], index: usize, into: &mut Vec<u8>) -> Result<(), N
     }
 }
 
-/// Appends so many spaces.
+/// Appends this number of spaces.
 pub(crate) fn push_blanks(count: usize, into: &mut Vec<u8>) -> Result<(), NoMemory> {
     for _ in 0..count {
         into.push(b' ')?;
@@ -68,7 +68,8 @@ pub(crate) fn push_formed(form: Form, text: &[u8], into: &mut Vec<u8>) -> Result
     Ok(())
 }
 
-/// Appends a text in this form. If it has more characters than this, a sign represents the last of them.
+/// Appends a text in this form. If the text has more than `most` characters, appends one less than `most` of them, and a sign for the part
+/// that is cut off.
 pub(crate) fn push_short(
     form: Form,
     most: usize,
@@ -97,7 +98,7 @@ pub(crate) fn chars(text: &[u8]) -> usize {
     count
 }
 
-/// The first characters, so many at most.
+/// Returns the first characters of a text, at most `most`.
 fn first_chars(text: &[u8], most: usize) -> &[u8] {
     let mut count: usize = 0;
     for (place, byte) in text.iter().enumerate() {
@@ -111,7 +112,7 @@ fn first_chars(text: &[u8], most: usize) -> &[u8] {
     text
 }
 
-/// Whether a character of UTF-8 begins with this byte.
+/// Returns whether a character of UTF-8 begins with this byte.
 fn begins_char(byte: u8) -> bool {
     byte & 0xc0 != 0x80
 }
@@ -138,7 +139,7 @@ fn push_xml(byte: u8, into: &mut Vec<u8>) -> Result<(), NoMemory> {
     }
 }
 
-/// A `<` is written as its number, so that no text ends the script of a page.
+/// Appends a byte of a JSON string. A `<` is written as `\u003c`, so that no text ends the script of a page.
 fn push_json(byte: u8, into: &mut Vec<u8>) -> Result<(), NoMemory> {
     match byte {
         b'"' => push_text(b"\\\"", into),

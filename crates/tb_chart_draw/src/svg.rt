@@ -1,4 +1,4 @@
-//! A chart as SVG: time goes down. The line and the tip of an arrow show its meaning, so no colour is needed.
+//! A chart as SVG, in which time runs downwards. The line and the tip of an arrow show its kind without colours.
 
 use crate::label::{Texts, head_name, push_head_place};
 use crate::push::{Form, chars, push_filled, push_formed, push_number, push_short, push_text};
@@ -7,18 +7,19 @@ use tb_chart::{ArrowKind, Cast, Chart, Drawn, Figure, Row, Spot, drawn_rows, fig
 use tb_log::Entry;
 use tb_terms::NoMemory;
 
-/// Where the lifelines begin.
+/// The left end of the lifelines' columns. All lengths are in pixels.
 const LEFT: usize = 64;
 
-/// How high the heads of the lifelines are, and a row.
+/// The height of the heads of the lifelines.
 const HEAD: usize = 60;
 
+/// The height of a row.
 const PITCH: usize = 28;
 
-/// After so many rows the heads come again.
+/// The number of rows after which the heads are repeated.
 const ROWS: usize = 40;
 
-/// How many characters of a row's text are shown.
+/// The greatest number of characters of a label that are shown.
 const MOST_CHARS: usize = 100;
 
 const STYLE: &[u8] = b"<style>
@@ -50,27 +51,29 @@ path,rect{stroke:#eee}
 </style>
 ";
 
-/// Where the parts of a drawing are.
+/// The layout of a drawing.
 #[derive(Clone, Copy)]
 struct Plan {
+    /// The number of lifelines.
     columns: usize,
-    /// From one lifeline to the next.
+    /// The distance from one lifeline to the next.
     step: usize,
-    /// The total width and height.
+    /// The total width.
     width: usize,
+    /// The total height.
     height: usize,
-    /// How many rows there are.
+    /// The number of rows.
     rows: usize,
 }
 
 impl Plan {
-    /// The middle of a column.
+    /// Returns the middle of a column.
     fn x(&self, column: usize) -> usize {
         LEFT.saturating_add(column.saturating_mul(self.step))
             .saturating_add(self.step / 2)
     }
 
-    /// The right end of the rules.
+    /// Returns the right end of the rules.
     fn right(&self) -> usize {
         LEFT.saturating_add(self.columns.max(1).saturating_mul(self.step))
     }
@@ -94,7 +97,7 @@ pub(crate) fn write_svg(
     push_text(b"</svg>\n", into)
 }
 
-/// The distance between lifelines: the more there are, the closer they are.
+/// Returns the distance between lifelines. The more lifelines there are, the closer they are.
 fn step_of(columns: usize) -> usize {
     match columns {
         0..=12 => 150,
@@ -103,7 +106,7 @@ fn step_of(columns: usize) -> usize {
     }
 }
 
-/// Whether so many lifelines are so close that less is written at them.
+/// Returns whether this number of lifelines is so large that shorter texts are written at them.
 pub(crate) fn is_narrow(columns: usize) -> bool {
     columns > 12
 }
@@ -136,7 +139,7 @@ fn height_of(rows: usize) -> usize {
     }
 }
 
-/// The middle of a row.
+/// Returns the middle of the row with this index.
 fn y_of(index: usize) -> usize {
     block_of(index / ROWS)
         .saturating_add(HEAD)
@@ -144,12 +147,12 @@ fn y_of(index: usize) -> usize {
         .saturating_add(18)
 }
 
-/// Where the heads come for this time.
+/// Returns the top of the block of rows with this index, where its heads are.
 fn block_of(index: usize) -> usize {
     index.saturating_mul(HEAD + ROWS * PITCH)
 }
 
-/// Where the text of a row ends, about.
+/// Returns about where the label of a row ends. A row without lifelines gives 0.
 fn end_of(chart: &Chart, plan: &Plan, row: &Row, label: &[u8]) -> usize {
     let left = match row.ends {
         Some((from, to)) => {
@@ -191,7 +194,7 @@ fn push_lifelines(plan: &Plan, into: &mut Vec<u8>) -> Result<(), NoMemory> {
     Ok(())
 }
 
-/// The heads, again for each block of rows.
+/// Appends the heads of the lifelines, for each block of rows.
 fn push_all_heads(
     cast: &Cast,
     chart: &Chart,
@@ -365,7 +368,7 @@ fn push_arrow(
     push_filled(tip_of(kind, from < to), &[to, y], into)
 }
 
-/// The class of an arrow's line.
+/// Returns the class of an arrow's line.
 fn line_class(kind: ArrowKind) -> &'static [u8] {
     match kind {
         ArrowKind::Message | ArrowKind::Question => b"m",
@@ -376,7 +379,7 @@ fn line_class(kind: ArrowKind) -> &'static [u8] {
     }
 }
 
-/// The tip of an arrow. The tip of a message, a question or a note is filled.
+/// Returns the tip of an arrow. The tip of a message, a question or a note is filled.
 fn tip_of(kind: ArrowKind, is_rightward: bool) -> &'static [u8] {
     match (kind, is_rightward) {
         (ArrowKind::Message | ArrowKind::Question | ArrowKind::Note, true) => {

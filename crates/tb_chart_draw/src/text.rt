@@ -7,43 +7,45 @@ use std::alloc::Global;
 use tb_chart::{ArrowKind, Cast, Chart, Figure, Row, drawn_rows, figure_of};
 use tb_terms::NoMemory;
 
-/// After so many rows the heads come again.
+/// The number of rows after which the heads are repeated.
 const ROWS: usize = 40;
 
-/// How wide a lifeline is at least, and at most.
+/// The least width of a column, in characters.
 const LEAST_WIDTH: usize = 8;
 
+/// The greatest width of a column, in characters.
 const MOST_WIDTH: usize = 18;
 
-/// Where the parts of a line are.
+/// The layout of a line.
 #[derive(Clone, Copy)]
 struct Ruler {
+    /// The number of lifelines.
     columns: usize,
-    /// How many characters the numbers take.
+    /// The number of characters of the greatest row number.
     digits: usize,
-    /// How many characters a lifeline takes.
+    /// The width of a column, in characters.
     width: usize,
 }
 
 impl Ruler {
-    /// Where the lifelines begin.
+    /// Returns the position at which the first column begins.
     fn left(&self) -> usize {
         self.digits.saturating_add(1)
     }
 
-    /// Where a column begins.
+    /// Returns the position at which a column begins.
     fn start(&self, column: usize) -> usize {
         self.left()
             .saturating_add(column.saturating_mul(self.width))
     }
 
-    /// The middle of a column.
+    /// Returns the middle of a column.
     fn middle(&self, column: usize) -> usize {
         self.start(column).saturating_add(self.width / 2)
     }
 }
 
-/// Memory for one line after another.
+/// Buffers that are used again for each line.
 #[derive(Drop)]
 struct Sheet {
     line: Vec<u8>,
@@ -92,7 +94,7 @@ fn push_rows(
     Ok(())
 }
 
-/// The heads, with an empty line before them where rows come before.
+/// Appends the heads, with an empty line before them if rows come before.
 fn push_block(
     cast: &Cast,
     chart: &Chart,
@@ -131,7 +133,7 @@ fn last_number(chart: &Chart) -> u64 {
     }
 }
 
-/// How many digits a number has.
+/// Returns the number of decimal digits of a number.
 fn digits_of(number: u64) -> usize {
     let mut digits: usize = 1;
     let mut bound: u64 = 10;
@@ -144,7 +146,7 @@ fn digits_of(number: u64) -> usize {
     digits
 }
 
-/// Two lines: the names, and below them which process or lane it is.
+/// Appends two lines: the names of the lifelines, and below each name its process or lane.
 fn push_heads(
     cast: &Cast,
     chart: &Chart,
@@ -187,7 +189,7 @@ fn push_places(
     push_line(sheet, into)
 }
 
-/// Appends a text in the middle of its column. If it is too long, a sign represents its end.
+/// Appends a text in the middle of its column. If the text is too long, a sign replaces its end.
 fn push_centred(
     ruler: Ruler,
     column: usize,
@@ -210,7 +212,7 @@ fn push_line(sheet: &Sheet, into: &mut Vec<u8>) -> Result<(), NoMemory> {
     push_text(b"\n", into)
 }
 
-/// The number of a row, and its lifelines with what goes between them.
+/// Appends the number of a row, and its lifelines with the arrow or mark of the row.
 fn push_row(
     chart: &Chart,
     ruler: Ruler,
@@ -241,7 +243,7 @@ fn push_row(
     push_text(b" ", into)
 }
 
-/// Writes a byte at a position, if it is within the line.
+/// Writes a byte at a position, if the position is within the line.
 fn put(line: &mut Vec<u8>, at: usize, byte: u8) {
     if let Some(place) = line.get_mut(at) {
         *place = byte;

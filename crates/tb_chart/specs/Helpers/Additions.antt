@@ -1,8 +1,8 @@
 -- What calls change as a log goes on: the lifelines, and the processes.
-use Rattle.std.specs.Prelude.{◌≡◌, ◌≢◌, ◌<◌, ◌≤◌, ℕ, ◌==◌, nat_eq, List, [], ◌∷◌, length, slice_index_or, slice_set, ◌+◌, ◌^◌, Bool, true, false, ◌&&◌, Option, Some, None, is_some, All, IsTrue, ⊤, if◌then◌else◌}
+use Rattle.std.specs.Prelude.{◌≡◌, ◌≢◌, ◌⊎◌, ◌<◌, ◌≤◌, ℕ, ◌==◌, nat_eq, List, [], ◌∷◌, ◌++◌, length, map, slice_get, slice_index_or, slice_set, ◌+◌, ◌^◌, Bool, true, false, ◌&&◌, Option, Some, None, is_some, option_and_then, All, IsTrue, ⊤, if◌then◌else◌}
 use Rattle.std.specs.List.{AllPairs, list_any}
 use Rattle.std.specs.Option.{option_eq}
-use Rattle.tb_chart.specs.declared.cast.Cast.{Cast}
+use Rattle.tb_chart.specs.declared.chart.Span.{Span}
 use Rattle.tb_chart.specs.declared.fault.ChartFault.{ChartFault}
 use Rattle.tb_chart.specs.declared.fault.ChartFault.TheVariants as fault
 use Rattle.tb_chart.specs.declared.lines.Lines.{Lines}
@@ -15,12 +15,15 @@ use Rattle.tb_chart.specs.declared.row.Who.{Who}
 use Rattle.tb_chart.specs.declared.row.Who.TheVariants as who
 use Rattle.tb_chart.specs.declared.drawn.Drawn.{Drawn}
 use Rattle.tb_chart.specs.Drawn.{are_ticks, joined}
+use Rattle.tb_chart.specs.declared.figure.End.{End}
 use Rattle.tb_chart.specs.Ends.{ends_of}
 use Rattle.tb_chart.specs.Figures.{figure}
 use Rattle.tb_chart.specs.Lifelines.{HasBody, HasOnly, OfTwoTools, has_line, is_needed, is_tool, place_of}
 use Rattle.tb_chart.specs.Numbers.{numbered}
 use Rattle.tb_chart.specs.Players.{players_after}
-use Rattle.tb_chart.specs.Refused.{IsWrong, LacksEnd}
+use Rattle.tb_chart.specs.Refused.{IsAbsent, IsLost, IsWrong, LacksEnd, MayFail, is_execute, is_lane}
+use Rattle.tb_chart.specs.Tools.{has_number, has_tool, tool_number, tools_after}
+use Rattle.tb_terms.specs.declared.term.Term.{Term}
 
 -- the lifeline is that of this tool, on its lane and with its name
 abbrev pub is_seat : Seat → Seat → Bool
@@ -93,9 +96,34 @@ OnlyPlayers many old new = (test : Who → Bool) → ((number : ℕ) → 1 ≤ n
 abbrev pub StayNeeded : List Row → List Row → Lines → Lines → Type 0
 StayNeeded before rows old new = (all : Bool) (many : ℕ) → HasOnly (is_needed all many before) old → HasOnly (is_needed all many rows) new
 
--- the processes, the cast that they are from, and the number of lanes stay
+-- `seats` are those of the tools, by their numbers. This is the one of the tool with the number in the first of these terms.
+abbrev pub seat_of : List Seat → List Term → Option Seat
+seat_of seats terms = option_and_then (λ number. numbered seats number) (tool_number terms)
+
+-- the name with which the tool on a seat is declared
+abbrev pub declared : List (List ℕ) → Seat → Option (List ℕ)
+declared tools seat = option_and_then (λ kind. slice_get tools kind) seat.kind
+
+-- a seat is on a lane that there is
+abbrev pub HasLane : ℕ → Seat → Type 0
+HasLane lanes seat = IsTrue (is_lane lanes seat.lane)
+
+-- The seats are those of the tools with these names. Each is declared, and on a lane that there is.
+pub record Seated (scene : Scene) (tools : List (List ℕ)) : Type 0 where
+  pub names : map (declared scene.cast.now.tools.items) scene.seats.items ≡ map Some tools
+  pub lanes : All (HasLane (length scene.lanes.items)) scene.seats.items
+
+-- the processes, the seats, the cast that they are from, and the number of lanes stay
 pub record Keeps (old new : Scene) : Type 0 where
   pub players : new.players.items ≡ old.players.items
+  pub seats : new.seats.items ≡ old.seats.items
+  pub cast : new.cast.now ≡ old.cast.now
+  pub lanes : length new.lanes.items ≡ length old.lanes.items
+
+-- the same, with this seat more
+pub record AddsSeat (seat : Seat) (old new : Scene) : Type 0 where
+  pub players : new.players.items ≡ old.players.items
+  pub seats : new.seats.items ≡ old.seats.items ++ seat ∷ []
   pub cast : new.cast.now ≡ old.cast.now
   pub lanes : length new.lanes.items ≡ length old.lanes.items
 
@@ -103,10 +131,15 @@ pub record Keeps (old new : Scene) : Type 0 where
 abbrev pub KeepBodies : List ℕ → List ℕ → Type 0
 KeepBodies old new = (number body : ℕ) → numbered old number ≡ Some body → numbered new number ≡ Some body
 
--- the processes are those after an entry, of the same cast
+-- the seats are those after an entry
+abbrev pub GoOnSeated : Entry → Scene → Scene → Type 0
+GoOnSeated entry old new = (tools : List (List ℕ)) → Seated old tools → Seated new (tools_after tools entry)
+
+-- the processes and the tools are those after an entry, of the same cast
 pub record GoesOn (entry : Entry) (old new : Scene) : Type 0 where
   pub players : new.players.items ≡ players_after old.cast.now old.players.items entry
   pub keep : KeepBodies old.players.items new.players.items
+  pub tools : GoOnSeated entry old new
   pub cast : new.cast.now ≡ old.cast.now
   pub lanes : length new.lanes.items ≡ length old.lanes.items
 
@@ -115,20 +148,79 @@ abbrev pub IfNo : Bool → Type 0 → Type 0
 IfNo true P = ⊤
 IfNo false P = P
 
--- the scene goes on, or the entry is wrong
+-- what is so if the answer is yes
+abbrev pub IfYes : Bool → Type 0 → Type 0
+IfYes true P = P
+IfYes false P = ⊤
+
+-- an entry is no step of one of the tools of a scene
+abbrev pub HasNoTool : Scene → Entry → Type 0
+HasNoTool scene entry = (tools : List (List ℕ)) → Seated scene tools → has_tool tools entry ≡ false
+
+-- an end isn't there in a scene
+abbrev pub IsAbsentIn : Scene → Entry → End → Type 0
+IsAbsentIn scene entry end =
+    (tools : List (List ℕ)) → Seated scene tools → IsAbsent (length scene.lanes.items) scene.players.items tools entry end
+
+-- one of both ends isn't there in a scene
+abbrev pub LacksEndIn : Scene → Entry → Option (End × End) → Type 0
+LacksEndIn scene entry ends =
+    (tools : List (List ℕ)) → Seated scene tools → LacksEnd (length scene.lanes.items) scene.players.items tools entry ends
+
+-- an end is there in a scene
+pub record IsThere (scene : Scene) (entry : Entry) (end : End) : Type 0 where
+  pub there : (tools : List (List ℕ)) → Seated scene tools
+      → IsAbsent (length scene.lanes.items) scene.players.items tools entry end → ⊥
+
+-- both ends are there in a scene
+pub record HasEnds (scene : Scene) (entry : Entry) (ends : Option (End × End)) : Type 0 where
+  pub there : (tools : List (List ℕ)) → Seated scene tools
+      → LacksEnd (length scene.lanes.items) scene.players.items tools entry ends → ⊥
+
+-- a tool of a scene has the number in the first of these terms
+pub record HasNumber (scene : Scene) (terms : List Term) : Type 0 where
+  pub has : (tools : List (List ℕ)) → Seated scene tools → has_number tools terms ≡ true
+
+-- no tool of a scene has the number in the first of these terms
+pub record LacksNumber (scene : Scene) (terms : List Term) : Type 0 where
+  pub lacks : (tools : List (List ℕ)) → Seated scene tools → has_number tools terms ≡ false
+
+-- nothing is wrong with an entry apart from its ends, before which the scene is this
+pub record Passes (scene : Scene) (entry : Entry) : Type 0 where
+  pub not_lost : (tools : List (List ℕ)) → Seated scene tools
+      → IsLost (length scene.lanes.items) scene.cast.now scene.players.items tools entry → ⊥
+
+-- an entry with this number isn't wrong, before which the scene is this
+pub record IsRightIn (scene : Scene) (span : Span) (number : ℕ) (entry : Entry) : Type 0 where
+  pub right : (tools : List (List ℕ)) → Seated scene tools
+      → IsWrong (length scene.lanes.items) scene.cast.now span scene.players.items tools number entry → ⊥
+
+-- something is wrong with an entry apart from its ends, or it is an `execute`
+abbrev pub IsLostIn : Scene → Entry → Type 0
+IsLostIn scene entry =
+    (tools : List (List ℕ)) → Seated scene tools
+    → IsLost (length scene.lanes.items) scene.cast.now scene.players.items tools entry ⊎ IsTrue (is_execute entry)
+
+-- an entry with this number may be rejected, before which the scene is this
+abbrev pub MayFailIn : Scene → Span → ℕ → Entry → Type 0
+MayFailIn scene span number entry =
+    (tools : List (List ℕ)) → Seated scene tools
+    → MayFail (length scene.lanes.items) scene.cast.now span scene.players.items tools number entry
+
+-- the scene goes on, or the entry is rejected
 abbrev pub Follows : Entry → Scene → Scene → Bool → Type 0
 Follows entry old new true = GoesOn entry old new
-Follows entry old new false = IsWrong (length old.lanes.items) old.cast.now old.players.items entry
+Follows entry old new false = IsLostIn old entry
 
--- the fault of an entry with this number that lacks an end. `players` are the processes after it.
-abbrev pub IsEndFault : ℕ → List ℕ → ℕ → Entry → ChartFault → Type 0
-IsEndFault lanes players number entry (fault.Line named) = (named ≡ number) × LacksEnd lanes players entry (ends_of (figure entry))
-IsEndFault lanes players number entry fault.NoMemory = ⊤
+-- the fault of an entry with this number that lacks an end. After it the scene is this.
+abbrev pub IsEndFault : Scene → ℕ → Entry → ChartFault → Type 0
+IsEndFault scene number entry (fault.Line named) = (named ≡ number) × LacksEndIn scene entry (ends_of (figure entry))
+IsEndFault scene number entry fault.NoMemory = ⊤
 
--- the fault of an entry with this number. `players` are the processes before it.
-abbrev pub IsEntryFault : ℕ → Cast → List ℕ → ℕ → Entry → ChartFault → Type 0
-IsEntryFault lanes cast players number entry (fault.Line named) = (named ≡ number) × IsWrong lanes cast players entry
-IsEntryFault lanes cast players number entry fault.NoMemory = ⊤
+-- the fault of an entry with this number, before which the scene is this
+abbrev pub IsEntryFault : Scene → Span → ℕ → Entry → ChartFault → Type 0
+IsEntryFault scene span number entry (fault.Line named) = (named ≡ number) × MayFailIn scene span number entry
+IsEntryFault scene span number entry fault.NoMemory = ⊤
 
 -- a line after others: ticks join the ticks before them
 abbrev pub after_lines : List Drawn → Drawn → List Drawn

@@ -1,3 +1,4 @@
+use Rattle.std.proofs.Common.{refl}
 use Rattle.tb_chart.proofs.LineLemmas.{lines_push}
 use Rattle.tb_chart.proofs.NameLemmas.{named_push}
 use Rattle.tb_chart.proofs.NeedLemmas.{needed_push}
@@ -5,9 +6,9 @@ use Rattle.tb_chart.proofs.chart.add_row.Goals as goal
 
 pub returns-clause-named : goal.returns-clause-named
 returns-clause-named c = λ all.
-    named_push c.args.cast.now.tools.items c.as_slice.result.now c.args.entry.now c.figure_of.result c.ends_of-wanted.result c.in-Some.ends
-    c.row_of.result c.args.rows.now.items c.push.new.self.items c.if-not-are_named.ensures c.as_slice.ensures.value c.figure_of.ensures
-    c.ends_of-wanted.ensures c.row_of.ensures.entry c.row_of.ensures.ends c.in_ok-push.ensures.items all
+    named_push c.args.scene.now.cast.now.tools.items c.args.scene.now.cast.now.tools.items c.args.entry.now c.figure_of.result c.ends_of.result
+    c.in-Some.ends c.row_of.result c.args.rows.now.items c.push.new.self.items c.in-Some.ensures.named refl c.figure_of.ensures
+    c.ends_of.ensures c.row_of.ensures.entry c.row_of.ensures.ends c.in_ok-push.ensures.items all
 
 pub returns-clause-lines : goal.returns-clause-lines
 returns-clause-lines c = λ all.
