@@ -14,7 +14,7 @@ use Rattle.tb_log.specs.Lanes.{handed, handed_by, inputs, given_on}
 use Rattle.tb_bus.specs.Buses.{Bus}
 use Rattle.tb_tools.specs.Finding.{next_out}
 use Rattle.tb_core.specs.declared.answers.TakeOut.TheVariants as taken
-use Rattle.tb_core.specs.Cores.{HandOut, bus_now, entries_of, out_entry}
+use Rattle.tb_core.specs.Cores.{Call, HandOut, bus_now, entries_of, out_entry}
 use Rattle.tb_lock.specs.Rights.{has, right_to}
 use Rattle.tb_lock.specs.Seats.{SeatView}
 use Rattle.tb_lock.specs.Calls.{Called, IsTaken}
@@ -27,7 +27,7 @@ use Rattle.tb_run.proofs.ReadLemmas.{inputs_append}
 use Rattle.tb_run.proofs.SeatLemmas.{SeenLaw, AddedLaw, Refused, adds_none, adds_on, both_marks, marks_on, same_marks}
 use Rattle.tb_run.proofs.WriteLemmas.{bus_is, cut_count_append, takes_out}
 use Rattle.tb_pair.specs.Piping.{told_by, does}
-use Rattle.tb_pair.specs.Workers.{IsEarly, PipeEnds, Goes}
+use Rattle.tb_pair.specs.Workers.{IsEarly, PipeEnds, FullAfter, Goes}
 use Rattle.tb_pair.specs.Helpers.Settling.{EndsAs, Settles, settled}
 
 pub does_append : (log more : List Entry) → does (log ++ more) ≡ does log ++ does more
@@ -65,6 +65,10 @@ ends_by Refused Other seat end.Stopped so e = e
 ends_by Refused Other seat end.Full so e = so e
 ends_by Refused Other seat end.Failed so e = e
 ends_by Refused Other seat end.NoMemory so e = e
+
+-- a call for which the log had no capacity, after these entries
+pub full_after : (call : Call) (a b c : SeatView) (xs : List Entry) → Adds a b xs → FoundFull call b c → FullAfter call a c xs
+full_after call a b c xs adds full = record { mid = b; adds = adds; full = full }
 
 -- a worker that ends after nothing of its own
 pub ends_after : (Refused Other : Type 0) (a b c : SeatView) (it : WorkEnd) → (Refused → Other) → Adds a b [] → SameMarks a b → EndsAs Refused b c it → EndsAs Other a c it

@@ -27,7 +27,7 @@ use Rattle.tb_pair.specs.Helpers.Reading.{line_of, says_last, ReadsOn, EndsReadi
 use Rattle.tb_pair.specs.Workers.{IsEarly, Goes, ReaderFull, ReadsPipe, MayLack, WhyDown}
 use Rattle.tb_pair.specs.Helpers.Settling.{EndsAs, Settles}
 use Rattle.tb_pair.proofs.OnceLemmas.{once_none, once_one, once_behind, once_before, once_named}
-use Rattle.tb_pair.proofs.PipeLemmas.{goes_none, goes_on, goes_end, goes_after, goes_in, ends_by, ends_after, dropped_before, dropped_after, dropped_in, dropped_none, dropped_not}
+use Rattle.tb_pair.proofs.PipeLemmas.{full_after, goes_none, goes_on, goes_end, goes_after, goes_in, ends_by, ends_after, dropped_before, dropped_after, dropped_in, dropped_none, dropped_not}
 
 lines-append : (ts us : List Term) (leaves : Bool) → lines_of ts false ++ lines_of us leaves ≡ lines_of (ts ++ us) leaves
 lines-append [] us leaves = refl
@@ -221,9 +221,9 @@ lines_so told leaves last e = ap (λ (l : Bool). connect ∷ lines_of told l) e
 
 refused_so : (old mid new : SeatView) (xs : List Entry) (told : List Term) (gone : List Piece) (lost : List Term) (last leaves reads : Bool) → Adds old mid xs → (reads ≡ true → leaves ≡ false) → (reads ≡ true → HasDropped (is_of 1) xs → ⊥)
     → WhichLost gone lost last leaves reads → PieceFull mid new gone → ReaderFull old new xs (connect ∷ lines_of told leaves) told lost last
-refused_so old mid new xs told gone lost last leaves reads adds still let_in (inl (e, n, l)) f = inl (n, lines_so told leaves last l, found_on (HandOut 1) old mid new xs adds (subst (PieceFull mid new) e f))
-refused_so old mid new xs told gone lost last leaves reads adds still let_in (inr (inl (t, e, l, n, s))) f = inr (inr (inl (t, l, n, lines_so told leaves false (still s), let_in s, found_on (HandIn (event_of t)) old mid new xs adds (subst (PieceFull mid new) e f))))
-refused_so old mid new xs told gone lost last leaves reads adds still let_in (inr (inr (e, l, n, s))) f = inr (inr (inr (l, n, lines_so told leaves false (still s), let_in s, found_on (HandIn disconnect) old mid new xs adds (subst (PieceFull mid new) e f))))
+refused_so old mid new xs told gone lost last leaves reads adds still let_in (inl (e, n, l)) f = inl (n, lines_so told leaves last l, full_after (HandOut 1) old mid new xs adds (subst (PieceFull mid new) e f))
+refused_so old mid new xs told gone lost last leaves reads adds still let_in (inr (inl (t, e, l, n, s))) f = inr (inr (inl (t, l, n, lines_so told leaves false (still s), let_in s, full_after (HandIn (event_of t)) old mid new xs adds (subst (PieceFull mid new) e f))))
+refused_so old mid new xs told gone lost last leaves reads adds still let_in (inr (inr (e, l, n, s))) f = inr (inr (inr (l, n, lines_so told leaves false (still s), let_in s, full_after (HandIn disconnect) old mid new xs adds (subst (PieceFull mid new) e f))))
 
 pub dropped_here : (reply : Reply) → reply ≡ Dropped why.Down → HasDropped (is_of 1) (Fed connect reply ∷ [])
 dropped_here reply e = ([], connect, [], refl, ap (λ (r : Reply). Fed connect r ∷ []) e)

@@ -10,7 +10,7 @@ use Rattle.tb_core.specs.Cores.{HandIn, HandOut}
 use Rattle.tb_lock.specs.Seats.{SeatView}
 use Rattle.tb_run.specs.declared.ends.WorkEnd.{WorkEnd}
 use Rattle.tb_run.specs.Seats.{Adds, FoundFull, SameMarks}
-use Rattle.tb_run.proofs.SeatLemmas.{adds_none, found_on, marks_both, marks_none, marks_on}
+use Rattle.tb_run.proofs.SeatLemmas.{adds_none, marks_both, marks_none, marks_on}
 use Rattle.tb_pair.specs.declared.piece.Piece.{Piece}
 use Rattle.tb_pair.specs.declared.piece.Piece.TheVariants.{Told, Last}
 use Rattle.tb_pair.specs.Pieces.{pieces}
@@ -20,7 +20,7 @@ use Rattle.tb_pair.specs.Piping.{told_by, does, connect}
 use Rattle.tb_pair.specs.Workers.{IsEarly, Goes, WriterFull, WritesPipe}
 use Rattle.tb_pair.specs.Helpers.Settling.{EndsAs}
 use Rattle.tb_pair.specs.Helpers.Writing.{WritesOn, EndsWriting, Wrote, Written, PassesOn}
-use Rattle.tb_pair.proofs.PipeLemmas.{does_append, goes_on, goes_end, goes_in, goes_out, ends_by}
+use Rattle.tb_pair.proofs.PipeLemmas.{does_append, full_after, goes_on, goes_end, goes_in, goes_out, ends_by}
 
 pub nothing_on : (old new : SeatView) (sent : List Piece) (flows : Bool) → Adds old new [] → SameMarks old new → WritesOn old new sent sent flows flows
 nothing_on old new sent flows adds marks = record {
@@ -96,7 +96,7 @@ written_on old mid new reply s0 s1 flows flows' it adds same w =
       sent = w.on.sent;
       whole = w.on.whole;
       marks = marks_on old w.mid new it (marks_both old mid w.mid same w.on.marks) w.ends.marks;
-      ends = ends_by (FoundFull (HandOut 1) w.mid new) (WriterFull old new (connect ∷ [])) new it (λ f. inl (refl, found_on (HandOut 1) old w.mid new (Fed connect reply ∷ w.on.more) on.adds f)) w.ends.ends;
+      ends = ends_by (FoundFull (HandOut 1) w.mid new) (WriterFull old new (Fed connect reply ∷ w.on.more) (connect ∷ [])) new it (λ f. inl (refl, full_after (HandOut 1) old w.mid new (Fed connect reply ∷ w.on.more) on.adds f)) w.ends.ends;
     }
 
 -- the line was refused
@@ -114,7 +114,7 @@ written_none old new sent flows it e =
       sent = sym (append-nil sent);
       whole = λ h. refl;
       marks = e.0.marks;
-      ends = ends_by (FoundFull (HandIn connect) old new) (WriterFull old new []) new it (λ f. inr (refl, f)) e.0.ends;
+      ends = ends_by (FoundFull (HandIn connect) old new) (WriterFull old new [] []) new it (λ f. inr (refl, f)) e.0.ends;
     }
 
 pub wrote_none : (seat : SeatView) (sent : List Piece) (flows : Bool) → WritesOn seat seat sent sent flows flows

@@ -8,7 +8,8 @@ use Rattle.tb_run.specs.declared.ends.WorkEnd.TheVariants as end
 use Rattle.tb_run.specs.Dropping.{AreLetIn, HasDropped}
 use Rattle.tb_run.specs.Workers.{IsNoTicks, LetIn}
 
--- One of the two logs, for a clock that gave so many ticks. `Failed` is what a failure of the clock shows, and `Early` is what an early end at this bus shows. With the empty type, there was none.
+-- One of the two logs, for a clock that gave so many ticks. `Failed` is what a failure of the clock shows, and `Early` is what an early
+-- end at this bus shows. With the empty type, there was none.
 pub record TimePasses (log : List Entry) (most given : ℕ) (ended : Bool) (Failed Early : Type 0) : Type 0 where
   pub within : ticks log ≤ given
   -- all were delivered, or a tick was dropped because the bus had shut down

@@ -1,4 +1,5 @@
--- What a log shows of a pipe that serves lane 1 of its bus: the terms of the tool's `rec-do` lines, its events, and the lines of a tool that sends just such events.
+-- What a log shows of a pipe that serves lane 1 of its bus: the terms of the tool's `rec-do` lines, its events, and the lines of a tool
+-- that sends just such events.
 use Rattle.std.specs.Prelude.{Bool, true, false, List, [], ◌∷◌, Option, Some, None, if◌then◌else◌, codes}
 use Rattle.std.specs.List.{filter_map}
 use Rattle.std.specs.Str.{bytes_eq}

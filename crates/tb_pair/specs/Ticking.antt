@@ -1,4 +1,5 @@
--- What one tick worker of two buses has done once it ends: which of the clock's ticks each bus received, and whether the worker reported to the bus that no more come.
+-- What one tick worker of two buses has done once it ends: which of the clock's ticks each bus received, and whether the worker reported
+-- to the bus that no more come.
 use Rattle.std.specs.Prelude.{◌≡◌, ◌≤◌, ◌<◌, ◌+◌, ◌⊎◌, ℕ, Bool, true, List, [], ◌++◌, length, Option}
 use Rattle.atomic_table.specs.Seated.{TableId}
 use Rattle.tb_edge.specs.Faults.{Rose}
@@ -22,7 +23,8 @@ pub record CanTick (bus : TableId) (seat : SeatView) : Type 0 where
   pub own : seat.bus ≡ bus
   pub right : has seat.rights ToTick ≡ true
 
--- How a bus ends that received so many of the clock's ticks; these entries follow the ticks. `Cause` is the cause for which no more ticks come.
+-- How a bus ends that received so many of the clock's ticks; these entries follow the ticks. `Cause` is the cause for which no more ticks
+-- come.
 abbrev pub TicksEnd : Type 0 → List Entry → SeatView → SeatView → ℕ → ℕ → WorkEnd → Type 0
 -- it received all of them, and then that no more come
 TicksEnd Cause tail old new count given end.Over = IsNoTicks tail × (count ≡ given)
@@ -59,7 +61,8 @@ IsCut end.NoMemory = Unit {0}
 abbrev pub GetsTicks : WorkEnd → WorkEnd → Type 0
 GetsTicks wanted it = (it ≡ wanted) ⊎ IsEarly it
 
--- Why no more ticks come: the clock has ended, the limit of ticks is reached, or the clock failed; or neither bus receives any more. The clock is read only while a bus receives ticks.
+-- Why no more ticks come: the clock has ended, the limit of ticks is reached, or the clock failed; or neither bus receives any more. The
+-- clock is read only while a bus receives ticks.
 abbrev pub WhyEnds : WorkEnd → ℕ → ℕ → Bool → ℕ → ℕ → WorkEnd → WorkEnd → Type 0
 WhyEnds end.Over most given ended old new one other = (new ≡ old) × (((ended ≡ true) × (GetsTicks end.Over one ⊎ GetsTicks end.Over other)) ⊎ (given ≡ most))
 WhyEnds end.Failed most given ended old new one other = Rose old new × (GetsTicks end.Failed one ⊎ GetsTicks end.Failed other)
@@ -76,7 +79,8 @@ WhyNoMore most given ended old new = (ended ≡ true) ⊎ (Rose old new ⊎ (giv
 abbrev pub GotAll : ℕ → ℕ → WorkEnd → Type 0
 GotAll count given it = (count ≡ given) ⊎ ((count + 1 ≡ given) × IsEarly it)
 
--- `pair_ticker`: the clock gave so many ticks, and perhaps ended. Each bus received all of them and then the notice that no more come; or it received fewer, because it had shut down or refused a call, or memory ran out.
+-- `pair_ticker`: the clock gave so many ticks, and perhaps ended. Each bus received all of them and then the notice that no more come; or
+-- it received fewer, because it had shut down or refused a call, or memory ran out.
 pub record TicksPair (most : ℕ) (one one_new other other_new : SeatView) (told_old told_new : Option ClockView) (faults_old faults_new : ℕ) (it others : WorkEnd) : Type 0 where
   pub given : ℕ
   pub ended : Bool

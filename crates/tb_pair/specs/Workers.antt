@@ -1,4 +1,5 @@
--- What each of the two workers of a pipe has done once it ends, by what its seat has seen, and by the pieces that its end of the pipe sent or received in the call.
+-- What each of the two workers of a pipe has done once it ends, by what its seat has seen, and by the pieces that its end of the pipe
+-- sent or received in the call.
 use Rattle.std.specs.Prelude.{◌≡◌, ◌⊎◌, Bool, true, false, List, [], ◌∷◌, ◌++◌, None}
 use Rattle.tb_terms.specs.declared.term.Term.{Term}
 use Rattle.tb_log.specs.declared.entry.Input.{Input}
@@ -9,7 +10,7 @@ use Rattle.tb_log.specs.declared.entry.Entry.{Entry}
 use Rattle.tb_log.specs.declared.entry.Entry.TheVariants.{Fed}
 use Rattle.tb_log.specs.Lanes.{inputs}
 use Rattle.tb_tools.specs.Finding.{next_out}
-use Rattle.tb_core.specs.Cores.{HandIn, HandOut}
+use Rattle.tb_core.specs.Cores.{Call, HandIn, HandOut}
 use Rattle.tb_lock.specs.Seats.{SeatView}
 use Rattle.tb_run.specs.declared.ends.WorkEnd.{WorkEnd}
 use Rattle.tb_run.specs.declared.ends.WorkEnd.TheVariants as end
@@ -40,17 +41,42 @@ PipeEnds Refused new end.Full = Refused
 PipeEnds Refused new end.Failed = ⊥
 PipeEnds Refused new end.NoMemory = Unit {0}
 
--- The log had no capacity for the next queued item, once the tool has connected, or for the connect request of the tool, which is then missing.
-abbrev pub WriterFull : SeatView → SeatView → List Input → Type 0
-WriterFull old new given = ((given ≡ connect ∷ []) × FoundFull (HandOut 1) old new) ⊎ ((given ≡ []) × FoundFull (HandIn connect) old new)
+-- The seat adds these entries. At some place after them, the log has no capacity for this call. `mid` is the seat after these entries.
+pub record FullAfter (call : Call) (old new : SeatView) (more : List Entry) : Type 0 where
+  pub mid : SeatView
+  pub adds : Adds old mid more
+  pub full : FoundFull call mid new
 
--- The same for the reader: if it was the next queued item, an input was delivered for each received piece. Or it was the event of the term that was received last, or, once no more pieces come, the disconnect request. These are then missing, and none of its inputs was dropped because the bus had shut down.
+-- The log has no capacity for the connect request. This request is missing.
+abbrev pub ConnectFull : SeatView → SeatView → List Input → Type 0
+ConnectFull old new given = (given ≡ []) × FoundFull (HandIn connect) old new
+
+-- The log has no capacity for the next queued item, at some place after all entries of the writer, so also after its connect request.
+abbrev pub ItemFull : SeatView → SeatView → List Entry → List Input → Type 0
+ItemFull old new more given = (given ≡ connect ∷ []) × FullAfter (HandOut 1) old new more
+
+-- The writer finds the log full for the next queued item, or for the connect request.
+abbrev pub WriterFull : SeatView → SeatView → List Entry → List Input → Type 0
+WriterFull old new more given = ItemFull old new more given ⊎ ConnectFull old new given
+
+-- The log has no capacity for the next queued item, at some place after all entries of the reader, so also after its connect request. These
+-- entries have an input for each received piece.
+abbrev pub DropFull : SeatView → SeatView → List Entry → List Input → List Term → List Term → Bool → Type 0
+DropFull old new more given told lost last = (lost ≡ []) × (given ≡ connect ∷ lines_of told last) × FullAfter (HandOut 1) old new more
+
+-- The log has no capacity for the event of the term that the reader receives last, at some place after all entries of the reader. None of
+-- its inputs is dropped because the bus has shut down.
+abbrev pub EventFull : SeatView → SeatView → List Entry → List Input → List Term → List Term → Bool → Type 0
+EventFull old new more given told lost last = (t : Term) × (lost ≡ t ∷ []) × (last ≡ false) × (given ≡ connect ∷ lines_of told false) × (HasDropped (is_of 1) more → ⊥) × FullAfter (HandIn (event_of t)) old new more
+
+-- The reader receives the last piece, and the log has no capacity for the disconnect request, at some place after all entries of the
+-- reader. None of its inputs is dropped because the bus has shut down.
+abbrev pub LeaveFull : SeatView → SeatView → List Entry → List Input → List Term → List Term → Bool → Type 0
+LeaveFull old new more given told lost last = (last ≡ true) × (lost ≡ []) × (given ≡ connect ∷ lines_of told false) × (HasDropped (is_of 1) more → ⊥) × FullAfter (HandIn disconnect) old new more
+
+-- The reader finds the log full for the next queued item, or for one of its inputs.
 abbrev pub ReaderFull : SeatView → SeatView → List Entry → List Input → List Term → List Term → Bool → Type 0
-ReaderFull old new more given told lost last =
-    ((lost ≡ []) × (given ≡ connect ∷ lines_of told last) × FoundFull (HandOut 1) old new)
-    ⊎ (((given ≡ []) × FoundFull (HandIn connect) old new)
-    ⊎ (((t : Term) × (lost ≡ t ∷ []) × (last ≡ false) × (given ≡ connect ∷ lines_of told false) × (HasDropped (is_of 1) more → ⊥) × FoundFull (HandIn (event_of t)) old new)
-    ⊎ ((last ≡ true) × (lost ≡ []) × (given ≡ connect ∷ lines_of told false) × (HasDropped (is_of 1) more → ⊥) × FoundFull (HandIn disconnect) old new)))
+ReaderFull old new more given told lost last = DropFull old new more given told lost last ⊎ (ConnectFull old new given ⊎ (EventFull old new more given told lost last ⊎ LeaveFull old new more given told lost last))
 
 -- A worker of a pipe that adds these entries: their inputs of lane 1 are these, and none reports that an item couldn't be written.
 pub record Goes (old new : SeatView) (more : List Entry) (given : List Input) : Type 0 where
@@ -66,7 +92,8 @@ NamesFirst more = (more ≡ []) ⊎ ((reply : Reply) × (rest : List Entry) × (
 abbrev pub StopsWhereDropped : List Entry → Type 0
 StopsWhereDropped log = (before : List Entry) (it : Input) (after : List Entry) → is_of 1 it ≡ true → log ≡ before ++ Fed it (Dropped why.Down) ∷ after → inputs after 1 ≡ []
 
--- `pipe_writer`: its end has sent a prefix of the terms of the tool's `rec-do` lines. If it has sent that nothing more comes, the prefix is the whole.
+-- `pipe_writer`: its end has sent a prefix of the terms of the tool's `rec-do` lines. If it has sent that nothing more comes, the prefix
+-- is the whole.
 pub record WritesPipe (old new : SeatView) (sent_old sent_new : List Piece) (it : WorkEnd) : Type 0 where
   pub more : List Entry
   pub given : List Input
@@ -81,13 +108,14 @@ pub record WritesPipe (old new : SeatView) (sent_old sent_new : List Piece) (it 
   pub sent : sent_new ≡ sent_old ++ pieces front last
   pub whole : last ≡ true → rest ≡ []
   pub marks : Marks old new it
-  pub ends : PipeEnds (WriterFull old new given) new it
+  pub ends : PipeEnds (WriterFull old new more given) new it
 
 -- no term was received and not delivered, or one: then no piece was received after it
 abbrev pub LacksOne : List Term → Bool → Type 0
 LacksOne lost last = (lost ≡ []) ⊎ ((t : Term) × (lost ≡ t ∷ []) × (last ≡ false))
 
--- What was received and not delivered. If the bus has shut down: no term, and the tool has left if the last piece was received. At an early end: one term at most.
+-- What was received and not delivered. If the bus has shut down: no term, and the tool has left if the last piece was received. At an
+-- early end: one term at most.
 abbrev pub MayLack : WorkEnd → List Term → Bool → Bool → Type 0
 MayLack end.Over lost last leaves = ⊥
 MayLack end.Down lost last leaves = (lost ≡ []) × (last ≡ leaves)
@@ -96,7 +124,8 @@ MayLack end.Full lost last leaves = LacksOne lost last
 MayLack end.Failed lost last leaves = ⊥
 MayLack end.NoMemory lost last leaves = LacksOne lost last
 
--- a worker that ends because its bus has shut down has read to the end: the tool has left, or an input of its lane was dropped because the bus had shut down
+-- a worker that ends because its bus has shut down has read to the end: the tool has left, or an input of its lane was dropped because
+-- the bus had shut down
 abbrev pub WhyDown : WorkEnd → Bool → List Entry → Type 0
 WhyDown end.Over leaves more = ⊥
 WhyDown end.Down leaves more = (leaves ≡ true) ⊎ HasDropped (is_of 1) more
@@ -105,7 +134,8 @@ WhyDown end.Full leaves more = Unit {0}
 WhyDown end.Failed leaves more = ⊥
 WhyDown end.NoMemory leaves more = Unit {0}
 
--- `pipe_reader`: the events of its seat are the terms that its end received, except the last at an early end. The tool leaves only if its end received that nothing more comes.
+-- `pipe_reader`: the events of its seat are the terms that its end received, except the last at an early end. The tool leaves only if its
+-- end received that nothing more comes.
 pub record ReadsPipe (old new : SeatView) (got_old got_new : List Piece) (it : WorkEnd) : Type 0 where
   pub more : List Entry
   pub given : List Input

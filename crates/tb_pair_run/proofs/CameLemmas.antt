@@ -41,19 +41,20 @@ use Rattle.tb_pair.specs.Jobs.{CanServe}
 use Rattle.tb_pair.specs.Passing.{IsPartOf, Passes}
 use Rattle.tb_pair.specs.Piping.{connect, disconnect, does, event_in, event_of, events, lines_of}
 use Rattle.tb_pair.specs.Ticking.{CanTick, GetsTicks, IsCut, TicksPair, TicksSeat, WhyEnds, WhyNoMore}
-use Rattle.tb_pair.specs.Workers.{IsEarly, PipeEnds, ReaderFull, ReadsPipe, WriterFull, WritesPipe}
+use Rattle.tb_pair.specs.Workers.{FullAfter, IsEarly, PipeEnds, ReaderFull, ReadsPipe, WriterFull, WritesPipe}
 use Rattle.tb_pair.proofs.PassLemmas.{does_own, own_is, passes}
 use Rattle.tb_pair.proofs.PieceLemmas.{StandFirst, stand_first}
 use Rattle.tb_pair.proofs.TimeLemmas.{count_is, rose_of, time, times}
 use Rattle.tb_pair_run.specs.Helpers.Reasons.{bus_why, of_refusals, of_ticks, pair_why}
 use Rattle.tb_pair_run.specs.Helpers.Running.{HasCome}
 use Rattle.tb_pair_run.specs.Outcomes.{BothRan, BusOutcome, Early, PairOutcome, SomeStopped, TellsFirst, of_both}
-use Rattle.tb_pair_run.specs.Refusals.{BusRefused, ReaderRefused, TickRefused, WriterRefused}
+use Rattle.tb_pair_run.specs.Refusals.{BusRefused, NoRoomAfterInputs, ReaderRefused, TickRefused, WriterRefused}
 use Rattle.tb_pair_run.specs.Views.{IsUnused, PairView, pair_of}
 use Rattle.tb_pair_run.specs.declared.ends.BusWhy.{BusWhy}
 use Rattle.tb_pair_run.specs.declared.ends.BusWhy.TheVariants as bus
 use Rattle.tb_pair_run.specs.declared.ends.PairWhy.{PairWhy}
 use Rattle.tb_pair_run.specs.declared.ends.PairWhy.TheVariants as pair
+use Rattle.tb_pair_run.proofs.RoomLemmas.{no_room_after}
 use Rattle.tb_pair_run.proofs.SideLemmas.{SideCame, SideEnded}
 
 -- a worker that came to its end had no early one
@@ -120,6 +121,10 @@ events_full false false e = absurd cc
 abbrev NoRoom : SeatView → SeatView → SeatView → Type 0
 NoRoom begun done last = (call : Call) → FoundFull call begun done → HadNoRoom call last.origin last.seen
 
+-- and one that found no room after entries that have all inputs of lane 1
+abbrev NoRoomAfter : SeatView → SeatView → SeatView → Type 0
+NoRoomAfter begun done last = (call : Call) (more : List Entry) → inputs last.seen 1 ≡ inputs more 1 → FullAfter call begun done more → NoRoomAfterInputs call last.origin last.seen
+
 -- who was refused of the ticker
 module _ (most : ℕ) (begun done last : SeatView) (bus : TableId) (clock_old clock_new : Option ClockView) (faults_old faults_new given : ℕ) (ended : Bool) (told : clock_new ≡ and_ticked clock_old given ended) (high : given ≤ most)
     (t : TicksSeat (WhyNoMore most given ended faults_old faults_new) begun done given end.Full) (can : CanTick bus begun) (part : IsPartOf begun done last) (found : NoRoom begun done last) where
@@ -151,14 +156,14 @@ module _ (most : ℕ) (begun done last : SeatView) (bus : TableId) (clock_old cl
   tick_refused = by_ticker t.ends.1
 
 -- who was refused of the worker that writes the pipe
-writer_refused : (bus : TableId) (begun done last : SeatView) (sent : List Piece) → (w : WritesPipe begun done [] sent end.Full) → CanServe bus begun → IsPartOf begun done last → NoRoom begun done last → WriterRefused last.origin last.seen
-writer_refused bus begun done last sent w can part found = go w.ends
+writer_refused : (bus : TableId) (begun done last : SeatView) (sent : List Piece) → (w : WritesPipe begun done [] sent end.Full) → CanServe bus begun → IsPartOf begun done last → NoRoom begun done last → NoRoomAfter begun done last → WriterRefused last.origin last.seen
+writer_refused bus begun done last sent w can part found found_after = go w.ends
   where
     write_inputs : inputs last.seen 1 ≡ w.given
     write_inputs = sym (inputs_own begun.rights 1 can.reads last.seen) ∙ (ap (λ (l : List Entry). inputs l 1) (own_is begun done last w.more part w.goes.adds) ∙ w.goes.given_are)
 
-    go : WriterFull begun done w.given → WriterRefused last.origin last.seen
-    go (inl f) = inl (write_inputs ∙ f.0, found (HandOut 1) f.1)
+    go : WriterFull begun done w.more w.given → WriterRefused last.origin last.seen
+    go (inl f) = inl (write_inputs ∙ f.0, found_after (HandOut 1) w.more (write_inputs ∙ sym w.goes.given_are) f.1)
     go (inr f) = inr (write_inputs ∙ f.0, found (HandIn connect) f.1)
 
 -- the right for an input of a lane is that of the lane
@@ -194,7 +199,7 @@ own_dropped lane rights there (x ∷ log) d = at (own_dropped lane rights there 
 
 -- and of the one that reads it
 module _ (bus others_bus : TableId) (begun done last others_begun others_done others_last : SeatView) (sent got known : List Piece) (writer : WorkEnd) (w : WritesPipe begun done [] sent writer) (r : ReadsPipe others_begun others_done [] got end.Full)
-    (met : got ++ known ≡ sent) (can : CanServe bus begun) (part : IsPartOf begun done last) (others_can : CanServe others_bus others_begun) (others_part : IsPartOf others_begun others_done others_last) (found : NoRoom others_begun others_done others_last) where
+    (met : got ++ known ≡ sent) (can : CanServe bus begun) (part : IsPartOf begun done last) (others_can : CanServe others_bus others_begun) (others_part : IsPartOf others_begun others_done others_last) (found : NoRoom others_begun others_done others_last) (found_after : NoRoomAfter others_begun others_done others_last) where
   read_inputs : inputs others_last.seen 1 ≡ r.given
   read_inputs = sym (inputs_own others_begun.rights 1 others_can.reads others_last.seen) ∙ (ap (λ (l : List Entry). inputs l 1) (own_is others_begun others_done others_last r.more others_part r.goes.adds) ∙ r.goes.given_are)
 
@@ -224,11 +229,14 @@ module _ (bus others_bus : TableId) (begun done last others_begun others_done ot
   let_in : (HasDropped (is_of 1) r.more → ⊥) → HasDropped (is_of 1) others_last.seen → ⊥
   let_in n d = n (subst (HasDropped (is_of 1)) (own_is others_begun others_done others_last r.more others_part r.goes.adds) (own_dropped 1 others_begun.rights others_can.reads others_last.seen d))
 
+  behind : (call : Call) → FullAfter call others_begun others_done r.more → NoRoomAfterInputs call others_last.origin others_last.seen
+  behind call full = found_after call r.more (read_inputs ∙ sym r.goes.given_are) full
+
   by_reader : ReaderFull others_begun others_done r.more r.given r.told r.lost r.last → ReaderRefused last.seen others_last.origin others_last.seen
-  by_reader (inl f) = inl (r.last, lines r.last f.1, found (HandOut 1) f.2)
+  by_reader (inl f) = inl (r.last, lines r.last f.1, behind (HandOut 1) f.2)
   by_reader (inr (inl f)) = inr (inl (read_inputs ∙ f.0, found (HandIn connect) f.1))
-  by_reader (inr (inr (inl f))) = inr (inr (inl (record { next = f.0; rest = first.more ++ w.rest; is = next f.0 f.1; lines = lines false f.3; let_in = let_in f.4; no_room = found (HandIn (event_of f.0)) f.5 })))
-  by_reader (inr (inr (inr f))) = inr (inr (inr (record { all = whole f.0 f.1; lines = lines false f.2; let_in = let_in f.3; no_room = found (HandIn disconnect) f.4 })))
+  by_reader (inr (inr (inl f))) = inr (inr (inl (record { next = f.0; rest = first.more ++ w.rest; is = next f.0 f.1; lines = lines false f.3; let_in = let_in f.4; no_room = behind (HandIn (event_of f.0)) f.5 })))
+  by_reader (inr (inr (inr f))) = inr (inr (inr (record { all = whole f.0 f.1; lines = lines false f.2; let_in = let_in f.3; no_room = behind (HandIn disconnect) f.4 })))
 
   reader_refused : ReaderRefused last.seen others_last.origin others_last.seen
   reader_refused = by_reader r.ends
@@ -286,14 +294,14 @@ bus_full Pipe most lanes lanes' clock_old clock_new Failed origin log f (inr (in
 bus_full Pipe most lanes lanes' clock_old clock_new Failed origin log f (inr (inr (inr (inr s)))) = (MakeStep, s)
 
 writer_full : (origin : Origin) (log : List Entry) → WriterRefused origin log → WasFull origin log
-writer_full origin log (inl r) = (HandOut 1, r.1)
+writer_full origin log (inl r) = (HandOut 1, r.1.no_room)
 writer_full origin log (inr r) = (HandIn connect, r.1)
 
 reader_full : (one : List Entry) (origin : Origin) (log : List Entry) → ReaderRefused one origin log → WasFull origin log
-reader_full one origin log (inl r) = (HandOut 1, r.2)
+reader_full one origin log (inl r) = (HandOut 1, r.2.no_room)
 reader_full one origin log (inr (inl r)) = (HandIn connect, r.1)
-reader_full one origin log (inr (inr (inl r))) = (HandIn (event_of r.next), r.no_room)
-reader_full one origin log (inr (inr (inr r))) = (HandIn disconnect, r.no_room)
+reader_full one origin log (inr (inr (inl r))) = (HandIn (event_of r.next), r.no_room.no_room)
+reader_full one origin log (inr (inr (inr r))) = (HandIn disconnect, r.no_room.no_room)
 
 -- a worker that serves the pipe and came to its end found its bus down, and nothing left on its lane
 pipe_down : (R : Type 0) (seat : SeatView) (it : WorkEnd) → CameToEnd it → PipeEnds R seat it → (next_out 1 (bus_of seat).bench ≡ None) × ((bus_of seat).down ≡ true)
@@ -413,6 +421,12 @@ module _ (law : LaterLaw) (most : ℕ) (olds news others_olds others_news : List
   others_pipe_found : NoRoom others_pipe_begun others_pipe_done others_last
   others_pipe_found call full = no_room call others_pipe_begun others_pipe_done others_last f.other.pipe_origin f.other.pipe_kept full
 
+  pipe_found_after : NoRoomAfter pipe_begun pipe_done last
+  pipe_found_after call more all full = no_room_after one_bus call pipe_begun pipe_done last more f.can f.one.pipe_part.fresh f.one.pipe_origin f.one.pipe_kept all full
+
+  others_pipe_found_after : NoRoomAfter others_pipe_begun others_pipe_done others_last
+  others_pipe_found_after call more all full = no_room_after others_bus call others_pipe_begun others_pipe_done others_last more f.others_can f.other.pipe_part.fresh f.other.pipe_origin f.other.pipe_kept all full
+
   tick_found : NoRoom tick_begun tick_done last
   tick_found call full = no_room call tick_begun tick_done last f.one.tick_origin f.one.tick_kept full
 
@@ -420,12 +434,12 @@ module _ (law : LaterLaw) (most : ℕ) (olds news others_olds others_news : List
   others_tick_found call full = no_room call others_tick_begun others_tick_done others_last f.other.tick_origin f.other.tick_kept full
 
   writer_so : writer ≡ end.Full → Pipe
-  writer_so e = writer_refused one_bus pipe_begun pipe_done last sent (subst (WritesPipe pipe_begun pipe_done [] sent) e f.wrote) f.can f.one.pipe_part pipe_found
+  writer_so e = writer_refused one_bus pipe_begun pipe_done last sent (subst (WritesPipe pipe_begun pipe_done [] sent) e f.wrote) f.can f.one.pipe_part pipe_found pipe_found_after
 
   reader_so : reader ≡ end.Full → OthersPipe
   reader_so e =
       reader_refused one_bus others_bus pipe_begun pipe_done last others_pipe_begun others_pipe_done others_last sent got known writer f.wrote (subst (ReadsPipe others_pipe_begun others_pipe_done [] got) e f.read) f.met
-      f.can f.one.pipe_part f.others_can f.other.pipe_part others_pipe_found
+      f.can f.one.pipe_part f.others_can f.other.pipe_part others_pipe_found others_pipe_found_after
 
   abbrev Cause : Type 0
   Cause = WhyNoMore most f.ticks_are.given f.ticks_are.ended faults_old faults_new
@@ -487,16 +501,16 @@ module _ (law : LaterLaw) (most : ℕ) (olds news others_olds others_news : List
 
       both : (Failed : Type 0) → (f.ticks_are.wanted ≡ end.Failed → Failed) → (why others_why : BusWhy) → bus_why writer tick ends ≡ why → bus_why reader others_tick others_ends ≡ others_why → BothRan most Old New Known OthersKnown why others_why Failed
       both Failed fails why others_why e others_e = record {
-        first = by_why law First lane lane' unused olds news begun last pipe_begun pipe_done tick_begun tick_done writer tick ends f.one core closes seen_few (WriterFull pipe_begun pipe_done f.wrote.given) f.wrote.ends first_refused first_full why e;
+        first = by_why law First lane lane' unused olds news begun last pipe_begun pipe_done tick_begun tick_done writer tick ends f.one core closes seen_few (WriterFull pipe_begun pipe_done f.wrote.more f.wrote.given) f.wrote.ends first_refused first_full why e;
         second = by_why law Second other other' others_unused others_olds others_news others_begun others_last others_pipe_begun others_pipe_done others_tick_begun others_tick_done reader others_tick others_ends f.other others_core others_closes others_seen_few
             (ReaderFull others_pipe_begun others_pipe_done f.read.more f.read.given f.read.told f.read.lost f.read.last) f.read.ends second_refused second_full others_why others_e;
         pipe = passes_by last.seen others_last.seen (IsEarly writer) (IsEarly reader) (Early why) (Early others_why)
-            (pipe_early law First lane lane' unused olds news begun last pipe_begun pipe_done tick_begun tick_done writer tick ends f.one core closes seen_few (WriterFull pipe_begun pipe_done f.wrote.given) f.wrote.ends first_refused first_full why e)
+            (pipe_early law First lane lane' unused olds news begun last pipe_begun pipe_done tick_begun tick_done writer tick ends f.one core closes seen_few (WriterFull pipe_begun pipe_done f.wrote.more f.wrote.given) f.wrote.ends first_refused first_full why e)
             (pipe_early law Second other other' others_unused others_olds others_news others_begun others_last others_pipe_begun others_pipe_done others_tick_begun others_tick_done reader others_tick others_ends f.other others_core others_closes others_seen_few
             (ReaderFull others_pipe_begun others_pipe_done f.read.more f.read.given f.read.told f.read.lost f.read.last) f.read.ends second_refused second_full others_why others_e)
             passed;
         clock = clock_by most last.seen others_last.seen clock_old clock_new Failed (IsEarly tick) (IsEarly others_tick) (Early why) (Early others_why)
-            (tick_early law First lane lane' unused olds news begun last pipe_begun pipe_done tick_begun tick_done writer tick ends f.one core closes seen_few (WriterFull pipe_begun pipe_done f.wrote.given) f.wrote.ends first_refused first_full why e)
+            (tick_early law First lane lane' unused olds news begun last pipe_begun pipe_done tick_begun tick_done writer tick ends f.one core closes seen_few (WriterFull pipe_begun pipe_done f.wrote.more f.wrote.given) f.wrote.ends first_refused first_full why e)
             (tick_early law Second other other' others_unused others_olds others_news others_begun others_last others_pipe_begun others_pipe_done others_tick_begun others_tick_done reader others_tick others_ends f.other others_core others_closes others_seen_few
             (ReaderFull others_pipe_begun others_pipe_done f.read.more f.read.given f.read.told f.read.lost f.read.last) f.read.ends second_refused second_full others_why others_e)
             (timed Failed fails);

@@ -174,7 +174,7 @@ one_more [] = refl
 one_more (t ∷ ts) = let rest = one_more ts in omega (arith, rest)
 
 not_writer : (origin : Origin) (log others : List Entry) → Passes log others ⊥ ⊥ → (HadNoRoom (HandOut 1) origin log → ⊥) → WriterRefused origin log → ⊥
-not_writer origin log others passes never (inl out) = never out.1
+not_writer origin log others passes never (inl out) = never out.1.no_room
 not_writer origin log others passes never (inr name) = go passes.names
   where
     go : (inputs log 1 ≡ connect ∷ []) ⊎ ((inputs log 1 ≡ []) × ⊥) → ⊥
@@ -182,7 +182,7 @@ not_writer origin log others passes never (inr name) = go passes.names
     go (inr it) = it.1
 
 not_reader : (one : List Entry) (origin : Origin) (log : List Entry) → Passes one log ⊥ ⊥ → (HadNoRoom (HandOut 1) origin log → ⊥) → ReaderRefused one origin log → ⊥
-not_reader one origin log passes never (inl out) = never out.2
+not_reader one origin log passes never (inl out) = never out.2.no_room
 not_reader one origin log passes never (inr (inl name)) = go passes.others_names
   where
     go : (inputs log 1 ≡ connect ∷ lines_of (events log) passes.leaves) ⊎ ((inputs log 1 ≡ []) × (passes.leaves ≡ false) × ⊥) → ⊥

@@ -2,6 +2,7 @@ pub mod PartLemmas
 pub mod SendLemmas
 pub mod TeamLemmas
 pub mod SideLemmas
+pub mod RoomLemmas
 pub mod CameLemmas
 pub mod IdleLemmas
 pub mod BackLemmas

@@ -1,4 +1,5 @@
--- What two buses that ran as a pair have done once they end: over the logs of the cores that are handed back, and what the outside gave and took in the call.
+-- What two buses that ran as a pair have done once they end: over the logs of the cores that are handed back, and what the outside gave
+-- and took in the call.
 use Rattle.std.specs.Prelude.{◌≡◌, ◌≤◌, ℕ, List, [], length, IsTrue, ⊤}
 use Rattle.std.specs.List.{list_all}
 use Rattle.tb_edge.specs.Faults.{Rose}
@@ -35,7 +36,8 @@ pub record IsLogOf (origin : Origin) (back : CoreState) : Type 0 where
 abbrev pub BusOutcome : Type 0 → List LaneView → List LaneView → CoreState → BusWhy → Type 0
 -- to its end: it is down, and nothing is left to be handed out
 BusOutcome Refused old new back bus.Ended = EachFromTwo (LaneRan back.log) old new × IsDone (replay (start back.origin) back.log)
--- it was stopped, since its log was full: a call on it was refused for that; and the log has all entries that it may have, or it is so large that an entry might not fit
+-- it was stopped, since its log was full: a call on it was refused for that; and the log has all entries that it may have, or it is so
+-- large that an entry might not fit
 BusOutcome Refused old new back bus.Events = EachFromTwo (LaneStopped back.log) old new × IsAtLimit (largest_command back.origin) back.origin back.log × Refused
 -- it was stopped, since memory ran out
 BusOutcome Refused old new back bus.NoMemory = EachFromTwo (LaneStopped back.log) old new
@@ -46,7 +48,8 @@ Early bus.Ended = ⊥
 Early bus.Events = ⊤
 Early bus.NoMemory = ⊤
 
--- Both buses, which ran beside each other and ended for these reasons, each for its own; what the pipe passed on between them; and the clock. `Failed` says what a failure of the clock shows.
+-- Both buses, which ran beside each other and ended for these reasons, each for its own; what the pipe passed on between them; and the
+-- clock. `Failed` says what a failure of the clock shows.
 pub record BothRan (most : ℕ) (old new : PairView) (back others_back : CoreState) (why others_why : BusWhy) (Failed : Type 0) : Type 0 where
   pub first : BusOutcome (BusRefused (WriterRefused back.origin back.log) most old.lanes new.lanes old.clock new.clock (Rose old.clock_faults new.clock_faults) back.origin back.log) old.lanes new.lanes back why
   pub second :
@@ -62,7 +65,8 @@ of_both bus.Events bus.Events = bus.Events
 of_both bus.Events bus.Ended = bus.Events
 of_both bus.Ended others_why = others_why
 
--- Both buses ended, one of them or both for this reason. A bus that finds its log full or no memory is stopped alone: the other one ended for a reason of its own.
+-- Both buses ended, one of them or both for this reason. A bus that finds its log full or no memory is stopped alone: the other one ended
+-- for a reason of its own.
 pub record SomeStopped (most : ℕ) (old new : PairView) (back others_back : CoreState) (it : BusWhy) : Type 0 where
   pub why : BusWhy
   pub others_why : BusWhy
@@ -77,7 +81,8 @@ pub record NothingDone (old new : PairView) (back others_back : CoreState) : Typ
   pub others : EachFromTwo IsSame old.others new.others
   pub clock : new.clock ≡ old.clock
 
--- How a pair ends, by its answer: the number of ticks that there may be, what was to be seen of the outside before and after, and the cores of the first and the second bus.
+-- How a pair ends, by its answer: the number of ticks that there may be, what was to be seen of the outside before and after, and the
+-- cores of the first and the second bus.
 abbrev pub PairOutcome : ℕ → PairView → PairView → CoreState → CoreState → PairWhy → Type 0
 -- both to their end, and no failure of the clock is why its ticks ended
 PairOutcome most old new back others_back Ended = BothRan most old new back others_back bus.Ended bus.Ended ⊥
@@ -90,7 +95,8 @@ PairOutcome most old new back others_back NoMemory = SomeStopped most old new ba
 -- there was no crew
 PairOutcome most old new back others_back Crew = NothingDone old new back others_back × Rose old.crew_faults new.crew_faults
 
--- What the counts of faults of the crew and the clock say of an answer. Of several reasons the first is told, in this order: memory, the crew, the limit of a log, the clock. So the count of each that comes before the answer is as it was.
+-- What the counts of faults of the crew and the clock say of an answer. Of several reasons the first is told, in this order: memory, the
+-- crew, the limit of a log, the clock. So the count of each that comes before the answer is as it was.
 abbrev pub TellsFirst : PairView → PairView → PairWhy → Type 0
 TellsFirst old new NoMemory = ⊤
 -- the clock wasn't asked

@@ -6,7 +6,7 @@ use Rattle.tb_log.specs.declared.entry.Input.TheVariants.{Tick}
 use Rattle.tb_log.specs.declared.entry.Entry.{Entry}
 use Rattle.tb_log.specs.Lanes.{inputs, ticks}
 use Rattle.tb_bus.specs.declared.origin.Origin.{Origin}
-use Rattle.tb_core.specs.Cores.{HandIn, HandOut, MakeStep}
+use Rattle.tb_core.specs.Cores.{Call, HandIn, HandOut, MakeStep}
 use Rattle.tb_run.specs.Clocks.{is_time}
 use Rattle.tb_run.specs.Dropping.{AreLetIn, HasDropped}
 use Rattle.tb_run.specs.Outcomes.{is_of}
@@ -20,35 +20,46 @@ use Rattle.tb_pair_run.specs.Views.{SomeFromTwo}
 abbrev pub NameRefused : Origin → List Entry → Type 0
 NameRefused origin log = (inputs log 1 ≡ []) × HadNoRoom (HandIn connect) origin log
 
--- An event of lane 1 of the second bus: the next term that the first bus has told its tool to do. No input of lane 1 was dropped since the bus was down.
+-- At some place after all its inputs of lane 1, the log has no capacity for this call.
+pub record NoRoomAfterInputs (call : Call) (origin : Origin) (log : List Entry) : Type 0 where
+  pub no_room : HadNoRoom call origin log
+  -- the log already has them at this place
+  pub has_all : inputs no_room.core.log 1 ≡ inputs log 1
+
+-- The rejected call delivers the next event of lane 1 of the second bus: the term of the first bus's next `rec-do` line. No input of lane 1
+-- was dropped because the bus had shut down.
 pub record EventRefused (one : List Entry) (origin : Origin) (log : List Entry) : Type 0 where
   pub next : Term
   pub rest : List Term
   pub is : does one ≡ events log ++ next ∷ rest
   pub lines : inputs log 1 ≡ connect ∷ lines_of (events log) false
   pub let_in : HasDropped (is_of 1) log → ⊥
-  pub no_room : HadNoRoom (HandIn (event_of next)) origin log
+  pub no_room : NoRoomAfterInputs (HandIn (event_of next)) origin log
 
--- The line by which the tool of the second bus leaves, which has given all events. No input of lane 1 was dropped since the bus was down.
+-- The rejected call is the disconnect request of the second bus's tool. The events are the terms of all `rec-do` lines of the first bus. No
+-- input of lane 1 was dropped because the bus had shut down.
 pub record LeaveRefused (one : List Entry) (origin : Origin) (log : List Entry) : Type 0 where
   pub all : events log ≡ does one
   pub lines : inputs log 1 ≡ connect ∷ lines_of (events log) false
   pub let_in : HasDropped (is_of 1) log → ⊥
-  pub no_room : HadNoRoom (HandIn disconnect) origin log
+  pub no_room : NoRoomAfterInputs (HandIn disconnect) origin log
 
--- of the worker that writes the pipe: what was to be handed out on lane 1 of the first bus after its one input, or this input
+-- The writer of the pipe finds the log full: for the next item of lane 1 of the first bus, after the connect request, which is the one
+-- input of this lane; or for the connect request.
 abbrev pub WriterRefused : Origin → List Entry → Type 0
-WriterRefused origin log = ((inputs log 1 ≡ connect ∷ []) × HadNoRoom (HandOut 1) origin log) ⊎ NameRefused origin log
+WriterRefused origin log = ((inputs log 1 ≡ connect ∷ []) × NoRoomAfterInputs (HandOut 1) origin log) ⊎ NameRefused origin log
 
--- What was to be handed out on lane 1 of the second bus: its tool has named itself, and perhaps left after its events.
+-- The reader of the pipe finds the log full for the next item of lane 1 of the second bus, after the connect request, all events, and the
+-- disconnect request if it's there.
 abbrev pub ItemRefused : Origin → List Entry → Type 0
-ItemRefused origin log = (leaves : Bool) × (inputs log 1 ≡ connect ∷ lines_of (events log) leaves) × HadNoRoom (HandOut 1) origin log
+ItemRefused origin log = (leaves : Bool) × (inputs log 1 ≡ connect ∷ lines_of (events log) leaves) × NoRoomAfterInputs (HandOut 1) origin log
 
 -- of the worker that reads the pipe: what was to be handed out on lane 1 of the second bus, or one of its inputs
 abbrev pub ReaderRefused : List Entry → Origin → List Entry → Type 0
 ReaderRefused one origin log = ItemRefused origin log ⊎ (NameRefused origin log ⊎ (EventRefused one origin log ⊎ LeaveRefused one origin log))
 
--- A tick: the clock gave more than the log has. The log doesn't say that no more come, and no tick was dropped since the bus was down.
+-- A tick: the clock gave more than the log has. The log doesn't say that no more come, and no tick was dropped because the bus had shut
+-- down.
 pub record TickRefused (origin : Origin) (log : List Entry) (most : ℕ) (old new : Option ClockView) : Type 0 where
   pub given : ℕ
   pub ended : Bool
@@ -59,7 +70,8 @@ pub record TickRefused (origin : Origin) (log : List Entry) (most : ℕ) (old ne
   pub let_in : AreLetIn (filter is_time log)
   pub no_room : HadNoRoom (HandIn Tick) origin log
 
--- A call on a bus of a pair was refused since its log was full: one of lanes 2 to 16, one of lane 1, one of the clock, or a step. `Pipe` says it of lane 1.
+-- A call on a bus of a pair was refused since its log was full: one of lanes 2 to 16, one of lane 1, one of the clock, or a step. `Pipe`
+-- says it of lane 1.
 abbrev pub BusRefused : Type 0 → ℕ → List LaneView → List LaneView → Option ClockView → Option ClockView → Type 0 → Origin → List Entry → Type 0
 BusRefused Pipe most lanes_old lanes_new clock_old clock_new Failed origin log =
     SomeFromTwo (LaneRefused origin log) lanes_old lanes_new

@@ -27,7 +27,8 @@ pair_seen inlet outlet clock crew lanes others c p =
     pair_of (map (λ pair. lane_view inlet.told inlet.faults outlet.told outlet.faults pair.inlet pair.outlet) lanes)
     (map (λ pair. lane_view inlet.told inlet.faults outlet.told outlet.faults pair.inlet pair.outlet) others) (clock.told c) (clock.faults c) (crew.faults p)
 
--- Lane 1 of a bus of a pair belongs to the pipe, so the two ends that the caller has given for it aren't used: they gave and took nothing. The outlet is closed, which may raise its count of faults.
+-- Lane 1 of a bus of a pair belongs to the pipe, so the two ends that the caller has given for it aren't used: they gave and took
+-- nothing. The outlet is closed, which may raise its count of faults.
 pub record IsUnused (old new : LaneView) : Type 0 where
   pub gave : new.gave ≡ old.gave
   pub inlet_faults : new.inlet_faults ≡ old.inlet_faults

@@ -30,7 +30,8 @@ abbrev pub says_last : Piece → Bool
 says_last (Told t) = false
 says_last Last = true
 
--- A reader that goes on: it has delivered all received terms. It reads on until it has received that nothing more comes, or an input was dropped because the bus had shut down.
+-- A reader that goes on: it has delivered all received terms. It reads on until it has received that nothing more comes, or an input was
+-- dropped because the bus had shut down.
 pub record ReadsOn (old new : SeatView) (got_old got_new : List Piece) (reads reads' : Bool) : Type 0 where
   pub more : List Entry
   pub told : List Term

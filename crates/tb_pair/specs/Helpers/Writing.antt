@@ -16,7 +16,8 @@ use Rattle.tb_pair.specs.Workers.{IsEarly, NamesFirst, PipeEnds, WriterFull, Goe
 use Rattle.tb_pair.specs.Helpers.Pipes.{GoesIn}
 use Rattle.tb_pair.specs.Helpers.Settling.{EndsAs}
 
--- A writer that goes on: it has sent the terms of the tool's `rec-do` lines. If the pipe was shut, it stays shut, and the writer has sent nothing more since.
+-- A writer that goes on: it has sent the terms of the tool's `rec-do` lines. If the pipe was shut, it stays shut, and the writer has sent
+-- nothing more since.
 pub record WritesOn (old new : SeatView) (sent_old sent_new : List Piece) (flows flows' : Bool) : Type 0 where
   pub more : List Entry
   pub goes : Goes old new more []
@@ -58,4 +59,4 @@ pub record Written (old new : SeatView) (sent_old sent_new : List Piece) (flows 
   pub sent : sent_new ≡ sent_old ++ pieces front false
   pub whole : flows ≡ true → rest ≡ []
   pub marks : Marks old new it
-  pub ends : PipeEnds (WriterFull old new given) new it
+  pub ends : PipeEnds (WriterFull old new more given) new it
