@@ -1,5 +1,5 @@
-//! The program: it makes the real files, sinks, lanes, clock and crew, and calls the ToolBus with the words of its
-//! command line.
+//! The program: it makes the real files, sinks, lanes, clock, and thread group, and calls the ToolBus with the arguments of its command
+//! line.
 #![tactic(auto)]
 
 ghost use Rattle.std.specs.Prelude.{vec_len};
@@ -9,44 +9,34 @@ use tb_child::{ChildPair, child_lanes, command_words};
 use tb_edge::{LanePair, RealClock, RealFiles, RealSink, ThreadCrew};
 use tb_top::{Status, toolbus};
 
-/// How many lanes there are.
+/// The number of lanes.
 const LANES: usize = 16;
 
 fn main(rt: HostRuntime) -> ExitCode {
-    let Ok(words) = command_words(&rt) else {
+    let (Ok(words), Ok(pairs), Ok(mut lanes)) = (
+        command_words(&rt),
+        child_lanes(rt.alloc(), rt, LANES),
+        Vec::with_capacity(rt.alloc(), LANES),
+    ) else {
         return ExitCode::from(Status::NoMemory.number());
     };
-    let Ok(pairs) = child_lanes(rt.alloc(), rt, LANES) else {
-        return ExitCode::from(Status::NoMemory.number());
-    };
-    let Ok(mut lanes) = Vec::with_capacity(rt.alloc(), LANES) else {
-        return ExitCode::from(Status::NoMemory.number());
-    };
-    for pair in pairs {
-        let ChildPair { inlet, outlet } = pair;
+    for ChildPair { inlet, outlet } in pairs {
         let (Ok(inlet), Ok(outlet)) = (Box::new(rt.alloc(), inlet), Box::new(rt.alloc(), outlet))
         else {
             return ExitCode::from(Status::NoMemory.number());
         };
-        if lanes.push(LanePair { inlet, outlet }).is_err() {
-            return ExitCode::from(Status::NoMemory.number());
-        }
+        lanes.push_reserved(LanePair { inlet, outlet });
     }
-    let mut files = RealFiles::new(&rt);
-    let mut out = RealSink::new(rt.stdout());
-    let mut err = RealSink::new(rt.stderr());
-    let mut clock = RealClock::new(rt);
-    let mut crew = ThreadCrew::new();
     let status = toolbus(
         &rt,
         rt.alloc(),
         &words,
-        &mut files,
-        &mut out,
-        &mut err,
+        &mut RealFiles::new(&rt),
+        &mut RealSink::new(rt.stdout()),
+        &mut RealSink::new(rt.stderr()),
         &mut lanes,
-        &mut clock,
-        &mut crew,
+        &mut RealClock::new(rt),
+        &mut ThreadCrew::new(),
     );
     ExitCode::from(status.number())
 }

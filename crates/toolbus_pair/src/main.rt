@@ -1,5 +1,5 @@
-//! The program of a pair: it makes the real files, sinks, lanes of two buses, clock and crew, and runs the two scripts that the
-//! words of its command line name.
+//! The program for a pair: it makes the real files and sinks, the lanes of two buses, the clock, and the thread group. Then it runs the two
+//! scripts that the arguments of its command line name.
 #![tactic(auto)]
 
 ghost use Rattle.std.specs.Prelude.{vec_len};
@@ -13,57 +13,35 @@ use tb_pair_top::{PairStatus, pair};
 const LANES: usize = 16;
 
 fn main(rt: HostRuntime) -> ExitCode {
-    let Ok(words) = command_words(&rt) else {
-        return ExitCode::from(PairStatus::NoMemory.number());
-    };
-    let (Ok(pairs), Ok(others)) = (
-        child_lanes(rt.alloc(), rt, LANES),
-        child_lanes(rt.alloc(), rt, LANES),
+    // The lanes of both buses, until those of the second are split off.
+    let (Ok(words), Ok(pairs), Ok(mut first)) = (
+        command_words(&rt),
+        child_lanes(rt.alloc(), rt, 2 * LANES),
+        Vec::with_capacity(rt.alloc(), 2 * LANES),
     ) else {
         return ExitCode::from(PairStatus::NoMemory.number());
     };
-    let (Ok(mut first), Ok(mut second)) = (
-        Vec::with_capacity(rt.alloc(), LANES),
-        Vec::with_capacity(rt.alloc(), LANES),
-    ) else {
-        return ExitCode::from(PairStatus::NoMemory.number());
-    };
-    for pair in pairs {
-        let ChildPair { inlet, outlet } = pair;
+    for ChildPair { inlet, outlet } in pairs {
         let (Ok(inlet), Ok(outlet)) = (Box::new(rt.alloc(), inlet), Box::new(rt.alloc(), outlet))
         else {
             return ExitCode::from(PairStatus::NoMemory.number());
         };
-        if first.push(LanePair { inlet, outlet }).is_err() {
-            return ExitCode::from(PairStatus::NoMemory.number());
-        }
+        first.push_reserved(LanePair { inlet, outlet });
     }
-    for other in others {
-        let ChildPair { inlet, outlet } = other;
-        let (Ok(inlet), Ok(outlet)) = (Box::new(rt.alloc(), inlet), Box::new(rt.alloc(), outlet))
-        else {
-            return ExitCode::from(PairStatus::NoMemory.number());
-        };
-        if second.push(LanePair { inlet, outlet }).is_err() {
-            return ExitCode::from(PairStatus::NoMemory.number());
-        }
-    }
-    let mut files = RealFiles::new(&rt);
-    let mut out = RealSink::new(rt.stdout());
-    let mut err = RealSink::new(rt.stderr());
-    let mut clock = RealClock::new(rt);
-    let mut crew = ThreadCrew::new();
+    let Ok(mut second) = first.split_off(LANES) else {
+        return ExitCode::from(PairStatus::NoMemory.number());
+    };
     let status = pair(
         &rt,
         rt.alloc(),
         &words,
-        &mut files,
-        &mut out,
-        &mut err,
+        &mut RealFiles::new(&rt),
+        &mut RealSink::new(rt.stdout()),
+        &mut RealSink::new(rt.stderr()),
         &mut first,
         &mut second,
-        &mut clock,
-        &mut crew,
+        &mut RealClock::new(rt),
+        &mut ThreadCrew::new(),
     );
     ExitCode::from(status.number())
 }
