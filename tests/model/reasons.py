@@ -18,7 +18,7 @@ NO_PATTERN = "an expression in its pattern has no value"
 NO_NOTE = "no note in its queue matches; a note that came before its subscribe isn't there"
 BARRED = (": each way is barred: by an if without else that is false, by a test without a value, or by a call with an argument that has no "
           "value of its type")
-AT_STAGE = {WAITING: "waits for rec-connect", LIVE: "hasn't ended", LEAVING: "has ended"}
+AT_STAGE = {WAITING: "waits for rec-connect", LIVE: "isn't leaving", LEAVING: "is leaving"}
 
 
 class Line(NamedTuple):
@@ -172,11 +172,11 @@ class Why:
         return None if is_within_limits(Name(tool.word, (self.bus.next_tool,))) else "the term of the tool is too large"
 
     def rec_connect(self, process: Process, result: Result) -> str | None:
-        return None if self.bus.first_at(process.body.sorts[result.name], WAITING) else "no new tool of this name has connected"
+        return None if self.bus.first_at(process.body.sorts[result.name], WAITING) else "no tool of this name waits for rec-connect"
 
     def rec_disconnect(self, process: Process, tool: Expr) -> str | None:
         if isinstance(tool, Result):
-            return None if self.bus.first_at(process.body.sorts[tool.name], LEAVING) else "no tool of this name has ended"
+            return None if self.bus.first_at(process.body.sorts[tool.name], LEAVING) else "no tool of this name is leaving"
         return self.on_lane(process, (tool,), (LEAVING,), lambda lane, terms: None)
 
     def ask(self, process: Process, tool: Expr, expr: Expr) -> str | None:
@@ -249,7 +249,7 @@ def matches(patterns: tuple | None, terms: tuple | None) -> bool:
 
 
 def nothing_left(lane: Lane) -> str:
-    return f"the tool of lane {lane.number} has ended, and nothing that matches is left of it"
+    return f"the tool of lane {lane.number} is leaving, and nothing that matches is left of it"
 
 
 REASONS: dict[str, Callable[..., str | None]] = {

@@ -1,4 +1,4 @@
--- Which names were asked for: what a part says of the whole.
+-- Lemmas about the names that were asked for: from the parts of a call to the whole.
 use Rattle.std.proofs.Common.{◌≡◌, ◌∙◌, ℕ, ◌≤◌, ◌-◌, List, [], ◌∷◌, ◌++◌, map, length, take, drop, slice_index_or, Result, Ok, Err, refl, sym, ap, subst, arith}
 use Rattle.std.specs.Prelude.{OnErr}
 use Rattle.std.proofs.lemmas.List.{append-nil, append_assoc, take_all}
@@ -9,7 +9,7 @@ use Rattle.tb_lens.specs.Told.{IsReason}
 use Rattle.tb_lens.specs.declared.status.Trouble.{Trouble}
 use Rattle.tb_lens.specs.declared.status.Trouble.TheVariants as trouble
 
--- what holds at whatever error
+-- what holds for every error
 pub on_err : {T E P : Type 0} (result : Result T E) → P → OnErr result P
 on_err (Ok value) holds = tt
 on_err (Err fault) holds = holds
@@ -65,12 +65,12 @@ module _ {B : Type 0} (value : B → List ℕ) where
       both_asked (value script) (map value scripts) old mid new one
       (subst (λ those. new ≡ mid ++ map value those) (all_others script scripts) rest)
 
--- of no files, none are asked for
+-- without files, no name is asked for
 pub asks_nothing : {B : Type 0} (value : B → List ℕ) (scripts : List B) (old : List (List ℕ)) → length scripts ≡ 0 → old ≡ old ++ map value scripts
 asks_nothing value [] old none = sym (append-nil old)
 asks_nothing value (script ∷ scripts) old none = absurd (omega (arith, none))
 
--- while nothing is written, some were asked for
+-- at an error before the write, a prefix of the names was asked for
 pub asks_anyhow : {S : Type 0} (asked : S → List (List ℕ)) (faults : S → ℕ) (names : List (List ℕ)) (old new : S) (it : Trouble)
     → IsReason asked faults names old new ⊥ it → AsksSome names (asked old) (asked new) → Asks names (Err it) (asked old) (asked new)
 asks_anyhow asked faults names old new (trouble.File file) is some = some

@@ -1,4 +1,4 @@
--- What is told of a log, and why nothing is.
+-- Lemmas about what `feed` writes about a log, and why it fails.
 use Rattle.std.proofs.Common.{◌≡◌, ℕ, List, Option, Err, refl}
 use Rattle.tb_edge.specs.FilesHeld.{AsksSome}
 use Rattle.tb_edge.specs.Sinks.{Writes, WritesPrefix}
@@ -21,7 +21,7 @@ pub fed_in_part : (told old new : Option (List ℕ)) (name text : List ℕ) (sta
 fed_in_part told old new name text status tells written = record { text = text; status = status; tells = tells; written = written }
 
 module _ (most : ℕ) (told : Option (List ℕ)) (name : List ℕ) (failed : Type 0) where
-  -- while nothing is written, the output is no reason
+  -- a reason that isn't a failure of the output holds with any claim about the output
   pub unloaded_anyhow : (Out : Type 0) (it : Trouble) → IsReasonOfOne most told name failed ⊥ it → IsReasonOfOne most told name failed Out it
   unloaded_anyhow Out (trouble.File file) is = is
   unloaded_anyhow Out trouble.Out is = absurd is

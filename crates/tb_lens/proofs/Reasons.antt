@@ -1,4 +1,4 @@
--- Why nothing is told: what a part says of the whole.
+-- Lemmas about the reasons why `at` fails: from the parts of a call to the whole.
 use Rattle.std.proofs.Common.{◌≡◌, ◌∙◌, ℕ, ◌≤◌, ◌-◌, List, [], ◌∷◌, ◌++◌, map, length, take, drop, slice_index_or, Option, refl, ap, sym, subst, arith}
 use Rattle.std.proofs.lemmas.List.{append_assoc, take_all}
 use Rattle.tb_lens.specs.Loads.{CantRead}
@@ -6,7 +6,7 @@ use Rattle.tb_lens.specs.Told.{AtFailure, IsReason}
 use Rattle.tb_lens.specs.declared.status.Trouble.{Trouble}
 use Rattle.tb_lens.specs.declared.status.Trouble.TheVariants as trouble
 
--- `asked` and `faults` are what files tell of the names asked for, and of their faults
+-- `asked` and `faults` give the names that the files were asked for, and the number of their faults
 module _ {S : Type 0} (asked : S → List (List ℕ)) (faults : S → ℕ) where
   cant_first : (name : List ℕ) (names : List (List ℕ)) (file : List ℕ) (old new : S) → CantRead asked faults (name ∷ []) file old new
       → CantRead asked faults (name ∷ names) file old new
@@ -54,7 +54,7 @@ module _ {S : Type 0} (asked : S → List (List ℕ)) (faults : S → ℕ) where
   reason_rest name names old mid new trouble.Connect one kept is = is
   reason_rest name names old mid new trouble.Input one kept is = is
 
-  -- while nothing is written, the output is no reason
+  -- a reason that isn't a failure of the output holds with any claim about the output
   pub reason_anyhow : (names : List (List ℕ)) (old new : S) (Out : Type 0) (it : Trouble) → IsReason asked faults names old new ⊥ it
       → IsReason asked faults names old new Out it
   reason_anyhow names old new Out (trouble.File file) is = is

@@ -1,4 +1,4 @@
--- What is told of one file, and of several.
+-- Lemmas about what `at` writes about one file, and about several.
 use Rattle.std.proofs.Common.{◌≡◌, ◌∙◌, ℕ, ◌≤◌, ◌-◌, List, [], ◌∷◌, ◌++◌, map, length, take, drop, slice_index_or, Option, None, ap, subst, arith}
 use Rattle.std.proofs.lemmas.List.{take_all}
 use Rattle.tb_edge.specs.Sinks.{Writes}

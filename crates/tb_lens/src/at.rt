@@ -1,4 +1,4 @@
-//! `at`: the error of each script, and its place.
+//! The command `at`: the error of each script, with its place.
 ghost use Rattle.std.specs.Prelude.{◌≡◌, ℕ, ◌≤◌, List, [], ◌∷◌, ◌++◌, Option, IfOk, IfErr, map};
 ghost use Rattle.tb_edge.specs.Faults.{Rose};
 ghost use Rattle.tb_edge.specs.FilesHeld.{AsksSome};
@@ -14,11 +14,11 @@ use tb_hint::message_text;
 use tb_script::ScriptFault;
 use tb_terms::NoMemory;
 
-/// A longer file of a script is rejected.
+/// The greatest number of bytes of a script. A longer file is rejected.
 pub(crate) const MOST_BYTES: usize = 1_048_576;
 
-/// Reports the error of each script in the files of these names, and its place. If a file can't be read, the call
-/// writes nothing.
+/// Writes the error of each script in the files of these names, with its place. If a file can't be read or memory runs out, the call
+/// writes nothing. If the write fails, a part of the text may be written.
 #[tactic(auto, using(crate::proofs::Tellings::outcome, crate::proofs::Reasons::reason_anyhow, crate::proofs::Reasons::untold, crate::proofs::Asking::asks_anyhow))]
 pub fn tell_at<F: Files, O: Sink>(
     alloc: Global,
@@ -43,7 +43,7 @@ pub fn tell_at<F: Files, O: Sink>(
     }
 }
 
-/// The status of this text: whether an error is reported.
+/// Returns the status that belongs to this text: `Found` if an error is reported, or else `Fine`.
 fn status_of(text: &[u8]) -> Status
     ensures { Says text.now result }
 {
@@ -53,7 +53,7 @@ fn status_of(text: &[u8]) -> Status
     Status::Found
 }
 
-/// The reports on the scripts, in their order.
+/// Returns the reports on the scripts, in order.
 #[tactic(auto, using(crate::proofs::Reasons::reason_of_first, crate::proofs::Reasons::reason_of_others, crate::proofs::Asking::asks_nothing, crate::proofs::Asking::asks_first, crate::proofs::Asking::asks_others, crate::proofs::Asking::asks_each))]
 fn tell_all<F: Files>(alloc: Global, scripts: &[&str], files: &mut F) -> Result<Vec<u8>, Trouble>
     ensures tells { IfOk result (λ text. TellsOfAll (F.held files.old)
@@ -76,7 +76,7 @@ fn tell_all<F: Files>(alloc: Global, scripts: &[&str], files: &mut F) -> Result<
     }
 }
 
-/// The report on the script in the file of this name: empty if the script is accepted.
+/// Returns the report on the script in the file of this name. The report is empty if the script is accepted.
 fn tell<F: Files>(alloc: Global, name: &str, files: &mut F) -> Result<Vec<u8>, Trouble>
     ensures tells { IfOk result (λ text. TellsOf (F.held files.old name.now) name.now text.items) }
     ensures held { F.held files.new ≡ F.held files.old }
@@ -95,7 +95,7 @@ fn tell<F: Files>(alloc: Global, name: &str, files: &mut F) -> Result<Vec<u8>, T
     }
 }
 
-/// The report on a script with these bytes.
+/// Returns the report on a script with these bytes.
 fn tell_bytes(alloc: Global, name: &str, bytes: &[u8]) -> Result<Vec<u8>, NoMemory>
     ensures { IfOk result (λ text. (told : Option (List ℕ)) → IsLoaded told bytes.now
         → TellsOf told name.now text.items) }
@@ -107,7 +107,7 @@ fn tell_bytes(alloc: Global, name: &str, bytes: &[u8]) -> Result<Vec<u8>, NoMemo
     }
 }
 
-/// The report on a script with these bytes, which has this fault.
+/// Returns the report on a script with these bytes, which has this error.
 fn tell_point(alloc: Global, name: &str, bytes: &[u8], found: &Point) -> Result<Vec<u8>, NoMemory>
     requires { IsPoint bytes.now found.now }
     ensures { IfOk result (λ text. (told : Option (List ℕ)) → IsLoaded told bytes.now
@@ -116,7 +116,7 @@ fn tell_point(alloc: Global, name: &str, bytes: &[u8], found: &Point) -> Result<
     message_text(alloc, name, bytes, found)
 }
 
-/// The report on a file with so many bytes, too many for a script.
+/// Returns the report on a file that is too long for a script. `len` is the number of its bytes.
 fn tell_long(alloc: Global, name: &str, len: usize) -> Result<Vec<u8>, NoMemory>
     ensures { IfOk result (λ text. TellsFault name.now [] (long_point len) text.items) }
 {

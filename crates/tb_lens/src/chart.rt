@@ -1,4 +1,4 @@
-//! `chart`: a log as a message sequence chart.
+//! The command `chart`: a log as a message sequence chart.
 
 use crate::loading::{load_log, load_source};
 use crate::put::put;
@@ -12,18 +12,23 @@ use tb_log::Entry;
 use tb_log_read::{LogFault, read_log};
 use tb_script::ScriptFault;
 
-/// The requested chart.
+/// The arguments of `chart`.
 #[derive(Clone, Copy)]
 pub struct ChartRequest<'a> {
+    /// The name of the file with the script.
     pub script: &'a str,
+    /// The name of the file with the log.
     pub log: &'a str,
+    /// The form of the chart.
     pub output: Output,
+    /// The entries that are shown.
     pub span: Span,
-    /// How many commands the bus was started with.
+    /// The number of commands with which the bus began.
     pub commands: usize,
 }
 
-/// Writes the chart of a log. If there is none, the reason goes to `err`.
+/// Writes the chart of a log. If a line isn't a line of a log or doesn't fit the script, the call writes its number to `err` and returns
+/// `Found`. The call fails if a file can't be read or is too long, if the script is rejected, if the write fails, or if memory runs out.
 pub fn tell_chart<F: Files, O: Sink, E: Sink>(
     alloc: Global,
     request: &ChartRequest,
@@ -45,7 +50,7 @@ pub fn tell_chart<F: Files, O: Sink, E: Sink>(
     }
 }
 
-/// Reports the line at which a log goes wrong.
+/// Writes the number of the first wrong line of a log.
 fn tell_line<E: Sink>(
     alloc: Global,
     log: &str,
@@ -57,7 +62,7 @@ fn tell_line<E: Sink>(
     Ok(Status::Found)
 }
 
-/// The chart of these bytes of a log.
+/// Returns the chart of the log with these bytes, as a text.
 fn drawn(
     alloc: Global,
     request: &ChartRequest,
@@ -94,7 +99,7 @@ fn drawn_entries(
     Ok(text)
 }
 
-/// The part after the last slash.
+/// Returns the part after the last slash, or the whole path if it has none.
 fn file_name(path: &[u8]) -> &[u8] {
     let mut start: usize = 0;
     for (place, byte) in path.iter().enumerate() {

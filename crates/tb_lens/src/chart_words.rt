@@ -1,4 +1,4 @@
-//! The request of the arguments after `chart`.
+//! The arguments after `chart`, and the request that they make.
 
 use crate::chart::ChartRequest;
 use clap::{Arg, ArgAction, ArgMatches, Command, value_parser};
@@ -6,7 +6,7 @@ use std::alloc::{AllocError, Global};
 use tb_chart::Span;
 use tb_chart_draw::Output;
 
-/// The command `chart`, as `clap` reads it.
+/// Returns the command `chart`, as `clap` reads it.
 pub(crate) fn chart_command<'a>(alloc: Global) -> Result<Command<'a>, AllocError> {
     let html = form_flag(
         alloc,
@@ -53,7 +53,7 @@ pub(crate) fn connect_option<'a>(alloc: Global) -> Arg<'a> {
         .help("A command with which the bus began, as given to toolbus. The option can be repeated")
 }
 
-/// Returns what the arguments of `chart` request.
+/// Returns the request that the arguments of `chart` make.
 pub(crate) fn chart_request<'a>(asked: &ArgMatches<'a>) -> ChartRequest<'a> {
     let from = asked.get_one::<u64>("from");
     let to = asked.get_one::<u64>("to");

@@ -1,4 +1,4 @@
-//! `feed`: the feed that delivers again what came in.
+//! The command `feed`: the feed with the inputs of a log.
 ghost use Rattle.std.specs.Prelude.{◌≡◌, ◌∷◌, ◌++◌, [], IfOk, IfErr};
 ghost use Rattle.tb_edge.specs.Faults.{Rose};
 ghost use Rattle.tb_edge.specs.FilesHeld.{AsksSome};
@@ -12,15 +12,17 @@ use tb_edge::{Failed, Files, Sink};
 use tb_refeed::{RefeedFault, refeed};
 use tb_terms::NoMemory;
 
-/// What is written about a log, and the status with which the program ends then.
+/// The text that is written about a log, and the status with which the program then ends.
 #[derive(Drop)]
 struct Telling {
     text: Vec<u8>,
     status: Status,
 }
 
-/// Writes the feed of the log in the file of this name. If the file holds no log, the call writes the number of the first
-/// line that isn't one of a log. If the log has a line that is too long for a feed, it writes the number of the first one.
+/// Writes the feed of the log in the file of this name, and returns `Fine`. If the file isn't a log, the call writes a sentence about the
+/// first line that isn't a line of a log. If the file is a log, but a line is too long for a feed, the call writes a sentence about the
+/// first such line. After a sentence, the call returns `Found`. The call fails if the file can't be read or is too long, if the write
+/// fails, or if memory runs out. Only a failed write can leave text: a prefix of the whole text.
 #[tactic(auto, using(crate::proofs::Feedings::fed, crate::proofs::Feedings::fed_in_part, crate::proofs::Feedings::unloaded_anyhow, crate::proofs::Feedings::unfed, crate::proofs::Feedings::asks_unloaded))]
 pub fn tell_feed<F: Files, O: Sink>(
     alloc: Global,
@@ -45,7 +47,7 @@ pub fn tell_feed<F: Files, O: Sink>(
     }
 }
 
-/// What is written about the log in the file of this name.
+/// Returns the text that is written about the log in the file of this name.
 #[tactic(auto, using(crate::proofs::Feedings::tells_held, crate::proofs::Asking::some_all))]
 fn load_telling<F: Files>(alloc: Global, log: &str, files: &mut F) -> Result<Telling, Trouble>
     ensures tells { IfOk result (λ telling. TellsFeedOf (F.held files.old log.now) log.now
@@ -65,7 +67,8 @@ fn load_telling<F: Files>(alloc: Global, log: &str, files: &mut F) -> Result<Tel
     }
 }
 
-/// The feed of the log with these bytes, or the first line that no feed can have.
+/// Returns the feed of the log with these bytes. If a line isn't a line of a log, or is too long for a feed, returns a sentence about this
+/// line.
 fn telling_of(alloc: Global, log: &str, bytes: &[u8]) -> Result<Telling, NoMemory>
     ensures { IfOk result
         (λ telling. TellsFeed log.now bytes.now telling.text.items telling.status) }
@@ -87,7 +90,7 @@ fn telling_of(alloc: Global, log: &str, bytes: &[u8]) -> Result<Telling, NoMemor
     }
 }
 
-/// The number of a line of a log, and a sentence about it.
+/// Returns the name of a log, the number of a line, and a sentence about this line.
 fn line_text(alloc: Global, log: &str, number: u64, sentence: &str) -> Result<Vec<u8>, NoMemory>
     ensures { IfOk result (λ text. text.items ≡ line_text log.now number sentence.now) }
 {

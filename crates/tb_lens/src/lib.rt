@@ -1,4 +1,4 @@
-//! The whole of `toolbus_lens`, from its arguments on: a module for each command.
+//! The program `toolbus_lens` as one call, from its arguments on. Each command has a module.
 #![tactic(auto)]
 
 mod at;

@@ -1,4 +1,4 @@
-//! The files that commands read.
+//! Functions that read the files of commands.
 ghost use Rattle.std.specs.Prelude.{◌≡◌, ◌++◌, ◌∷◌, [], IfOk, IfErr};
 ghost use Rattle.tb_edge.specs.Faults.{Rose};
 ghost use Rattle.tb_edge.specs.FilesHeld.{AsksSome};
@@ -15,10 +15,10 @@ use tb_script::{ScriptFault, load};
 use tb_source_map::all_places;
 use tb_terms::{Items, NoMemory, Text, Texts};
 
-/// A longer file of a log is rejected.
+/// The greatest number of bytes of a log. A longer file is rejected.
 const MOST_LOG_BYTES: usize = 67_108_864;
 
-/// A script that was read.
+/// The program of a script, and the names of its processes with the places of their atoms.
 #[derive(Drop)]
 pub(crate) struct Loading {
     pub program: Program,
@@ -35,7 +35,7 @@ pub(crate) fn load_script<F: Files>(
     read_script(alloc, name, bytes.as_slice())
 }
 
-/// A script with these bytes, from the file of this name.
+/// Returns the program and the names of a script with these bytes. If the script is rejected, the error has the name of its file.
 pub(crate) fn read_script(alloc: Global, name: &str, bytes: &[u8]) -> Result<Loading, Trouble> {
     match loaded(alloc, bytes) {
         Ok(loading) => Ok(loading),
@@ -53,7 +53,7 @@ pub(crate) fn load_source<F: Files>(
     load_bytes(alloc, name, MOST_BYTES, files)
 }
 
-/// A script with these bytes.
+/// Returns the program and the names of a script with these bytes, or the error of the script.
 fn loaded(alloc: Global, bytes: &[u8]) -> Result<Loading, ScriptFault> {
     let program = load(alloc, bytes)?;
     let places = all_places(alloc, bytes)?;
@@ -73,7 +73,7 @@ pub(crate) fn load_log<F: Files>(alloc: Global, name: &str, files: &mut F) -> Re
     load_bytes(alloc, name, MOST_LOG_BYTES, files)
 }
 
-/// Reads the bytes of the file of this name, if there are at most so many.
+/// Reads the file of this name. If the file has more than `most` bytes, returns `TooLong`.
 fn load_bytes<F: Files>(
     alloc: Global,
     name: &str,
@@ -95,7 +95,7 @@ fn load_bytes<F: Files>(
     }
 }
 
-/// The commands that are connected, in order.
+/// Returns the commands to connect, in order. Returns `None` if one of them isn't a text.
 pub(crate) fn connects_of(alloc: Global, commands: &[&str]) -> Result<Option<Texts>, NoMemory> {
     let mut texts = Items::new(alloc);
     for command in commands {

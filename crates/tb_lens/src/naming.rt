@@ -1,11 +1,11 @@
-//! The names of a script, with the places of its atoms.
+//! The names of the processes of a script, with the places of their atoms.
 
 use std::alloc::Global;
 use tb_log_plain::{Named, Names, Spot};
 use tb_source_map::{Mark, Places, ProcessPlace, spot_at};
 use tb_terms::{Items, NoMemory};
 
-/// The names of a script with these bytes.
+/// Returns the names of the processes of a script with these bytes, with the lines and columns of their atoms.
 pub(crate) fn names_of(alloc: Global, text: &[u8], places: &Places) -> Result<Names, NoMemory> {
     let starts = line_starts(alloc, text)?;
     let mut names = Items::new(alloc);
@@ -15,7 +15,7 @@ pub(crate) fn names_of(alloc: Global, text: &[u8], places: &Places) -> Result<Na
     Ok(names)
 }
 
-/// Where each line begins.
+/// Returns the position at which each line but the first begins.
 fn line_starts(alloc: Global, text: &[u8]) -> Result<Vec<usize>, NoMemory> {
     let mut starts = Vec::new(alloc);
     for (position, byte) in text.iter().enumerate() {
@@ -42,7 +42,8 @@ fn named(
     })
 }
 
-/// The line by the beginnings of lines, and the column by the bytes of this line alone.
+/// Returns the line and the column at which a mark begins. The line is found by the beginnings of lines, and only the bytes of this line
+/// are read for the column.
 fn spot_of(text: &[u8], starts: &[usize], mark: &Mark) -> Spot {
     let before = lines_before(starts, mark.from);
     let start = match before.checked_sub(1) {
@@ -56,7 +57,7 @@ fn spot_of(text: &[u8], starts: &[usize], mark: &Mark) -> Spot {
     }
 }
 
-/// How many lines begin at this byte or before it, without the first line.
+/// Returns the number of lines that begin at this byte or before it, without the first line.
 fn lines_before(starts: &[usize], byte: usize) -> usize {
     for (index, start) in starts.iter().enumerate() {
         if *start > byte {

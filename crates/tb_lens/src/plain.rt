@@ -1,4 +1,4 @@
-//! `plain`: a log for people, as it grows.
+//! The command `plain`: a log for people, as the log grows.
 
 use crate::loading::{Loading, load_script};
 use crate::put::put;
@@ -8,7 +8,7 @@ use std::alloc::Global;
 use tb_edge::{Files, Sink};
 use tb_log_plain::Plain;
 
-/// Reads a log of a script line by line, and writes each line for people.
+/// Reads a log of a script line by line, and writes each line for people. Each line is written before the next one is read.
 pub fn tell_plain<F: Files, I: Source, O: Sink>(
     alloc: Global,
     script: &str,

@@ -1,4 +1,4 @@
-//! The commands that the arguments request.
+//! The program: its arguments, and the call of the command that they request.
 
 use crate::at::tell_at;
 use crate::chart::tell_chart;
@@ -13,8 +13,8 @@ use clap::{Arg, ArgAction, Command, Error};
 use std::alloc::{AllocError, Global};
 use tb_edge::{Failed, Files, Sink};
 
-/// Does what the arguments request, of which the first is the name of the program. Results go to `out`, and the reason
-/// why there are none goes to `err`.
+/// Executes the command that the arguments request. The first argument is the name of the program. Results are written to `out`. If the
+/// command fails, the reason is written to `err`.
 pub fn lens<F: Files, I: Source, O: Sink, E: Sink>(
     alloc: Global,
     words: &[String],
@@ -29,7 +29,7 @@ pub fn lens<F: Files, I: Source, O: Sink, E: Sink>(
     }
 }
 
-/// The commands, as `clap` reads them.
+/// Returns the commands, as `clap` reads them.
 fn commands<'a>(alloc: Global) -> Result<Command<'a>, AllocError> {
     Command::new(alloc, "toolbus_lens")
         .version("1.0")
@@ -105,7 +105,7 @@ fn answer<F: Files, I: Source, O: Sink, E: Sink>(
     }
 }
 
-/// Writes the help or the version, or what is wrong with the arguments.
+/// Writes the help or the version to `out`, or an error of the arguments to `err`.
 fn tell_usage<O: Sink, E: Sink>(
     alloc: Global,
     error: &Error,
@@ -126,7 +126,7 @@ fn tell_usage<O: Sink, E: Sink>(
     }
 }
 
-/// Writes the line of a failure. If the write fails too, nothing more is done.
+/// Writes the reason why the command failed. An error of this write is ignored.
 fn report<E: Sink>(trouble: &Trouble, err: &mut E) -> Status {
     let _ = err.put(b"toolbus_lens: ");
     let _ = match trouble {
@@ -148,7 +148,7 @@ fn report<E: Sink>(trouble: &Trouble, err: &mut E) -> Status {
     Status::Trouble
 }
 
-/// A text with a name after it.
+/// Writes a text with a name after it.
 fn put_named<E: Sink>(before: &[u8], name: &str, err: &mut E) -> Result<(), Failed> {
     err.put(before)?;
     err.put(name.as_bytes())

@@ -1,21 +1,22 @@
-//! What lines are read from.
+//! The input from which lines are read.
 
 use crate::status::Trouble;
 use std::io::BufRead;
 
-/// The source of a log, which is read line by line.
+/// The input from which a log is read, line by line.
 pub trait Source {
-    /// Appends the next line, with its newline if it has one. Returns `false` if none is left.
+    /// Appends the next line, with its newline if it has one. Returns `false` if no line is left.
     fn line(&mut self, into: &mut Vec<u8>) -> Result<bool, Trouble>;
 }
 
-/// The lines of a reader.
+/// A reader as a source of lines.
 #[derive(Drop)]
 pub struct Reading<R> {
     reader: R,
 }
 
 impl<R> Reading<R> {
+    /// Returns the source of this reader's lines.
     pub fn new(reader: R) -> Reading<R> {
         Reading { reader }
     }

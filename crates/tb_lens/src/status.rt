@@ -1,16 +1,16 @@
-//! How a call of the program ends.
+//! The status of the program, and the reasons why a command fails.
 
 use std::alloc::{AllocError, AllocFailed};
 use tb_terms::NoMemory;
 
-/// How a call of the program ended.
+/// The status with which a call of the program ends.
 #[derive(Clone, Copy, Debug, PartialEq, Eq)]
 pub enum Status {
-    /// There is nothing to complain about.
+    /// The command was executed, and found no error.
     Fine,
     /// An error in an input was found and reported.
     Found,
-    /// The arguments request nothing that can be done, or something failed.
+    /// The arguments are wrong, or the command failed.
     Trouble,
 }
 
@@ -18,7 +18,7 @@ impl Status {
     ghost use Rattle.std.specs.Prelude.{◌≡◌};
     ghost use Rattle.tb_lens.specs.Statuses.{status_number};
 
-    /// The exit status of the program.
+    /// Returns the exit status of the program.
     pub fn number(&self) -> u8
         ensures { result ≡ status_number self.now }
     {
@@ -30,21 +30,22 @@ impl Status {
     }
 }
 
-/// Why a command can't be done.
+/// The reason why a command failed.
 #[derive(Drop)]
 pub enum Trouble {
-    /// The file of this name could not be read.
+    /// The file of this name can't be read.
     File(String),
-    /// The file of this name is too long.
+    /// The file of this name is too long. For `why`, also a log that passes the limits of a log.
     TooLong(String),
     /// The script in the file of this name is rejected.
     Script(String),
-    /// A command to connect is no text, or there are more than 16.
+    /// A command to connect isn't a text, or there are more than 16 commands.
     Connect,
-    /// The standard input could not be read.
+    /// The standard input can't be read.
     Input,
-    /// The output could not be written.
+    /// A write to the standard output failed.
     Out,
+    /// Memory ran out.
     NoMemory,
 }
 

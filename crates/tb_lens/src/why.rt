@@ -1,4 +1,4 @@
-//! `why`: what each process waits for at the end of a log.
+//! The command `why`: what each process waits for at the end of a log.
 ghost use Rattle.std.specs.Prelude.{◌≤◌, length};
 ghost use Rattle.tb_log.specs.Shapes.{lane_count};
 
@@ -16,18 +16,21 @@ use tb_walk::Walk;
 use tb_why::{Ending, WhyFault, why};
 use tb_why_text::{Seen, write_waits};
 
-/// How many lanes there are.
+/// The number of lanes.
 const LANES: usize = 16;
 
-/// What `why` is asked for: the files of a script and of a log, and the commands with which the bus began.
+/// The arguments of `why`.
 #[derive(Clone, Copy)]
 pub struct WhyRequest<'a> {
+    /// The name of the file with the script.
     pub script: &'a str,
+    /// The name of the file with the log.
     pub log: &'a str,
+    /// The commands with which the bus began, in order.
     pub commands: &'a [&'a str],
 }
 
-/// The command `why`, as `clap` reads it.
+/// Returns the command `why`, as `clap` reads it.
 pub(crate) fn why_command<'a>(alloc: Global) -> Result<Command<'a>, AllocError> {
     Command::new(alloc, "why")
         .about("Tells what each process waits for at the end of a log")
@@ -36,8 +39,8 @@ pub(crate) fn why_command<'a>(alloc: Global) -> Result<Command<'a>, AllocError> 
         .arg(connect_option(alloc))
 }
 
-/// Tells what each process waits for at the end of a log. If the log is no trace of the script, its first line that can't come
-/// next goes to `err`.
+/// Writes what each process waits for at the end of a log. If the log isn't a trace of the script, the call writes the number of the first
+/// line that can't come next to `err`, and returns `Found`.
 pub fn tell_why<F: Files, O: Sink, E: Sink>(
     alloc: Global,
     request: &WhyRequest,
@@ -91,7 +94,7 @@ fn put_waits<O: Sink>(
     put(text.as_slice(), Status::Fine, out)
 }
 
-/// Tells the first line at which the log is no trace of the script.
+/// Writes the number of the first line of the log that can't come next.
 fn tell_line<E: Sink>(
     alloc: Global,
     request: &WhyRequest,

@@ -1,9 +1,9 @@
-//! What an atom is called.
+//! The names of atoms.
 
 use tb_body::Act;
 use tb_syntax::AtomWord;
 
-/// The name of an atom as scripts have it.
+/// Returns the name of an atom as scripts write it. For an assignment, this is `:=`.
 pub(crate) fn act_name(act: &Act) -> &'static [u8] {
     match word_of(act) {
         Some(word) => word.text().as_bytes(),
@@ -14,7 +14,7 @@ pub(crate) fn act_name(act: &Act) -> &'static [u8] {
     }
 }
 
-/// The word of an atom that is written as a word with arguments.
+/// Returns the word of an atom that is written as a word with arguments. `create` and assignments have none.
 fn word_of(act: &Act) -> Option<AtomWord> {
     match act {
         Act::Delta => Some(AtomWord::Delta),

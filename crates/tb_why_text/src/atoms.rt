@@ -7,7 +7,9 @@ use tb_log_plain::{put, put_comma, put_terms};
 use tb_terms::{NoMemory, Pattern};
 use tb_why::Offering;
 
-/// The atom with what it sends and what it matches: `rec-msg(reply,a,<int>)`. Where one has no value, two dots stand for them.
+/// Appends the atom with the values that it sends and the patterns that it matches: `rec-msg(reply,a,<int>)`. If a value or a pattern
+/// can't be evaluated, `..` replaces all of them. For `execute`, `rec-connect` and `rec-disconnect` with a variable, appends the name of
+/// the tool.
 pub(crate) fn put_atom(
     program: &Program,
     act: &Act,
@@ -25,7 +27,7 @@ pub(crate) fn put_atom(
     }
 }
 
-/// The name of a kind of tool in parentheses.
+/// Appends the name of a tool of the script in parentheses.
 fn put_kind(program: &Program, tool: u32, into: &mut Vec<u8>) -> Result<(), NoMemory> {
     let kind: Option<&Tool> = program.tools.get(tool as usize);
     if let Some(kind) = kind {
@@ -36,7 +38,7 @@ fn put_kind(program: &Program, tool: u32, into: &mut Vec<u8>) -> Result<(), NoMe
     Ok(())
 }
 
-/// The value of a variable.
+/// Appends the value that an assignment gives to its variable, or `..` if the expression has no value.
 fn put_value(offer: &Offering, into: &mut Vec<u8>) -> Result<(), NoMemory> {
     put(b" ", into)?;
     match &offer.sent {
@@ -45,7 +47,7 @@ fn put_value(offer: &Offering, into: &mut Vec<u8>) -> Result<(), NoMemory> {
     }
 }
 
-/// The values, and behind them the patterns.
+/// Appends the values and then the patterns in parentheses, or `(..)` if one of them has no value.
 fn put_arguments(offer: &Offering, into: &mut Vec<u8>) -> Result<(), NoMemory> {
     let (Some(sent), Some(patterns)) = (&offer.sent, &offer.patterns) else {
         return put(b"(..)", into);
@@ -62,7 +64,7 @@ fn put_arguments(offer: &Offering, into: &mut Vec<u8>) -> Result<(), NoMemory> {
     put(b")", into)
 }
 
-/// Patterns, joined by commas.
+/// Appends patterns with commas between them.
 pub(crate) fn put_patterns(patterns: &[Pattern], into: &mut Vec<u8>) -> Result<(), NoMemory> {
     for (place, pattern) in patterns.iter().enumerate() {
         put_comma(place, into)?;

@@ -1,4 +1,4 @@
-//! Reasons in the words of people: what each process of a bus waits for.
+//! Reasons as sentences: what each process of a bus waits for.
 #![tactic(auto)]
 
 mod acts;

@@ -1,4 +1,4 @@
-//! Which message comes nearest to one that no other process sends or receives.
+//! The message that is nearest to a message which no other process sends or receives.
 
 use crate::atoms::put_patterns;
 use crate::waits::Seen;
@@ -10,30 +10,30 @@ use tb_match::match_term;
 use tb_terms::{Name, NoMemory, Pattern, Patterns, Term, Terms, write_term};
 use tb_why::{Offering, Standing};
 
-/// What an offer wants another process to do.
+/// The action that an offer needs from another process.
 #[derive(Clone, Copy)]
 pub(crate) enum Wanted<'a> {
     /// To receive these terms.
     Receive(&'a Terms),
-    /// To send what matches these patterns.
+    /// To send terms that match these patterns.
     Send(&'a Patterns),
 }
 
-/// Both sides of a message.
+/// The patterns of a message's receiver, and the terms of its sender.
 #[derive(Clone, Copy)]
 struct Sides<'a> {
     patterns: &'a Patterns,
     terms: &'a Terms,
 }
 
-/// How far terms are from patterns: by their number, and then by how many don't match.
+/// The distance of terms from patterns: first the difference of their numbers, and then the number of terms that don't match.
 #[derive(Clone, Copy)]
 struct Gap {
     number: usize,
     differing: usize,
 }
 
-/// An offer of another process, with the message that it has, and how far that is.
+/// An offer of a process that has the other side of the message, with its distance.
 #[derive(Clone, Copy)]
 struct Near<'a> {
     other: &'a Standing,
@@ -42,7 +42,8 @@ struct Near<'a> {
     gap: Gap,
 }
 
-/// The message of another process that comes nearest, and how it differs. If none begins alike, nothing is written.
+/// Appends the nearest message of another process, and how it differs. If no message begins alike, but the process itself has a matching
+/// other side, appends a sentence about that.
 pub(crate) fn put_nearest(
     alloc: Global,
     seen: &Seen,
@@ -62,7 +63,7 @@ pub(crate) fn put_nearest(
     }
 }
 
-/// That the process itself has the other side, if it has. If not, nothing is written.
+/// Appends that the process itself has the other side of the message. If it doesn't have one that matches, appends nothing.
 fn put_own<'a>(
     alloc: Global,
     seen: &Seen<'a>,
@@ -81,12 +82,12 @@ fn put_own<'a>(
     Ok(())
 }
 
-/// Both sides are as long, and each argument matches by itself.
+/// Returns whether both sides have the same length, and each argument matches by itself.
 fn is_none_far(gap: Gap) -> bool {
     gap.number == 0 && gap.differing == 0
 }
 
-/// Where the process itself has the other side.
+/// Appends where the process itself has the other side, and why that doesn't count.
 fn put_same(seen: &Seen, near: &Near, into: &mut Vec<u8>) -> Result<(), NoMemory> {
     let Near { other, offer, .. } = near;
     put(b"; ", into)?;
@@ -97,7 +98,7 @@ fn put_same(seen: &Seen, near: &Near, into: &mut Vec<u8>) -> Result<(), NoMemory
     )
 }
 
-/// The nearest so far, or an offer of this process that is nearer.
+/// Returns the nearest offer so far, or an offer of this process that is nearer.
 fn nearest_of<'a>(
     alloc: Global,
     seen: &Seen,
@@ -132,7 +133,7 @@ fn is_nearer(gap: Gap, best: &Option<Near>) -> bool {
     }
 }
 
-/// Both sides, if the offer has the other one.
+/// Returns both sides of the message, if the offer has the other side.
 fn sides_of<'a>(
     seen: &Seen,
     other: &Standing,
@@ -153,7 +154,7 @@ fn sides_of<'a>(
     }
 }
 
-/// How far the terms are from the patterns, if both begin alike: with the same name, or with a term that matches.
+/// Returns the distance of the terms from the patterns, if both begin alike: with the same name, or with a term that matches its pattern.
 fn gap_of(alloc: Global, sides: Sides) -> Result<Option<Gap>, NoMemory> {
     let Sides { patterns, terms } = sides;
     let (Some(pattern), Some(term)) = (patterns.get(0), terms.get(0)) else {
@@ -175,7 +176,7 @@ fn have_same_name(pattern: &Pattern, term: &Term) -> bool {
     }
 }
 
-/// The name with which a term begins.
+/// Returns the name with which a term begins.
 fn name_of(term: &Term) -> Option<&Name> {
     match term {
         Term::Appl(name, _) => Some(name),
@@ -183,7 +184,7 @@ fn name_of(term: &Term) -> Option<&Name> {
     }
 }
 
-/// The name with which a pattern begins.
+/// Returns the name with which a pattern begins.
 fn name_in(pattern: &Pattern) -> Option<&Name> {
     match pattern {
         Pattern::Fixed(term) => name_of(term),
@@ -200,7 +201,7 @@ fn difference(one: usize, other: usize) -> usize {
     }
 }
 
-/// How many terms don't match the pattern at their place.
+/// Returns the number of terms that don't match the pattern at the same place.
 fn count_differing(alloc: Global, patterns: &[Pattern], terms: &Terms) -> Result<usize, NoMemory> {
     let mut count: usize = 0;
     for (place, pattern) in patterns.iter().enumerate() {
@@ -213,7 +214,7 @@ fn count_differing(alloc: Global, patterns: &[Pattern], terms: &Terms) -> Result
     Ok(count)
 }
 
-/// Where the message is, what it has, and how that differs.
+/// Appends the place of the nearest message, its terms or patterns, and how it differs.
 fn put_near(
     alloc: Global,
     seen: &Seen,
@@ -242,7 +243,7 @@ fn put_near(
     put_difference(alloc, *sides, into)
 }
 
-/// How terms differ from patterns: in their number, at a place, or only together.
+/// Appends how terms differ from patterns: in their number, at a place, or only together.
 fn put_difference(alloc: Global, sides: Sides, into: &mut Vec<u8>) -> Result<(), NoMemory> {
     let Sides { patterns, terms } = sides;
     if patterns.len() != terms.len() {
@@ -262,7 +263,7 @@ fn put_difference(alloc: Global, sides: Sides, into: &mut Vec<u8>) -> Result<(),
     put(b" (a variable that comes twice would take two terms)", into)
 }
 
-/// The argument that doesn't match.
+/// Appends the argument that doesn't match.
 fn put_argument(
     place: usize,
     pattern: &Pattern,

@@ -1,4 +1,4 @@
-//! The sentence of a reason.
+//! Reasons as sentences.
 
 use crate::near::{Wanted, put_nearest};
 use crate::times::put_times;
@@ -10,7 +10,7 @@ use tb_terms::{NoMemory, write_term};
 use tb_tools::Stage;
 use tb_why::{FormatFault, Offering, Partner, Reason};
 
-/// The lanes have the numbers from 1 to this one.
+/// The number of the last lane. The first lane has the number 1.
 const LAST_LANE: u8 = 16;
 
 /// An offered atom of a process.
@@ -21,7 +21,7 @@ pub(crate) struct Place<'a> {
     pub offer: &'a Offering,
 }
 
-/// The sentence of a reason.
+/// Appends the sentence of a reason.
 pub(crate) fn put_reason(
     alloc: Global,
     seen: &Seen,
@@ -61,7 +61,7 @@ pub(crate) fn put_reason(
     }
 }
 
-/// The sentence of a reason that needs nothing else.
+/// Returns the sentence of a reason that needs no further data.
 fn plain_reason(reason: Reason) -> &'static [u8] {
     match reason {
         Reason::Down => b"the bus has shut down",
@@ -83,7 +83,7 @@ fn plain_reason(reason: Reason) -> &'static [u8] {
     }
 }
 
-/// The other process that matches, but isn't ready.
+/// Appends the sentence about another process whose message matches, but whose times don't hold.
 fn put_partner(
     seen: &Seen,
     place: &Place,
@@ -134,7 +134,8 @@ fn put_nobody_sends(
     }
 }
 
-/// The answer on a lane, which doesn't match. It is still there after a shutdown: no process takes it.
+/// Appends the sentence about an answer on a lane that doesn't match, with the answer. After a shutdown the answer is still there, since
+/// no process takes it.
 fn put_unmatched(seen: &Seen, lane: u8, into: &mut Vec<u8>) -> Result<(), NoMemory> {
     put_lane(
         b"an answer that doesn't match has come on lane ",
@@ -168,23 +169,23 @@ fn put_answer_waits(lane: u8, into: &mut Vec<u8>) -> Result<(), NoMemory> {
 
 fn put_ended(lane: u8, into: &mut Vec<u8>) -> Result<(), NoMemory> {
     put_lane(b"the tool of lane ", lane, into)?;
-    put(b" has ended, and nothing that matches is left of it", into)
+    put(b" is leaving, and nothing that matches is left of it", into)
 }
 
-/// A sentence with the number of a lane behind it.
+/// Appends a sentence that ends with the number of a lane.
 fn put_lane(sentence: &[u8], lane: u8, into: &mut Vec<u8>) -> Result<(), NoMemory> {
     put(sentence, into)?;
     put_number(u64::from(lane), into)
 }
 
-/// The note that matches, by its position in the queue, from 0.
+/// Appends the sentence about a note that matches. `position` is its place in the queue, from 0.
 fn put_note(position: usize, into: &mut Vec<u8>) -> Result<(), NoMemory> {
     put(b"note ", into)?;
     put_number((position as u64).saturating_add(1), into)?;
     put(b" of its queue matches", into)
 }
 
-/// The queue that is full, by its process.
+/// Appends the sentence about the full queue of this process.
 fn put_full(seen: &Seen, number: u32, into: &mut Vec<u8>) -> Result<(), NoMemory> {
     put(b"the queue of ", into)?;
     for other in seen.standings {
@@ -197,9 +198,9 @@ fn put_full(seen: &Seen, number: u32, into: &mut Vec<u8>) -> Result<(), NoMemory
 
 fn put_none(stage: Stage, into: &mut Vec<u8>) -> Result<(), NoMemory> {
     match stage {
-        Stage::Waiting => put(b"no new tool of this name has connected", into),
+        Stage::Waiting => put(b"no tool of this name waits for rec-connect", into),
         Stage::Live => put(b"no tool of this name is live", into),
-        Stage::Leaving => put(b"no tool of this name has ended", into),
+        Stage::Leaving => put(b"no tool of this name is leaving", into),
     }
 }
 
@@ -207,12 +208,12 @@ fn put_stage(lane: u8, stage: Stage, into: &mut Vec<u8>) -> Result<(), NoMemory>
     put_lane(b"the tool of lane ", lane, into)?;
     match stage {
         Stage::Waiting => put(b" waits for rec-connect", into),
-        Stage::Live => put(b" hasn't ended", into),
-        Stage::Leaving => put(b" has ended", into),
+        Stage::Live => put(b" isn't leaving", into),
+        Stage::Leaving => put(b" is leaving", into),
     }
 }
 
-/// Why `printf` has no text.
+/// Appends the sentence that says why `printf` has no text.
 fn put_format(offer: &Offering, fault: FormatFault, into: &mut Vec<u8>) -> Result<(), NoMemory> {
     put(b"printf has no text: ", into)?;
     match fault {
@@ -235,7 +236,7 @@ fn put_format(offer: &Offering, fault: FormatFault, into: &mut Vec<u8>) -> Resul
     }
 }
 
-/// A letter behind a `%`. One that isn't printed goes by the number of its byte.
+/// Appends a `%` with the letter after it. For a byte that isn't printable ASCII, appends its number.
 fn put_letter(letter: u8, into: &mut Vec<u8>) -> Result<(), NoMemory> {
     if !letter.is_ascii_graphic() {
         put(b"% before byte ", into)?;
@@ -246,7 +247,7 @@ fn put_letter(letter: u8, into: &mut Vec<u8>) -> Result<(), NoMemory> {
     Ok(())
 }
 
-/// What the letter takes, and what it is given.
+/// Appends what a directive takes, and the argument that it is given.
 fn put_differs(
     offer: &Offering,
     letter: u8,
@@ -264,7 +265,7 @@ fn put_differs(
     put(b" (%t takes any term)", into)
 }
 
-/// What this letter takes.
+/// Returns what the directive with this letter takes.
 fn taken_by(letter: u8) -> &'static [u8] {
     match letter {
         b'd' => b" takes a number",

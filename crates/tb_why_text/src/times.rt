@@ -1,4 +1,4 @@
-//! For how long an atom with times still waits.
+//! The sentence about an atom whose times don't hold: for how long it still waits.
 
 use crate::waits::Seen;
 use std::alloc::Global;
@@ -8,16 +8,17 @@ use tb_log_plain::{put, put_count};
 use tb_terms::{Expr, Items, NoMemory, Term};
 use tb_why::Offering;
 
-/// When the times of an atom hold: the first and the last tick, counted from now. A number below 0 is a tick that has passed.
+/// The ticks at which the times of an atom hold: the first and the last of them, counted from now. A negative number is a tick that has
+/// passed.
 #[derive(Clone, Copy)]
 struct Window {
     opens: i64,
     closes: i64,
-    /// Each time has a value without the variables.
+    /// Whether each time has a value without the values of variables.
     known: bool,
 }
 
-/// The sentence of an atom whose times don't hold.
+/// Appends the sentence about an atom whose times don't hold.
 pub(crate) fn put_times(
     alloc: Global,
     seen: &Seen,
@@ -55,7 +56,7 @@ fn put_over(ticks: u64, into: &mut Vec<u8>) -> Result<(), NoMemory> {
     put(b" ago", into)
 }
 
-/// So many ticks: at least, unless each time is known.
+/// Appends the number of ticks until the window opens. If a time isn't known, writes `at least` before it.
 fn put_more(window: Window, into: &mut Vec<u8>) -> Result<(), NoMemory> {
     if !window.known {
         put(b"at least ", into)?;
@@ -63,7 +64,7 @@ fn put_more(window: Window, into: &mut Vec<u8>) -> Result<(), NoMemory> {
     put_count(window.opens.unsigned_abs(), b"more tick", into)
 }
 
-/// When the times hold of an atom of this age, on a bus that has seen `now` ticks. It has been offered for as many ticks as its age.
+/// Returns the window in which the times of an atom hold. The atom has been offered for `age` ticks, on a bus that has seen `now` ticks.
 fn window_of(alloc: Global, atom: &Atom, age: u64, now: u64) -> Result<Window, NoMemory> {
     let mut window = Window {
         opens: from_now(0, age),
@@ -76,7 +77,8 @@ fn window_of(alloc: Global, atom: &Atom, age: u64, now: u64) -> Result<Window, N
     Ok(window)
 }
 
-/// The window, as far as one more time holds.
+/// Returns the part of the window in which this time holds, too. If the time has no known value, the bounds remain, and `known` becomes
+/// false.
 fn narrowed(
     alloc: Global,
     window: Window,
@@ -112,12 +114,12 @@ fn closed(window: Window, tick: i64) -> Window {
     }
 }
 
-/// The tick at which a count that is `passed` now is `wanted`, counted from now.
+/// Returns the tick, counted from now, at which a count reaches `wanted`. The count is `passed` now.
 fn from_now(wanted: i64, passed: u64) -> i64 {
     wanted.saturating_sub_unsigned(passed)
 }
 
-/// The number that an expression without variables has.
+/// Returns the number to which an expression without variables evaluates, if it has one.
 fn number_of(alloc: Global, expr: &Expr) -> Result<Option<i64>, NoMemory> {
     let store = Store::fresh(alloc, &Items::new(alloc))?;
     match eval(alloc, expr, &store)? {

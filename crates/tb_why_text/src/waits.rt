@@ -1,4 +1,4 @@
-//! What each process waits for, a line an offer.
+//! What each process waits for: a line for each offer.
 
 use crate::atoms::put_atom;
 use crate::reasons::{Place, put_reason};
@@ -9,24 +9,27 @@ use tb_terms::NoMemory;
 use tb_tools::Bench;
 use tb_why::{Offering, Stall, Standing, Waiter};
 
-/// A bus, as far as its lines need it.
+/// The data of a bus from which the lines are written.
 #[derive(Clone, Copy)]
 pub struct Seen<'a> {
+    /// The program of the script.
     pub program: &'a Program,
+    /// The names of the processes, and the places of their atoms in the source.
     pub names: &'a Names,
+    /// The living processes, with their offers.
     pub standings: &'a [Standing],
     /// The lanes and their tools, at the end of the log.
     pub bench: &'a Bench,
-    /// How many ticks the bus has seen.
+    /// The number of ticks that the bus has seen.
     pub now: u64,
-    /// No more ticks come.
+    /// Whether no more ticks come.
     pub no_ticks: bool,
-    /// The bus has shut down. The lines are about the bus just before.
+    /// Whether the bus has shut down. If so, the lines are about the bus just before the shutdown.
     pub is_down: bool,
 }
 
 impl<'a> Seen<'a> {
-    /// An atom of a body.
+    /// Returns the atom with this number, from 1, of a body.
     pub(crate) fn atom(&self, body: u32, atom: u32) -> Option<&'a Atom> {
         let body = self.program.bodies.get(body as usize)?;
         body.atoms.get((atom as usize).saturating_sub(1))
@@ -51,7 +54,7 @@ pub fn write_waits(
     Ok(())
 }
 
-/// The lines of one process.
+/// Appends the lines of one process.
 fn put_waiter(
     alloc: Global,
     seen: &Seen,
@@ -74,7 +77,7 @@ fn put_waiter(
     Ok(())
 }
 
-/// The line of one offer.
+/// Appends the line of one offer.
 fn put_stall(
     alloc: Global,
     seen: &Seen,

@@ -13,7 +13,7 @@ returns-in_ok-extend_from_slice-in-len1-up-clause-tells g t c =
     c.in-len1-up.len_at_least c.in_ok-text-in-len1-up.ensures.held c.in_ok-text-in-len1-up.ensures.tells c.in_ok-rest-in-len1-up.ensures.tells
     c.as_slice.ensures.value c.in_ok-extend_from_slice-in-len1-up.ensures.items
 
--- the first file that can't be read, or that memory doesn't do for
+-- the first file can't be read, or memory runs out at it
 pub returns-in_err-text-in-len1-up-clause-asks_some :
     goal.returns-in_err-text-in-len1-up-clause-asks_some
 returns-in_err-text-in-len1-up-clause-asks_some g t c =
@@ -31,7 +31,7 @@ returns-in_err-text-in-len1-up-clause-reason g t c =
     (reason_of_first g.F.Files.asked g.F.Files.faults value c.args.scripts.now _ c.args.files.now c.tell.new.files
     c.in_err-text-in-len1-up.field-0.0 c.in-len1-up.len_at_least c.in_err-text-in-len1-up.ensures.reason)
 
--- one of the others
+-- one of the other files
 pub returns-in_err-rest-in-len1-up-clause-reason :
     goal.returns-in_err-rest-in-len1-up-clause-reason
 returns-in_err-rest-in-len1-up-clause-reason g t c =
