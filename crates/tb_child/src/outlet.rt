@@ -60,6 +60,16 @@ impl<R: Processes<Started = SystemProcess> + Wait + Clock + Copy + Drop> Outlet 
         Err(Failed)
     }
 
+    fn can_take_line(&self) -> bool {
+        match &self.child {
+            Some(child) => match &child.stdin {
+                Some(input) => can_write(input, 0),
+                None => false,
+            },
+            None => false,
+        }
+    }
+
     fn end(&mut self) {
         if let Some(child) = &mut self.child {
             child.stdin = None;

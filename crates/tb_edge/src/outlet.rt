@@ -33,6 +33,10 @@ pub trait Outlet: Drop {
         ensures never_falls { faults self.old ≤ faults self.new }
         ensures fits { faults self.old < 2 ^ 64 → faults self.new < 2 ^ 64 };
 
+    /// Returns whether `line` can write a line of less than 4,096 bytes without waiting for the tool. The answer is a hint: no clause
+    /// mentions it.
+    fn can_take_line(&self) -> bool;
+
     /// Closes the input of the tool.
     fn end(&mut self)
         ensures told { told self.new ≡ and_taken (told self.old) (Taken.End ∷ []) }
@@ -59,6 +63,10 @@ impl Outlet for Box<dyn Outlet + Send> {
 
     fn line(&mut self, bytes: &[u8]) -> Result<(), Failed> {
         (**self).line(bytes)
+    }
+
+    fn can_take_line(&self) -> bool {
+        (**self).can_take_line()
     }
 
     fn end(&mut self) {

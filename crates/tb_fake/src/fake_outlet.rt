@@ -145,6 +145,10 @@ impl Outlet for FakeOutlet {
         self.put(Kind::Line, bytes)
     }
 
+    fn can_take_line(&self) -> bool {
+        true
+    }
+
     fn end(&mut self)
         ensures after { self.new ≡ outlet_with self.old Taken.End 0 }
     {

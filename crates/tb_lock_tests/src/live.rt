@@ -129,6 +129,10 @@ impl Outlet for ClosingOutlet {
         Ok(())
     }
 
+    fn can_take_line(&self) -> bool {
+        true
+    }
+
     fn end(&mut self) {}
 
     fn close(&mut self) {
