@@ -3,9 +3,11 @@ pub mod BusLemmas
 pub mod ClockLemmas
 pub mod CloseLemmas
 pub mod ComeLemmas
+pub mod DeskLemmas
 pub mod EndLemmas
 pub mod EndedLemmas
 pub mod GatherLemmas
+pub mod HelpedLemmas
 pub mod JoinLemmas
 pub mod LaneLemmas
 pub mod LimitLemmas

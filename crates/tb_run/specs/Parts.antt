@@ -1,5 +1,5 @@
 -- The rights of the workers, in the order of their jobs: the readers of the lanes, their writers, the stepper; then the ticker.
-use Rattle.std.specs.Prelude.{ℕ, true, false, List, [], ◌∷◌, ◌++◌, map}
+use Rattle.std.specs.Prelude.{ℕ, false, List, [], ◌∷◌, ◌++◌, map}
 use Rattle.std.specs.List.{fold}
 use Rattle.tb_lock.specs.declared.rights.Rights.{Rights}
 use Rattle.tb_lock.specs.Rights.{all_rights, stepper_rights, without}

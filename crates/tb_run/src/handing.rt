@@ -27,13 +27,27 @@ pub fn hand<W: Walker, R: Wait>(
     requires right { has seat.old.rights (right_to (HandIn input)) ≡ true }
     ensures { Hands input seat.old seat.new result }
 {
-    calls_add_their_own();
     let lane = lane_of(&input);
+    let end = deliver(rt, post, seat, input);
+    post.tell_input(lane);
+    end
+}
+
+/// Delivers an input as `hand` does, but wakes no thread unless the call was rejected.
+pub(crate) fn deliver<W: Walker, R: Wait>(
+    rt: &R,
+    post: &Post<W>,
+    seat: &mut Seat,
+    input: Input,
+) -> Option<WorkEnd>
+    requires own { seat.old.bus ≡ post.now.shared }
+    requires form { IsInputInShape input }
+    requires right { has seat.old.rights (right_to (HandIn input)) ≡ true }
+    ensures { Hands input seat.old seat.new result }
+{
+    calls_add_their_own();
     match post.shared.hand_in(rt, seat, input) {
-        Ok(reply) => {
-            post.tell_input(lane);
-            end_of(reply)
-        }
+        Ok(reply) => end_of(reply),
         Err(fault) => Some(refused(rt, post, seat, fault)),
     }
 }

@@ -1,14 +1,19 @@
 //! Runs a bus with live tools. The workers share the bus: readers and writers of the lanes, a ticker, and a stepper.
 #![tactic(auto)]
 
+mod at_desk;
 mod buffer;
+mod desks;
 mod ending;
 mod ends;
 mod handing;
+mod helped_job;
+mod helping;
 mod lanes;
 mod laws;
 mod logger;
 mod moving;
+mod next;
 mod parts;
 mod post;
 mod reader;
@@ -22,6 +27,7 @@ mod ticker;
 mod worker;
 mod working;
 mod writer;
+mod writer_stage;
 
 pub use buffer::Buffer;
 pub use ending::{any_full, any_no_memory};
@@ -30,6 +36,7 @@ pub use handing::{hand, refused, stop};
 pub use lanes::{AnyInlet, AnyOutlet, Lanes};
 pub use laws::a_run_that_ended_was_not_refused;
 pub use moving::{end_all, pair_lanes, part_lanes, works_of};
+pub use next::{Next, WakeOthers};
 pub use parts::{in_of, out_of};
 pub use post::Post;
 pub use reader::read_lane;

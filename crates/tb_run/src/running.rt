@@ -9,7 +9,12 @@ ghost use Rattle.tb_lock.specs.Seats.{first_seat};
 ghost use Rattle.tb_run.specs.Outcomes.{Runs};
 ghost use Rattle.tb_run.specs.Views.{ends_seen, outside_seen};
 ghost use Rattle.tb_run.specs.Running.{IsAfterRest, GoesToRest};
+ghost use Rattle.tb_run.specs.Moving.{works_of};
+ghost use Rattle.tb_run.specs.Parting.{parted};
+ghost use Rattle.tb_run.specs.Parts.{job_rights};
+ghost use Rattle.tb_run.specs.Helpers.Desks.{all_begun};
 
+use crate::desks::{Begins, Places};
 use crate::ends::RunWhy;
 use crate::lanes::Lanes;
 use crate::moving::{pair_lanes, part_lanes};
@@ -17,6 +22,7 @@ use crate::post::Post;
 use crate::room::{Boxes, Room, make_boxes, make_room};
 use crate::working::run_workers;
 use std::alloc::Global;
+use std::marker::Brand;
 use std::mem;
 use std::sync::Wait;
 use std::thread::Threads;
@@ -67,7 +73,9 @@ where
     match Shared::make(alloc, core) {
         Ok((shared, seat)) => {
             let post = Post::new(alloc, shared, 34);
-            run_post(rt, post, seat, lanes, room, clock, ticks, crew, out)
+            run_post::<Brand, W, R, C, P, S, I, O>(
+                rt, post, seat, lanes, room, clock, ticks, crew, out,
+            )
         }
         Err(refused) => (RunWhy::NoMemory, refused.core),
     }
@@ -75,6 +83,7 @@ where
 
 /// Runs a bus from its first seat, closes it, and writes the rest of the log.
 fn run_post<
+    K: Begins + Send,
     W: Walker + Send,
     R: Threads + Wait + Sync,
     C: Clock + Send,
@@ -100,6 +109,9 @@ where
     requires outlets { vec_len lanes.old.outlets ≡ 16 }
     requires room { room.count ≡ 16 }
     requires first { seat ≡ first_seat post.shared seat.origin }
+    requires bus { post.shared ≡ K.bus }
+    requires starts { all_begun O.told O.faults (parted seat job_rights)
+        (works_of 1 lanes.old.inlets.items lanes.old.outlets.items) ≡ K.starts }
     ensures runs { let seen = ends_seen I.Inlet O.Outlet C.Clock P.Crew S.Sink in
         Runs ticks (seen lanes.old.inlets.items lanes.old.outlets.items
         clock.old crew.old out.old)
@@ -110,7 +122,19 @@ where
 {
     a_full_log_is_at_its_limit();
     let mut seat = seat;
-    let (why, writer) = run_workers(rt, &post, &mut seat, lanes, room, clock, ticks, crew, out);
+    let places: Option<Places<K, O>> = Places::new(post.alloc).ok();
+    let (why, writer) = run_workers(
+        rt,
+        &post,
+        places.as_ref(),
+        &mut seat,
+        lanes,
+        room,
+        clock,
+        ticks,
+        crew,
+        out,
+    );
     let Post { shared, .. } = post;
     let core = shared.close(rt, seat);
     let why = put_rest(core.log(), why, writer, out);

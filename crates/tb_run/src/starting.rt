@@ -28,6 +28,7 @@ pub fn begin_all<'a, W: Walker, I: Inlet, O: Outlet>(
     ensures seats { map (λ it. it.seat) workers.new.items ≡ seats.items }
     ensures works { map (λ it. it.work) workers.new.items ≡ works.items }
     ensures ready { All (λ it. IsReady it.post.now.shared it.seat it.work) workers.new.items }
+    ensures posts { All (λ it. it.post.now.shared ≡ post.now.shared) workers.new.items }
 {
     let mut seats = seats.into_iter();
     let mut buffers = buffers;

@@ -16,7 +16,7 @@ use tb_core::{CoreFault, Stepped};
 use tb_lock::{Seat, calls_add_their_own};
 use tb_process_steps::Walker;
 
-/// The largest number of turns that the stepper takes before it wakes the other threads.
+/// The largest number of turns in one visit of the gate. After these, other threads are woken, or their work is done.
 const BURST: u32 = 8;
 
 /// Makes steps until the bus has shut down. If no step is possible, waits until another thread wakes it.
@@ -27,20 +27,25 @@ pub fn step_worker<W: Walker, R: Wait>(rt: &R, post: &Post<W>, seat: &mut Seat) 
 {
     let mut heard = 0;
     for _ in rt.forever() {
-        match step_some(rt, post, seat, &mut heard) {
+        let mut rests = false;
+        match step_some(rt, post, seat, &mut rests) {
             Some(end) => return end,
             None => {}
+        }
+        post.tell_steps();
+        if rests {
+            heard = post.bells.wait_past(rt, Sleeper::Stepper, heard);
         }
     }
     unreachable!()
 }
 
-/// Makes some steps, and waits if no further step is possible. Returns why the worker ends, if it ends.
-fn step_some<W: Walker, R: Wait>(
+/// Makes some steps. Returns why the worker ends, if it ends. `rests` is set if no further step is possible.
+pub(crate) fn step_some<W: Walker, R: Wait>(
     rt: &R,
     post: &Post<W>,
     seat: &mut Seat,
-    heard: &mut u64,
+    rests: &mut bool,
 ) -> Option<WorkEnd>
     requires own { seat.old.bus ≡ post.now.shared }
     requires right { has seat.old.rights ToStep ≡ true }
@@ -48,13 +53,9 @@ fn step_some<W: Walker, R: Wait>(
 {
     calls_add_their_own();
     match make_steps(rt, post, seat) {
-        Ok(Stepped::Did) => {
-            post.tell_steps();
-            None
-        }
+        Ok(Stepped::Did) => None,
         Ok(Stepped::Quiet) => {
-            post.tell_steps();
-            *heard = post.bells.wait_past(rt, Sleeper::Stepper, *heard);
+            *rests = true;
             None
         }
         Ok(Stepped::Down) => {

@@ -3,6 +3,7 @@ ghost use Rattle.tb_run.specs.Jobs.{IsReady, WorkDone};
 
 use crate::buffer::Buffer;
 use crate::ends::WorkEnd;
+use crate::next::WakeOthers;
 use crate::post::Post;
 use crate::reader::read_lane;
 use crate::stepper::step_worker;
@@ -72,7 +73,7 @@ fn do_work<W: Walker, R: Wait, I: Inlet, O: Outlet>(
     match work {
         Work::Reads(lane, inlet) => {
             let mut line = Vec::new(post.alloc);
-            read_lane(rt, post, seat, inlet, &mut line, *lane)
+            read_lane(rt, post, &WakeOthers, seat, inlet, &mut line, *lane)
         }
         Work::Writes(lane, outlet) => {
             write_lane(rt, post, seat, outlet, &mut buffer.bytes, *lane)

@@ -2,7 +2,7 @@
 ghost use Rattle.std.specs.Prelude.{◌≡◌, ◌≤◌, ◌++◌, [], ◌∷◌, List, map, length, vec_len, vec_capacity, None, Some, MatchOption, IfOk, IfErr, OnOk, true, ◌+◌};
 ghost use Rattle.std.specs.List.{All};
 ghost use Rattle.tb_edge.specs.Faults.{Rose};
-ghost use Rattle.tb_edge.specs.Jobs.{AllDone, FailsOnly, jobs_of};
+ghost use Rattle.tb_edge.specs.Jobs.{AllDone, jobs_of};
 ghost use Rattle.tb_lock.specs.Rights.{Ticks as ToTick, has, no_rights, ticker_rights};
 ghost use Rattle.tb_lock.specs.Seats.{first_seat, handed_on, kept_of};
 ghost use Rattle.tb_run.specs.Jobs.{IsReady, WorkDone};
@@ -15,9 +15,12 @@ ghost use Rattle.tb_run.specs.Parts.{job_rights};
 ghost use Rattle.tb_run.specs.Reasons.{reason_of};
 ghost use Rattle.tb_run.specs.Running.{HasCome, FailsFor, why_by};
 ghost use Rattle.tb_run.specs.Workers.{TicksBus};
+ghost use Rattle.tb_run.specs.Helpers.Desks.{begun, all_begun};
 
+use crate::desks::{Begins, Places};
 use crate::ending::reason_of;
 use crate::ends::{LogEnd, RunWhy, WorkEnd};
+use crate::helped_job::{helped_jobs, workers_of};
 use crate::lanes::Lanes;
 use crate::logger::LogJob;
 use crate::moving::{end_all, works_of};
@@ -58,9 +61,10 @@ struct Back<'a, W: Walker, I, O> {
     writer: LogWriter,
 }
 
-/// Runs all workers concurrently. Returns why the run ends, and the writer of the log.
+/// Runs all workers concurrently. Returns why the run ends, and the writer of the log. Without places, nothing runs: memory ran out.
 pub(crate) fn run_workers<
     'a,
+    K: Begins + Send,
     W: Walker + Send,
     R: Threads + Wait + Sync,
     C: Clock + Send,
@@ -71,6 +75,7 @@ pub(crate) fn run_workers<
 >(
     rt: &R,
     post: &'a Post<W>,
+    places: Option<&'a Places<K, O>>,
     seat: &mut Seat,
     lanes: &mut Lanes<I, O>,
     room: Room<I, O>,
@@ -86,6 +91,9 @@ where
     requires outlets { vec_len lanes.old.outlets ≡ 16 }
     requires room { room.count ≡ 16 }
     requires first { seat.old ≡ first_seat post.now.shared seat.old.origin }
+    requires bus { post.now.shared ≡ K.bus }
+    requires starts { all_begun O.told O.faults (parted seat.old job_rights)
+        (works_of 1 lanes.old.inlets.items lanes.old.outlets.items) ≡ K.starts }
     ensures come { let seen = ends_seen I.Inlet O.Outlet C.Clock P.Crew S.Sink in
         HasCome ticks (seen lanes.old.inlets.items lanes.old.outlets.items
         clock.old crew.old out.old)
@@ -99,8 +107,11 @@ where
     let Ok(workers) = Vec::with_capacity(post.alloc, 33) else {
         return (RunWhy::NoMemory, LogWriter::new(post.alloc));
     };
+    let Some(places) = places else {
+        return (RunWhy::NoMemory, LogWriter::new(post.alloc));
+    };
     let (team, ended) = begin(post, seat, lanes, room, workers);
-    let back = work(rt, post, team, clock, ticks, crew, out);
+    let back = work(rt, post, places, team, clock, ticks, crew, out);
     let Back {
         failed,
         workers,
@@ -142,6 +153,7 @@ fn begin<'a, W: Walker, I: Inlet, O: Outlet>(
     ensures works { map (λ it. it.work) result.0.workers.items
         ≡ works_of 1 lanes.old.inlets.items lanes.old.outlets.items }
     ensures ready { All (λ it. IsReady it.post.now.shared it.seat it.work) result.0.workers.items }
+    ensures posts { All (λ it. it.post.now.shared ≡ post.now.shared) result.0.workers.items }
     ensures tick { result.0.tick_seat ≡ handed_on ticker_rights (left_after seat.old job_rights) }
     ensures log { result.0.log_seat
         ≡ handed_on no_rights (kept_of ticker_rights (left_after seat.old job_rights)) }
@@ -175,6 +187,7 @@ fn begin<'a, W: Walker, I: Inlet, O: Outlet>(
 /// Runs all workers, the tick worker and the job that writes the log concurrently.
 fn work<
     'a,
+    K: Begins + Send,
     W: Walker + Send,
     R: Threads + Wait + Sync,
     C: Clock + Send,
@@ -185,6 +198,7 @@ fn work<
 >(
     rt: &R,
     post: &'a Post<W>,
+    places: &'a Places<K, O>,
     team: Team<'a, W, I, O>,
     clock: &mut C,
     ticks: u64,
@@ -194,7 +208,10 @@ fn work<
 where
     W::Plan: Send,
     W::Taken: Send,
+    requires posts { All (λ it. it.post.now.shared ≡ K.bus) team.workers.items }
     requires ready { All (λ it. IsReady it.post.now.shared it.seat it.work) team.workers.items }
+    requires starts { map (λ it. begun O.told O.faults it.seat it.work) team.workers.items
+        ≡ K.starts }
     requires tick { (team.tick_seat.bus ≡ post.now.shared) × (has team.tick_seat.rights ToTick ≡ true) }
     requires log { team.log_seat.bus ≡ post.now.shared }
     ensures worked { MatchOption result.failed
@@ -235,7 +252,7 @@ where
         writer: LogWriter::new(post.alloc),
         end: LogEnd::Over,
     };
-    let (failed, workers) = taken_back(beside(rt, crew, workers, &mut ticker, &mut logger));
+    let (failed, workers) = beside(rt, crew, places, workers, &mut ticker, &mut logger);
     let (tick_seat, tick_end) = end_ticks(ticker);
     let (log_seat, writer, log_end) = end_log(logger);
     Back {
@@ -249,12 +266,14 @@ where
     }
 }
 
-/// Lets the crew do the jobs of all workers concurrently with the jobs of the ticker and of the log's writer. The crew borrows these two
-/// jobs, so that they keep their clock and their sink.
+/// Lets the crew do the jobs of all workers, which help one another at the desks, concurrently with the jobs of the ticker and of the
+/// log's writer. The crew borrows these two jobs, so that they keep their clock and their sink. Returns the workers, and the reason if
+/// the crew didn't do the jobs.
 fn beside<
     'a,
     'b,
     'c,
+    K: Begins + Send,
     W: Walker + Send,
     R: Threads + Wait + Sync,
     C: Clock + Send,
@@ -265,37 +284,53 @@ fn beside<
 >(
     rt: &R,
     crew: &mut P,
+    places: &'a Places<K, O>,
     workers: Vec<Worker<'a, W, I, O>>,
     ticker: &mut TickJob<'b, W, C>,
     logger: &mut LogJob<'c, W, S, LogWriter>,
-) -> Result<Vec<Worker<'a, W, I, O>>, CrewFault<Worker<'a, W, I, O>>>
+) -> (Option<RunWhy>, Vec<Worker<'a, W, I, O>>)
 where
     W::Plan: Send,
     W::Taken: Send,
+    requires posts { All (λ it. it.post.now.shared ≡ K.bus) workers.items }
     requires ready { All (λ it. IsReady it.post.now.shared it.seat it.work) workers.items }
+    requires starts { map (λ it. begun O.told O.faults it.seat it.work) workers.items ≡ K.starts }
     requires tick { (ticker.old.seat.bus ≡ ticker.old.post.now.shared)
         × (has ticker.old.seat.rights ToTick ≡ true) }
     requires log { (logger.old.seat.bus ≡ logger.old.post.now.shared)
         × (logger.old.writer ≡ record { written = 0; held = [] }) }
     ensures clock { ticker.new.clock.ghost_name ≡ ticker.old.clock.ghost_name }
     ensures out { logger.new.out.ghost_name ≡ logger.old.out.ghost_name }
-    ensures ok { IfOk result (λ all. AllDone
+    ensures worked { MatchOption result.0
+        (AllDone
         (λ old new. WorkDone I.told O.told O.faults old.seat new.seat new.end old.work new.work)
-        workers.entry.items all.items
+        workers.entry.items result.1.items
         × TicksBus (λ count. count ≡ ticker.old.ticks)
         ticker.old.ticks ticker.old.seat ticker.new.seat
         (C.told ticker.old.clock.now) (C.told ticker.new.clock.now)
         (C.faults ticker.old.clock.now) (C.faults ticker.new.clock.now) ticker.new.end
         × LogDone logger.old.seat logger.new.seat logger.new.writer
         (S.taken logger.old.out.now) (S.taken logger.new.out.now)
-        (S.faults logger.old.out.now) (S.faults logger.new.out.now) logger.new.end) }
-    ensures err { IfErr result (λ fault. (jobs_of fault ≡ workers.entry.items)
+        (S.faults logger.old.out.now) (S.faults logger.new.out.now) logger.new.end)
+        (λ why. FailsFor why (P.faults crew.old) (P.faults crew.new)
+        × (result.1.items ≡ workers.entry.items)
         × (ticker.new ≡ ticker.old) × (logger.new ≡ logger.old)) }
-    ensures rose { IfErr result
-        (λ fault. FailsOnly fault (Rose (P.faults crew.old) (P.faults crew.new))) }
-    ensures calm { OnOk result (P.faults crew.new ≡ P.faults crew.old) }
+
+    // If the crew does the jobs, its count of failures is unchanged.
+    ensures calm { MatchOption result.0 (P.faults crew.new ≡ P.faults crew.old)
+        (λ why. (ticker.new ≡ ticker.old) × (logger.new ≡ logger.old)) }
 {
-    crew.beside(rt, workers, ticker, logger)
+    let alloc = ticker.post.alloc;
+    let Ok(jobs) = Vec::with_capacity(alloc, workers.len()) else {
+        return (Some(RunWhy::NoMemory), workers);
+    };
+    let Ok(room) = Vec::with_capacity(alloc, workers.len()) else {
+        return (Some(RunWhy::NoMemory), workers);
+    };
+    let mut jobs = jobs;
+    helped_jobs(places, workers, &mut jobs);
+    let (failed, jobs) = taken_back(crew.beside(rt, jobs, ticker, logger));
+    (failed, workers_of(jobs, room))
 }
 
 /// Returns the seat of the tick worker after its work, and why the worker ended. The clock is unchanged.

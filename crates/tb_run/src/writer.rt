@@ -1,21 +1,23 @@
 //! The worker that writes the items of a lane to its outlet.
 ghost use Rattle.std.specs.Prelude.{◌≡◌, ◌≤◌, true, None, MatchOption, OnOk, OnErr, vec_capacity};
-ghost use Rattle.tb_log.specs.Shapes.{IsLane};
+ghost use Rattle.tb_log.specs.Shapes.{IsLane, IsOutInShape};
 ghost use Rattle.tb_tool_line.specs.Sending.{most_line_text};
 ghost use Rattle.tb_lock.specs.Rights.{Out as Outs, has};
 ghost use Rattle.tb_run.specs.Workers.{WritesLane};
-ghost use Rattle.tb_run.specs.Helpers.Working.{Writes, CutsOff, going_on};
+ghost use Rattle.tb_run.specs.Helpers.Working.{Writes, CutsOff, Puts, going_on};
+ghost use Rattle.tb_run.specs.Helpers.Desks.{TakesOne};
 
 use crate::ends::WorkEnd;
 use crate::handing::{hand, refused};
 use crate::post::Post;
+use crate::writer_stage::WriterStage;
 use std::sync::Wait;
 use tb_bells::Sleeper;
 use tb_bus::entries_are_in_shape;
 use tb_core::TakeOut;
 use tb_edge::Outlet;
 use tb_lock::{Seat, calls_add_their_own};
-use tb_log::Input;
+use tb_log::{Input, Out};
 use tb_process_steps::Walker;
 use tb_tool_line::{SendFault, send_out};
 
@@ -99,19 +101,60 @@ fn write_one<W: Walker, R: Wait, O: Outlet>(
         (O.faults outlet.old) (O.faults outlet.new)) }
     ensures room { most_line_text ≤ vec_capacity buffer.new }
 {
+    match take_one(rt, post, seat, lane) {
+        WriterStage::Free => None,
+        WriterStage::Holds(out) => put_one(rt, post, seat, outlet, buffer, lane, &out),
+        WriterStage::Ended(end) => Some(end),
+    }
+}
+
+/// Takes the next queued item, if there is one.
+pub(crate) fn take_one<W: Walker, R: Wait>(
+    rt: &R,
+    post: &Post<W>,
+    seat: &mut Seat,
+    lane: u8,
+) -> WriterStage
+    requires own { seat.old.bus ≡ post.now.shared }
+    requires lane { IsLane lane }
+    requires right { has seat.old.rights (Outs lane) ≡ true }
+    ensures { TakesOne lane seat.old seat.new result }
+{
     calls_add_their_own();
     entries_are_in_shape();
     match post.shared.take_out(rt, seat, lane) {
         Ok(TakeOut::Out(out)) => {
             post.tell_taken(&out);
-            buffer.clear();
-            let sent = send_out(outlet, &out, buffer);
-            cut_off(rt, post, seat, lane, sent)
+            WriterStage::Holds(out)
         }
-        Ok(TakeOut::Nothing) => None,
-        Ok(TakeOut::Closed) => Some(WorkEnd::Down),
-        Err(fault) => Some(refused(rt, post, seat, fault)),
+        Ok(TakeOut::Nothing) => WriterStage::Free,
+        Ok(TakeOut::Closed) => WriterStage::Ended(WorkEnd::Down),
+        Err(fault) => WriterStage::Ended(refused(rt, post, seat, fault)),
     }
+}
+
+/// Writes an item that was taken, or delivers a `cut` if the outlet fails to take it. Returns why the worker ends, if it ends.
+pub(crate) fn put_one<W: Walker, R: Wait, O: Outlet>(
+    rt: &R,
+    post: &Post<W>,
+    seat: &mut Seat,
+    outlet: &mut O,
+    buffer: &mut Vec<u8>,
+    lane: u8,
+    out: &Out,
+) -> Option<WorkEnd>
+    requires own { seat.old.bus ≡ post.now.shared }
+    requires lane { IsLane lane }
+    requires right { has seat.old.rights (Outs lane) ≡ true }
+    requires shape { IsOutInShape out.now }
+    requires room { most_line_text ≤ vec_capacity buffer.old }
+    ensures puts { Puts lane out.now seat.old seat.new (O.told outlet.old) (O.told outlet.new)
+        (O.faults outlet.old) (O.faults outlet.new) result }
+    ensures room { most_line_text ≤ vec_capacity buffer.new }
+{
+    buffer.clear();
+    let sent = send_out(outlet, out, buffer);
+    cut_off(rt, post, seat, lane, sent)
 }
 
 /// Delivers a `cut` if the outlet failed to take an item.

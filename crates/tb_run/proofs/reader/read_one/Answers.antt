@@ -10,8 +10,8 @@ use Rattle.tb_run.proofs.reader.read_one.Goals as goal
 pub returns-in-Ok : goal.returns-in-Ok
 returns-in-Ok g c =
     let lane = c.args.lane in
-    reads_hands lane c.args.seat.now c.hand.new.seat (g.I.Inlet.told c.args.inlet.now) (g.I.Inlet.told c.next.new.self) (given.Line c.next.new.line.items) (input.Line lane c.in-Ok.read) c.hand.result
-    (line_on lane c.in-Ok.read) (not_over (g.I.Inlet.told c.args.inlet.now) got.Line c.in-Line.ensures.over refl) (refl, subst (λ (b : List ℕ). IsToolLine b c.in-Ok.read) c.as_slice.ensures.value c.in-Ok.ensures.line) c.in-Line.ensures.told c.hand.ensures
+    reads_hands lane c.args.seat.now c.deliver.new.seat (g.I.Inlet.told c.args.inlet.now) (g.I.Inlet.told c.next.new.self) (given.Line c.next.new.line.items) (input.Line lane c.in-Ok.read) c.deliver.result
+    (line_on lane c.in-Ok.read) (not_over (g.I.Inlet.told c.args.inlet.now) got.Line c.in-Line.ensures.over refl) (refl, subst (λ (b : List ℕ). IsToolLine b c.in-Ok.read) c.as_slice.ensures.value c.in-Ok.ensures.line) c.in-Line.ensures.told c.deliver.ensures
 
 pub returns-in-Err : goal.returns-in-Err
 returns-in-Err g c =
@@ -20,20 +20,20 @@ returns-in-Err g c =
 pub returns-in-Long : goal.returns-in-Long
 returns-in-Long g c =
     let lane = c.args.lane in
-    reads_hands lane c.args.seat.now c.hand-in-Long.new.seat (g.I.Inlet.told c.args.inlet.now) (g.I.Inlet.told c.next.new.self) given.Long (input.Line lane tool.Bad) c.hand-in-Long.result
-    (line_on lane tool.Bad) (not_over (g.I.Inlet.told c.args.inlet.now) got.Long c.in-Long.ensures.over refl) (refl, refl) c.in-Long.ensures.told c.hand-in-Long.ensures
+    reads_hands lane c.args.seat.now c.deliver-in-Long.new.seat (g.I.Inlet.told c.args.inlet.now) (g.I.Inlet.told c.next.new.self) given.Long (input.Line lane tool.Bad) c.deliver-in-Long.result
+    (line_on lane tool.Bad) (not_over (g.I.Inlet.told c.args.inlet.now) got.Long c.in-Long.ensures.over refl) (refl, refl) c.in-Long.ensures.told c.deliver-in-Long.ensures
 
 pub returns-in-End : goal.returns-in-End
 returns-in-End g c =
     let lane = c.args.lane in
-    reads_hands lane c.args.seat.now c.hand-in-End.new.seat (g.I.Inlet.told c.args.inlet.now) (g.I.Inlet.told c.next.new.self) given.End (input.Gone lane) c.hand-in-End.result
-    (gone_on lane) (not_over (g.I.Inlet.told c.args.inlet.now) got.End c.in-End.ensures.over refl) refl c.in-End.ensures.told c.hand-in-End.ensures
+    reads_hands lane c.args.seat.now c.deliver-in-End.new.seat (g.I.Inlet.told c.args.inlet.now) (g.I.Inlet.told c.next.new.self) given.End (input.Gone lane) c.deliver-in-End.result
+    (gone_on lane) (not_over (g.I.Inlet.told c.args.inlet.now) got.End c.in-End.ensures.over refl) refl c.in-End.ensures.told c.deliver-in-End.ensures
 
 pub returns-in-Failed : goal.returns-in-Failed
 returns-in-Failed g c =
     let lane = c.args.lane in
-    reads_hands lane c.args.seat.now c.hand-in-Failed.new.seat (g.I.Inlet.told c.args.inlet.now) (g.I.Inlet.told c.next.new.self) given.End (input.Gone lane) c.hand-in-Failed.result
-    (gone_on lane) (not_over (g.I.Inlet.told c.args.inlet.now) got.Failed c.in-Failed.ensures.over refl) refl c.in-Failed.ensures.told c.hand-in-Failed.ensures
+    reads_hands lane c.args.seat.now c.deliver-in-Failed.new.seat (g.I.Inlet.told c.args.inlet.now) (g.I.Inlet.told c.next.new.self) given.End (input.Gone lane) c.deliver-in-Failed.result
+    (gone_on lane) (not_over (g.I.Inlet.told c.args.inlet.now) got.Failed c.in-Failed.ensures.over refl) refl c.in-Failed.ensures.told c.deliver-in-Failed.ensures
 
 pub returns-in-Over : goal.returns-in-Over
 returns-in-Over g c = reads_over c.args.lane c.args.seat.now (g.I.Inlet.told c.args.inlet.now) (g.I.Inlet.told c.next.new.self) c.in-Over.ensures.told

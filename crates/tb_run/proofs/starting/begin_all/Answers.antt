@@ -1,4 +1,4 @@
-use Rattle.std.proofs.Common.{◌∷◌, List, ap, sym, subst, length, arith}
+use Rattle.std.proofs.Common.{◌≡◌, ◌∷◌, List, refl, ap, sym, subst, length, arith}
 use Rattle.std.specs.List.{All}
 use Rattle.tb_run.specs.declared.worker.Worker.{Worker}
 use Rattle.tb_run.specs.declared.worker.Work.{Work}
@@ -23,4 +23,5 @@ loop-work-preserved g c =
       subst (All (λ (it : (Worker g.row.W.Denot g.row.I.Denot g.row.O.Denot g.row.W-Plan.Denot g.row.W-Taken.Denot)). IsReady it.post.now.shared it.seat it.work)) (sym new) (all_push _ (λ (it : (Worker g.row.W.Denot g.row.I.Denot g.row.O.Denot g.row.W-Plan.Denot g.row.W-Taken.Denot)). IsReady it.post.now.shared it.seat it.work) l.workers.items i.4 (record { own = fits.0.0; right = fits.0.1 })),
       (let a = ap length s in let b = ap length e in let h = i.5 in omega arith),
       (let p = c.in-Some-pop.ensures.cases in let b = ap length e in let h = i.6 in omega arith),
+      subst (All (λ (it : (Worker g.row.W.Denot g.row.I.Denot g.row.O.Denot g.row.W-Plan.Denot g.row.W-Taken.Denot)). it.post.now.shared ≡ c.args.post.now.shared)) (sym new) (all_push _ (λ (it : (Worker g.row.W.Denot g.row.I.Denot g.row.O.Denot g.row.W-Plan.Denot g.row.W-Taken.Denot)). it.post.now.shared ≡ c.args.post.now.shared) l.workers.items i.7 refl),
     )

@@ -13,3 +13,4 @@ invariant-loop-work g l =
     × All (λ it. IsReady it.post.now.shared it.seat it.work) l.workers.items
     × (length l.seats.rest.items ≡ length l.work-iterator.rest.items)
     × (vec_len l.buffers ≡ length l.work-iterator.rest.items)
+    × All (λ it. it.post.now.shared ≡ l.fn.post.shared) l.workers.items

@@ -8,12 +8,15 @@ use Rattle.tb_run.specs.declared.lanes.Lanes.{Lanes}
 use Rattle.tb_run.specs.declared.room.Ended.{Ended}
 use Rattle.tb_run.specs.declared.worker.Worker.{Worker}
 use Rattle.tb_run.specs.Joining.{JoinsAll}
-use Rattle.tb_run.specs.Parting.{left_after}
+use Rattle.tb_run.specs.declared.worker.Work.{Work}
+use Rattle.tb_run.specs.Helpers.Desks.{all_begun}
+use Rattle.tb_run.specs.Parting.{left_after, parted}
 use Rattle.tb_run.specs.Parts.{job_rights}
 use Rattle.tb_run.specs.Reasons.{reason_of}
 use Rattle.tb_run.proofs.BackLemmas.{can_gather, has_come}
 use Rattle.tb_run.proofs.NothingLemmas.{unparted}
 use Rattle.tb_run.proofs.PartLemmas.{left_bus}
+use Rattle.tb_run.proofs.DeskLemmas.{all_begun_is}
 use Rattle.tb_run.proofs.GatherLemmas.{all_two}
 use Rattle.tb_run.proofs.working.run_workers.Goals as goal
 
@@ -21,6 +24,24 @@ pub returns-in_default-clause-come : goal.returns-in_default-clause-come
 returns-in_default-clause-come g c =
     let bus = ap (λ (s : SeatView). s.bus) c.requires.first in
     unparted c.args.ticks _ c.args.seat.now c.new.result (c.requires.first ∙ ap (λ b. first_seat b c.args.seat.now.origin) (sym bus))
+
+pub returns-in_default-places-clause-come : goal.returns-in_default-places-clause-come
+returns-in_default-places-clause-come g c =
+    let bus = ap (λ (s : SeatView). s.bus) c.requires.first in
+    unparted c.args.ticks _ c.args.seat.now c.new-in_default-places.result (c.requires.first ∙ ap (λ b. first_seat b c.args.seat.now.origin) (sym bus))
+
+pub work-back-requires-clause-posts : goal.work-back-requires-clause-posts
+work-back-requires-clause-posts g c κs within = subst (λ b. All (λ (it : (Worker g.row.W.Denot g.row.I.Denot g.row.O.Denot g.row.W-Plan.Denot g.row.W-Taken.Denot)). it.post.now.shared ≡ b) c.begin-team.result.0.workers.items) c.requires.bus c.begin-team.ensures.posts
+
+pub work-back-requires-clause-starts : goal.work-back-requires-clause-starts
+work-back-requires-clause-starts g c κs within =
+    let told = g.O.Outlet.told in
+    let faults = g.O.Outlet.faults in
+    let workers = c.begin-team.result.0.workers.items in
+    all_begun_is told faults (λ (it : (Worker g.row.W.Denot g.row.I.Denot g.row.O.Denot g.row.W-Plan.Denot g.row.W-Taken.Denot)). it.seat) (λ (it : (Worker g.row.W.Denot g.row.I.Denot g.row.O.Denot g.row.W-Plan.Denot g.row.W-Taken.Denot)). it.work) workers
+    ∙ (ap (λ (ss : List SeatView). all_begun told faults ss (map (λ (it : (Worker g.row.W.Denot g.row.I.Denot g.row.O.Denot g.row.W-Plan.Denot g.row.W-Taken.Denot)). it.work) workers)) c.begin-team.ensures.seats
+    ∙ (ap (λ (ws : List (Work g.row.I.Denot g.row.O.Denot)). all_begun told faults (parted c.args.seat.now job_rights) ws) c.begin-team.ensures.works
+    ∙ c.requires.starts))
 
 pub work-back-requires-clause-tick : goal.work-back-requires-clause-tick
 work-back-requires-clause-tick g c κs within =

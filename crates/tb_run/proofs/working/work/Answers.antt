@@ -1,20 +1,17 @@
 use Rattle.std.proofs.Common.{◌≡◌, ap, sym, ◌∙◌}
-use Rattle.tb_edge.specs.Jobs.{AllDone}
-use Rattle.tb_run.specs.declared.worker.Worker.{Worker}
 use Rattle.tb_run.specs.declared.tick_job.TickJob.{TickJob}
-use Rattle.tb_run.specs.Jobs.{WorkDone}
 use Rattle.tb_run.specs.Logging.{LogDone}
 use Rattle.tb_run.specs.Workers.{TicksBus}
-use Rattle.tb_run.proofs.BackLemmas.{back_by, counts_by, match_map, moved}
+use Rattle.tb_run.proofs.BackLemmas.{match_map, moved}
 use Rattle.tb_run.proofs.working.work.Goals as goal
 
 pub returns-clause-worked : goal.returns-clause-worked
 returns-clause-worked g c =
-    let tick = c.clock-1.given.1 (sym c.beside.ensures.clock) ∙ c.end_ticks-tick_seat.ensures.clock in
-    let put = c.out-1.given.1 (sym c.beside.ensures.out) ∙ c.end_log-log_seat.ensures.out in
+    let tick = c.clock-1.given.1 (sym c.beside-failed.ensures.clock) ∙ c.end_ticks-tick_seat.ensures.clock in
+    let put = c.out-1.given.1 (sym c.beside-failed.ensures.out) ∙ c.end_log-log_seat.ensures.out in
     let ts = c.end_ticks-tick_seat.ensures.seat in
     let ls = c.end_log-log_seat.ensures.seat in
-    match_map c.taken_back-failed.result.0 _ _ _ _
+    match_map c.beside-failed.result.0 _ _ _ _
     (moved _
     (λ s k e. TicksBus (λ count. count ≡ c.args.ticks) c.args.ticks c.args.team.tick_seat s (g.C.Clock.told c.args.clock.now) (g.C.Clock.told k) (g.C.Clock.faults c.args.clock.now) (g.C.Clock.faults k) e)
     (λ l w o f. LogDone c.args.team.log_seat l w (g.S.Sink.taken c.args.out.now) (g.S.Sink.taken o) (g.S.Sink.faults c.args.out.now) (g.S.Sink.faults o) f)
@@ -27,22 +24,15 @@ returns-clause-worked g c =
       ap g.C.Clock.told tick ∙ ap (λ (t : TickJob g.row.W.Denot g.row.C.Denot g.row.W-Plan.Denot g.row.W-Taken.Denot). g.C.Clock.told t.clock.now) n.2,
       ap g.S.Sink.taken put ∙ ap (λ t. g.S.Sink.taken t.out.now) n.3,
     ))
-    (back_by (λ v. v.items) c.beside.result c.taken_back-failed.result.0 c.taken_back-failed.result.1.items c.args.team.workers.items
-    (λ ws. AllDone {J = Worker g.row.W.Denot g.row.I.Denot g.row.O.Denot g.row.W-Plan.Denot g.row.W-Taken.Denot} (λ old new. WorkDone g.I.Inlet.told g.O.Outlet.told g.O.Outlet.faults old.seat new.seat new.end old.work new.work) c.args.team.workers.items ws
-    × TicksBus (λ count. count ≡ c.args.ticks) c.args.ticks c.args.team.tick_seat c.beside.new.ticker.seat (g.C.Clock.told c.args.clock.now) (g.C.Clock.told c.beside.new.ticker.clock.now) (g.C.Clock.faults c.args.clock.now) (g.C.Clock.faults c.beside.new.ticker.clock.now) c.beside.new.ticker.end
-    × LogDone c.args.team.log_seat c.beside.new.logger.seat c.beside.new.logger.writer (g.S.Sink.taken c.args.out.now) (g.S.Sink.taken c.beside.new.logger.out.now) (g.S.Sink.faults c.args.out.now) (g.S.Sink.faults c.beside.new.logger.out.now) c.beside.new.logger.end)
-    _ _ (g.P.Crew.faults c.args.crew.now) (g.P.Crew.faults c.beside.new.crew)
-    c.taken_back-failed.ensures.ok c.taken_back-failed.ensures.err c.beside.ensures.ok c.beside.ensures.err c.beside.ensures.rose)
+    c.beside-failed.ensures.worked
 
 pub returns-clause-calm : goal.returns-clause-calm
 returns-clause-calm g c =
-    let tick = c.clock-1.given.1 (sym c.beside.ensures.clock) ∙ c.end_ticks-tick_seat.ensures.clock in
-    let put = c.out-1.given.1 (sym c.beside.ensures.out) ∙ c.end_log-log_seat.ensures.out in
-    match_map c.taken_back-failed.result.0 _ _ _ _ (λ same. same)
+    let tick = c.clock-1.given.1 (sym c.beside-failed.ensures.clock) ∙ c.end_ticks-tick_seat.ensures.clock in
+    let put = c.out-1.given.1 (sym c.beside-failed.ensures.out) ∙ c.end_log-log_seat.ensures.out in
+    match_map c.beside-failed.result.0 _ _ _ _ (λ same. same)
     (λ w n. (
       ap g.C.Clock.faults tick ∙ ap (λ (t : TickJob g.row.W.Denot g.row.C.Denot g.row.W-Plan.Denot g.row.W-Taken.Denot). g.C.Clock.faults t.clock.now) n.0,
       ap g.S.Sink.faults put ∙ ap (λ t. g.S.Sink.faults t.out.now) n.1,
     ))
-    (counts_by (λ v. v.items) c.beside.result c.taken_back-failed.result.0 c.taken_back-failed.result.1.items c.args.team.workers.items
-    (g.P.Crew.faults c.beside.new.crew ≡ g.P.Crew.faults c.args.crew.now) _ _
-    c.taken_back-failed.ensures.ok c.taken_back-failed.ensures.err c.beside.ensures.calm c.beside.ensures.err)
+    c.beside-failed.ensures.calm

@@ -3,7 +3,7 @@ use Rattle.tb_core.specs.Cores.{HandIn}
 use Rattle.tb_lock.specs.Calls.{IsReply}
 use Rattle.tb_run.specs.Seats.{Hands}
 use Rattle.tb_run.proofs.SeatLemmas.{hands_ok, hands_err, refused_by}
-use Rattle.tb_run.proofs.handing.hand.Goals as goal
+use Rattle.tb_run.proofs.handing.deliver.Goals as goal
 
 pub returns-in-Ok : goal.returns-in-Ok
 returns-in-Ok g c =
