@@ -2,7 +2,7 @@
 ghost use Rattle.std.specs.Prelude.{◌≡◌, ◌<◌, ◌≤◌, length, IfSome};
 
 use crate::arrivals::{Arrival, Arrivals};
-use crate::ready::can_write;
+use crate::ready::{can_write, has_room};
 use crate::starting::start;
 use std::alloc::Global;
 use std::io::{ErrorKind, Write};
@@ -63,7 +63,7 @@ impl<R: Processes<Started = SystemProcess> + Wait + Clock + Copy + Drop> Outlet 
     fn can_take_line(&self) -> bool {
         match &self.child {
             Some(child) => match &child.stdin {
-                Some(input) => can_write(input, 0),
+                Some(input) => has_room(input),
                 None => false,
             },
             None => false,

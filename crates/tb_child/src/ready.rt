@@ -16,6 +16,16 @@ pub fn can_write<F: AsRawFd>(pipe: &F, millis: i32) -> bool {
     is_ready(pipe.as_raw_fd(), POLLOUT, millis)
 }
 
+/// Returns whether the pipe has room for 4,096 bytes, and its other side isn't closed. Doesn't wait.
+pub fn has_room<F: AsRawFd>(pipe: &F) -> bool {
+    let mut asked = [pollfd {
+        fd: pipe.as_raw_fd(),
+        events: POLLOUT,
+        revents: 0,
+    }];
+    poll(&mut asked, 0) > 0 && asked[0].revents == POLLOUT
+}
+
 fn is_ready(fd: i32, events: i16, millis: i32) -> bool {
     let mut asked = [pollfd {
         fd,
