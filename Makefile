@@ -60,11 +60,11 @@ uninstall:
 	rm -f "$(SHARE)/vim/vimfiles/ftdetect/toolbus.vim" "$(SHARE)/vim/vimfiles/syntax/toolbus.vim"
 	rm -rf "$(SHARE)/toolbus" "$(SHARE)/doc/toolbus"
 
-# Runs the tests with real tools, and those of the pages: all that the gate leaves out and that takes no more than some minutes.
-test-tools: order pages installed at lens why examples kits
+# Runs the tests with real tools, and those of the pages: what the CI gate runs after `rt ci`. At most fifteen minutes.
+test-tools:
+	tests/with-tools
 
-# Compares what README.md, docs/RULES.md, and man/ show with what the built program does. Some seconds. This and all targets below aren't
-# part of the gate.
+# Compares what README.md, docs/RULES.md, and man/ show with what the built program does. Some seconds.
 pages:
 	tests/pages
 

@@ -58,6 +58,13 @@ impl<W: Walker> Post<W> {
         self.bells.ring(Sleeper::Stepper);
     }
 
+    /// Wakes the threads that can have work after a `cut`: the job that writes the log, and the writer of the lane, whose next item is the
+    /// end of its tool.
+    pub(crate) fn tell_cut(&self, lane: u8) {
+        self.bells.ring(Sleeper::Log);
+        self.tell_writer(lane);
+    }
+
     /// Wakes the threads that can have work after steps: the job that writes the log, and the writer of each lane for which `calls_for`
     /// returns `true`.
     pub(crate) fn tell_steps(&self) {

@@ -8,7 +8,7 @@ ghost use Rattle.tb_run.specs.Helpers.Working.{Writes, CutsOff, Puts, going_on};
 ghost use Rattle.tb_run.specs.Helpers.Desks.{TakesOne};
 
 use crate::ends::WorkEnd;
-use crate::handing::{hand, refused};
+use crate::handing::{deliver, refused};
 use crate::post::Post;
 use crate::writer_stage::WriterStage;
 use std::sync::Wait;
@@ -157,7 +157,8 @@ pub(crate) fn put_one<W: Walker, R: Wait, O: Outlet>(
     cut_off(rt, post, seat, lane, sent)
 }
 
-/// Delivers a `cut` if the outlet failed to take an item.
+/// Delivers a `cut` if the outlet failed to take an item. The `cut` leaves the end of the tool on the lane. The stepper is woken after this
+/// end was taken: a step that comes before it could use the lane's tool, and not yet the lane.
 fn cut_off<W: Walker, R: Wait>(
     rt: &R,
     post: &Post<W>,
@@ -173,7 +174,11 @@ fn cut_off<W: Walker, R: Wait>(
 {
     match sent {
         Ok(()) => None,
-        Err(SendFault::Cut) => going_on(hand(rt, post, seat, Input::Cut(lane))),
+        Err(SendFault::Cut) => {
+            let end = deliver(rt, post, seat, Input::Cut(lane));
+            post.tell_cut(lane);
+            going_on(end)
+        }
     }
 }
 
