@@ -1,6 +1,6 @@
 # The commands for developers. hello, quick, build, and test need rt of the Rattle kit. The others need the built program. All but hello,
 # build, test, and install need Python 3. bench and faults also need a C compiler. quick, faults, hostile, and soak need Linux.
-.PHONY: hello quick build test test-tools install uninstall pages order examples kits at lens why installed bench walkers model faults hostile soak
+.PHONY: hello quick build test test-tools install uninstall pages order examples kits live at lens why installed bench walkers model faults hostile soak
 
 SCRIPT := $(CURDIR)/examples/hello.tb
 PROGRAM := $(CURDIR)/crates/toolbus/out/toolbus
@@ -84,6 +84,10 @@ examples:
 # line.
 kits:
 	kits/test "$(PROGRAM)"
+
+# Runs the built programs with real children, and compares their logs. A minute.
+live:
+	tests/live "$(PROGRAM)" "$(PAIR)"
 
 # Compares what toolbus_lens at writes of scripts with an error. Some seconds.
 at:

@@ -1,12 +1,10 @@
-//! Tests that no line of a data file can express. They test the shared bus, bells, a thread group, and a run, whose threads run
-//! concurrently; a run with a child program, and pairs; a core that follows a log or has rejected calls; files, sinks, and clocks; and
-//! calls that neither the program nor a line of a data file makes.
+//! Tests that no line of a data file can express. They test the shared bus, bells, and a thread group, whose threads run concurrently; a
+//! core that follows a log or has rejected calls; files, sinks, and clocks; and calls that neither the program nor a line of a data file
+//! makes.
 #![tactic(auto)]
 
 #[cfg(test)]
 mod bells;
-#[cfg(test)]
-mod child;
 #[cfg(test)]
 mod cores;
 #[cfg(test)]
@@ -16,11 +14,7 @@ mod edge;
 #[cfg(test)]
 mod jobs;
 #[cfg(test)]
-mod live;
-#[cfg(test)]
 mod lock;
-#[cfg(test)]
-mod pairs;
 #[cfg(test)]
 mod reads;
 #[cfg(test)]
