@@ -1,4 +1,4 @@
-"""Tests of a tool that ssh starts: the command of kits/README.md, with a real sshd for each connection."""
+"""Tests of a tool that ssh starts: the command of kits/bridge/README.md, with a real sshd for each connection."""
 import os
 import re
 import shlex
@@ -6,7 +6,7 @@ import shutil
 import subprocess
 
 HERE = os.path.dirname(os.path.abspath(__file__))
-PAGE = os.path.join(os.path.dirname(HERE), "README.md")
+PAGE = os.path.join(os.path.dirname(HERE), "bridge", "README.md")
 SBIN = f"{os.environ['PATH']}:/usr/sbin:/usr/local/sbin"
 SECONDS = 120
 SCRIPT = """{declaration}
