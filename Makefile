@@ -118,7 +118,7 @@ walkers:
 model:
 	tests/model/run "$(PROGRAM)" "$(LENS)"
 
-# Rejects each memory request of the built program in turn, for the table of docs/FAULTS.md. Some minutes.
+# Rejects each memory request of the built program in turn, for the table of tests/faults.md. Some minutes.
 faults:
 	tests/faults
 
