@@ -29,8 +29,12 @@ build:
 test:
 	.ci/run
 
-# Installs the built programs, their pages for man, the completion for bash, and the syntax files for editors. PREFIX=DIR installs in DIR.
-# It builds nothing. DESTDIR=DIR puts all files below DIR.
+# Installs the built programs, their pages for man, the completion for bash, the syntax files for editors, and below share/doc/toolbus the
+# pages, kits, examples, and definitions as a tree, so that links between pages resolve. PREFIX=DIR installs in DIR. It builds nothing.
+# DESTDIR=DIR puts all files below DIR.
+TREE := README.md CONTRIBUTING.md crates.txt docs kits examples editors bench/peers.svg tests/faults.md \
+  crates/tb_top/src/top.rt crates/tb_pair_top/src/top.rt $(wildcard crates/*/README.md crates/*/specs)
+
 install:
 	@test -x "$(PROGRAM)" || { echo "There is no $(PROGRAM). make build makes it."; exit 1; }
 	@test -x "$(PAIR)" || { echo "There is no $(PAIR). make build makes it."; exit 1; }
@@ -47,8 +51,8 @@ install:
 	install -D -m 644 completion/toolbus_lens "$(SHARE)/bash-completion/completions/toolbus_lens"
 	install -D -m 644 editors/vim/ftdetect/toolbus.vim "$(SHARE)/vim/vimfiles/ftdetect/toolbus.vim"
 	install -D -m 644 editors/vim/syntax/toolbus.vim "$(SHARE)/vim/vimfiles/syntax/toolbus.vim"
-	install -D -m 644 editors/textmate/toolbus.tmLanguage.json "$(SHARE)/toolbus/toolbus.tmLanguage.json"
-	install -D -m 644 -t "$(SHARE)/doc/toolbus" README.md docs/GUIDE.md docs/RULES.md docs/chart.svg
+	install -d "$(SHARE)/doc/toolbus"
+	tar -c --exclude-vcs-ignores --mode=u+rwX,go+rX,go-w $(TREE) | tar -x --no-same-owner -C "$(SHARE)/doc/toolbus"
 
 # Removes what make install has installed, with the same PREFIX and DESTDIR.
 uninstall:
@@ -58,7 +62,7 @@ uninstall:
 	rm -f "$(SHARE)/bash-completion/completions/toolbus" "$(SHARE)/bash-completion/completions/toolbus_pair"
 	rm -f "$(SHARE)/bash-completion/completions/toolbus_lens"
 	rm -f "$(SHARE)/vim/vimfiles/ftdetect/toolbus.vim" "$(SHARE)/vim/vimfiles/syntax/toolbus.vim"
-	rm -rf "$(SHARE)/toolbus" "$(SHARE)/doc/toolbus"
+	rm -rf "$(SHARE)/doc/toolbus"
 
 # Runs the tests with real tools, and those of the pages: what the CI gate runs after `rt ci`. At most fifteen minutes.
 test-tools:
