@@ -80,7 +80,7 @@ installed:
 order:
 	tests/order
 
-# Runs all scripts of examples/ and docs/GUIDE.md with their tools, and compares the output. Half a minute.
+# Runs all scripts of examples/ with their tools, and compares the output, also with the pages of docs/ that show it. Half a minute.
 examples:
 	examples/run "$(PROGRAM)"
 
