@@ -1,0 +1,49 @@
+"""The languages whose kits have the same tests: how their test programs are built and started, and the lines that they must not send."""
+from __future__ import annotations
+
+from dataclasses import dataclass
+from typing import List, Sequence
+
+# The wrong lines by their names in the test programs, with the kind of the error.
+WRONG = {
+    "control": "value", "unicode": "value", "upper-name": "value", "blank-name": "value", "empty-name": "value", "newline-name": "value",
+    "real": "value", "above": "value", "below": "value", "deep": "deep", "cycle": "deep", "long": "large", "large": "large",
+    "connect-upper": "value", "connect-term": "value", "none": "value", "no-term": "value", "no-part": "value",
+}
+
+
+@dataclass(frozen=True)
+class Language:
+    """A language. In a command, {kits} is the folder of the kits, and {built} the folder of the built programs."""
+
+    name: str
+    programs: Sequence[str]
+    table_command: str
+    echo_command: str
+    plus_command: str
+    build: Sequence[str] = ()
+    impossible: Sequence[str] = ()
+
+    @staticmethod
+    def words(command: str, kits: str, built: str) -> List[str]:
+        return [word.format(kits=kits, built=built) for word in command.split()]
+
+    def plus(self, kits: str, built: str) -> List[str]:
+        return self.words(self.plus_command, kits, built)
+
+    def table(self, kits: str, built: str) -> List[str]:
+        return self.words(self.table_command, kits, built)
+
+    def echo(self, kits: str, built: str) -> List[str]:
+        return self.words(self.echo_command, kits, built)
+
+
+def script(name: str, program: str, suffix: str, impossible: Sequence[str] = ()) -> Language:
+    """A language whose programs are started without being built."""
+    table, echo = (f"{program} {{kits}}/tests/{test}.{suffix}" for test in ("table", "echo"))
+    return Language(name, [program], table, echo, f"{program} {{kits}}/{name.lower()}/plus.{suffix}", (), impossible)
+
+
+LANGUAGES = [
+    script("JavaScript", "node", "mjs"),
+]
