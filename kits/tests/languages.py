@@ -44,6 +44,21 @@ def script(name: str, program: str, suffix: str, impossible: Sequence[str] = ())
     return Language(name, [program], table, echo, f"{program} {{kits}}/{name.lower()}/plus.{suffix}", (), impossible)
 
 
+GO = "GOCACHE=$PWD/cache GOFLAGS=-mod=mod"
+
 LANGUAGES = [
     script("JavaScript", "node", "mjs"),
+    script("Perl", "perl", "pl"),
+    script("Lua", "lua5.4", "lua"),
+    script("Ruby", "ruby", "rb"),
+    Language(
+        "Go", ["go"], "{built}/bin/table", "{built}/bin/echo", "{built}/bin/plus",
+        ["cp -r $KITS/go/. $KITS/tests/go/. .", "! gofmt -l . | grep .", f"{GO} go vet ./...", f"{GO} go build -o bin/ . ./echo ./table"],
+        ["real", "above", "below"],
+    ),
+    Language(
+        "Java", ["java", "javac"], "java -cp {built} Table", "java -cp {built} Echo", "java -cp {built} Plus",
+        ["javac -Xlint:all -Werror -d . $KITS/java/toolbus/ToolBus.java $KITS/java/Plus.java $KITS/tests/java/*.java"],
+        ["real", "above", "below"],
+    ),
 ]
