@@ -57,6 +57,12 @@ LANGUAGES = [
         ["real", "above", "below"],
     ),
     Language(
+        "Rust", ["rustc"], "{built}/table", "{built}/echo", "{built}/plus",
+        ["cp $KITS/rust/*.rs $KITS/tests/rust/*.rs .",
+         *(f"rustc --edition 2021 -D warnings -C overflow-checks=yes -O {name}.rs" for name in ("table", "echo", "plus"))],
+        ["unicode", "real", "above", "below", "cycle", "no-term", "no-part"],
+    ),
+    Language(
         "Java", ["java", "javac"], "java -cp {built} Table", "java -cp {built} Echo", "java -cp {built} Plus",
         ["javac -Xlint:all -Werror -d . $KITS/java/toolbus/ToolBus.java $KITS/java/Plus.java $KITS/tests/java/*.java"],
         ["real", "above", "below"],
