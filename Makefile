@@ -134,3 +134,17 @@ hostile:
 MINUTES := 10
 soak:
 	tests/soak --minutes $(MINUTES)
+
+# Makes a package for Debian of what make install installs, in the directory OUT. It needs dpkg-dev.
+.PHONY: deb dist package
+OUT := out
+deb:
+	@package/deb "$(OUT)" PROGRAM="$(PROGRAM)" PAIR="$(PAIR)" LENS="$(LENS)"
+
+# Makes an archive with the same files, and an install.sh.
+dist:
+	@package/dist "$(OUT)" PROGRAM="$(PROGRAM)" PAIR="$(PAIR)" LENS="$(LENS)"
+
+# Tests both, the package in a clean Debian that debootstrap makes. Some minutes.
+package:
+	tests/package --program "$(PROGRAM)" --pair "$(PAIR)" --lens "$(LENS)"
