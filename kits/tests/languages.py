@@ -68,3 +68,13 @@ LANGUAGES = [
         ["real", "above", "below"],
     ),
 ]
+
+# A script that starts a tool, and its steps.
+BUS = """tool plus is {{ command = "{}" }}
+process Ask is
+  let P : plus, V : int in
+    execute(plus, P?) . snd-eval(P, plus(1, 2)) . rec-value(P, V?) . snd-terminate(P, done) . shutdown(V)
+  endlet
+toolbus(Ask)
+"""
+BUS_STEPS = ["execute 1.1 plus(1)", "snd-eval 1.2 plus(1),plus(1,2)", "rec-value 1.3 plus(1),3", "snd-terminate 1.4 plus(1),done", "shutdown 1.5 3"]
