@@ -32,7 +32,7 @@ test:
 # Installs the built programs, their pages for man, the completion for bash, the syntax files for editors, and below share/doc/toolbus the
 # pages, kits, examples, and definitions as a tree, so that links between pages resolve. PREFIX=DIR installs in DIR. It builds nothing.
 # DESTDIR=DIR puts all files below DIR.
-TREE := README.md CONTRIBUTING.md crates.txt docs kits examples editors bench/peers.svg tests/faults.md \
+TREE := README.md CONTRIBUTING.md crates.txt docs kits examples editors package/README.md bench/peers.svg tests/faults.md \
   crates/tb_top/src/top.rt crates/tb_pair_top/src/top.rt $(wildcard crates/*/README.md crates/*/specs)
 
 install:

@@ -204,6 +204,9 @@ sub disconnect { my ($self) = @_; $self->{ended} = 1; return $self->_send('snd-d
 # Writes a line to the standard error.
 sub log { my ($self, @values) = @_; print {*STDERR} File::Basename::basename($0), ": @values\n"; return }
 
+# The characters of a text in UTF-8, or its bytes if it isn't well-formed.
+sub _readable { my ($text) = @_; utf8::decode($text); return $text }
+
 sub _send {
     my ($self, $line) = @_;
     my $length = length $line;
@@ -220,7 +223,7 @@ sub run {
         chomp $text;
         my ($word, @terms) = eval { read_line($text) };
         if   (defined $word) { $self->_handle($word, @terms) }
-        else                 { $self->log("ignored a line that no bus sends: $@: $text") }
+        else                 { $self->log("ignored a line that no bus sends: $@:", _readable($text)) }
     }
     return $self->{reason};
 }
@@ -231,15 +234,14 @@ sub _handle {
         $self->{ended}  = 1;
         $self->{reason} = $terms[0];
     }
-    my $line = "$word(" . _texts(@terms) . ')';
     my ($handler, @values) = $self->_find($word, @terms);
     if ($word eq 'rec-eval') {
-        die "no handler for $line: add one by on_eval\n" unless $handler;
+        die 'no handler for ', _readable("$word(" . _texts(@terms) . ')'), ": add one by on_eval\n" unless $handler;
         my $answer = $handler->(@values);
         $self->value($answer) unless ref $answer && Scalar::Util::refaddr($answer) == Scalar::Util::refaddr(LATER);
     }
     elsif ($handler)          { $handler->(@values) }
-    elsif ($word eq 'rec-do') { $self->log("no handler for $line: add one by on_do") }
+    elsif ($word eq 'rec-do') { $self->log('no handler for', _readable('rec-do(' . _texts(@terms) . '):'), 'add one by on_do') }
     return;
 }
 
@@ -256,7 +258,7 @@ sub _find {
 # A name with its arguments. As a text it is the text of the term. Only false is false.
 package ToolBus::Appl;
 
-use overload '""' => sub { ToolBus::write_term($_[0]) }, bool => sub { $_[0]->name ne 'false' || $_[0]->args }, fallback => 1;
+use overload '""' => sub { ToolBus::_readable(ToolBus::write_term($_[0])) }, bool => sub { $_[0]->name ne 'false' || $_[0]->args }, fallback => 1;
 
 sub new  { my ($class, $name, @args) = @_; return bless {name => $name, args => \@args}, $class }
 sub name { my ($self) = @_; return $self->{name} }

@@ -53,6 +53,7 @@ module ToolBus
     def to_s
       ToolBus.write_term(self)
     end
+    alias inspect to_s
   end
 
   # An error in the text of a term or of a line, or a value that has no text.

@@ -57,6 +57,20 @@ func (Bool) isTerm() {}
 func (List) isTerm() {}
 func (Appl) isTerm() {}
 
+// String returns the text of the term.
+func (l List) String() string { return written(l) }
+
+// String returns the text of the term.
+func (a Appl) String() string { return written(a) }
+
+func written(term Term) string {
+	text, err := Write(term)
+	if err != nil {
+		return fmt.Sprintf("%%!term(%v)", err)
+	}
+	return text
+}
+
 // Name returns the term with this name and these arguments.
 func Name(name string, args ...Term) Appl { return Appl{name, args} }
 
@@ -457,7 +471,7 @@ func (w *writer) term(term Term, depth int) error {
 		}
 		return err
 	default:
-		return failure(Value, 0, "%v isn't a term", term)
+		return failure(Value, 0, "nil isn't a term")
 	}
 }
 
