@@ -288,16 +288,18 @@ Tool.__index = Tool
 
 local bus = io.stdout
 
+local function say(start, between, ...)
+  local texts = table.pack(...)
+  for index = 1, texts.n do texts[index] = tostring(texts[index]) end
+  io.stderr:write(start, table.concat(texts, between), "\n")
+end
+
 --- Returns a tool: handlers for the lines that come in, and calls for the lines that go out.
 -- From then on, print and io.write write to the standard error.
 function toolbus.tool()
   bus:setvbuf("full")
   io.output(io.stderr)
-  print = function(...)
-    local texts = table.pack(...)
-    for index = 1, texts.n do texts[index] = tostring(texts[index]) end
-    io.stderr:write(table.concat(texts, "\t"), "\n")
-  end
+  print = function(...) say("", "\t", ...) end
   local none = function() return {named = {}} end
   return setmetatable({handlers = {["rec-eval"] = none(), ["rec-do"] = none(), ["rec-ack-event"] = none(), ["rec-terminate"] = none()}}, Tool)
 end
@@ -351,7 +353,7 @@ end
 
 --- Writes a line to the standard error.
 function Tool:log(...)
-  io.stderr:write((arg and arg[0] or "tool"):match("[^/]*$"), ": ", table.concat({...}, " "), "\n")
+  say((arg and arg[0] or "tool"):match("[^/]*$") .. ": ", " ", ...)
 end
 
 --- Returns the handler for the name of the first term, with the values that it is called with; else the one for all terms.
