@@ -32,7 +32,7 @@ test:
 # Installs the built programs, their pages for man, the completion for bash, the syntax files for editors, and below share/doc/toolbus the
 # pages, kits, examples, and definitions as a tree, so that links between pages resolve. PREFIX=DIR installs in DIR. It builds nothing.
 # DESTDIR=DIR puts all files below DIR.
-TREE := README.md CONTRIBUTING.md crates.txt docs kits examples editors bench/peers.svg tests/faults.md \
+TREE := README.md CONTRIBUTING.md crates.txt docs kits examples editors package/README.md bench/peers.svg tests/faults.md \
   crates/tb_top/src/top.rt crates/tb_pair_top/src/top.rt $(wildcard crates/*/README.md crates/*/specs)
 
 install:
@@ -134,3 +134,17 @@ hostile:
 MINUTES := 10
 soak:
 	tests/soak --minutes $(MINUTES)
+
+# Makes a package for Debian of what make install installs, in the directory OUT. It needs dpkg-dev.
+.PHONY: deb dist package
+OUT := out
+deb:
+	@package/deb "$(OUT)" PROGRAM="$(PROGRAM)" PAIR="$(PAIR)" LENS="$(LENS)"
+
+# Makes an archive with the same files, and an install.sh.
+dist:
+	@package/dist "$(OUT)" PROGRAM="$(PROGRAM)" PAIR="$(PAIR)" LENS="$(LENS)"
+
+# Tests both, the package in a clean Debian that debootstrap makes. Some minutes.
+package:
+	tests/package --program "$(PROGRAM)" --pair "$(PAIR)" --lens "$(LENS)"
