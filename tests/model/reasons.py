@@ -16,8 +16,8 @@ from terms import Expr, Name, Pattern, Result, Variable, all_taken, has_type, is
 NO_VALUE = "an argument has no value, or they are together too large"
 NO_PATTERN = "an expression in its pattern has no value"
 NO_NOTE = "no note in its queue matches; a note that came before its subscribe isn't there"
-BARRED = (": each way is barred: by an if without else that is false, by a test without a value, or by a call with an argument that has no "
-          "value of its type")
+BARRED = (": each way is barred: by an if without else that is false, by a test that is neither true nor false, or by a call with an argument "
+          "that has no value of its type")
 AT_STAGE = {WAITING: "waits for rec-connect", LIVE: "isn't leaving", LEAVING: "is leaving"}
 
 
@@ -191,7 +191,7 @@ class Why:
 
     def acknowledge(self, process: Process, tool: Expr, *exprs: Expr) -> str | None:
         def reason(lane: Lane, terms: tuple) -> str | None:
-            return None if terms[1:] in lane.tool.received else f"no such event was received on lane {lane.number}"
+            return None if terms[1:] in lane.tool.received else f"no event with these terms is received and not yet acknowledged on lane {lane.number}"
         return self.on_lane(process, (tool, *exprs), (LIVE,), reason)
 
     def terminate(self, process: Process, tool: Expr, expr: Expr) -> str | None:

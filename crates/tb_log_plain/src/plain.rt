@@ -231,8 +231,8 @@ fn put_fed(input: &Input, reply: Reply, into: &mut Vec<u8>) -> Result<(), NoMemo
 
 fn why_text(why: Why) -> &'static [u8] {
     match why {
-        Why::Unasked => b"no evaluation is open",
-        Why::NotLive => b"the lane has no tool",
+        Why::Unasked => b"no evaluation is open, or its value has come",
+        Why::NotLive => b"the lane has no tool, or its tool has ended or is leaving",
         Why::Named => b"the lane has a tool already",
         Why::Stranger => b"the script has no such tool",
         Why::Bad => b"it is no line of a tool",

@@ -54,9 +54,11 @@ pub(crate) fn put_reason(
             lane,
             into,
         ),
-        Reason::NotReceived(lane) => {
-            put_lane(b"no such event was received on lane ", lane, into)
-        }
+        Reason::NotReceived(lane) => put_lane(
+            b"no event with these terms is received and not yet acknowledged on lane ",
+            lane,
+            into,
+        ),
         _ => put(plain_reason(reason), into),
     }
 }

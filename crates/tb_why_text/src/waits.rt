@@ -65,7 +65,7 @@ fn put_waiter(
     if waiter.stalls.is_empty() {
         put_process(seen.names, waiter.number, waiter.body, into)?;
         return put(
-            b": each way is barred: by an if without else that is false, by a test without a value, or by a call with an argument that has no value of its type\n",
+            b": each way is barred: by an if without else that is false, by a test that is neither true nor false, or by a call with an argument that has no value of its type\n",
             into,
         );
     }
