@@ -18,8 +18,9 @@ use Rattle.tb_syntax.specs.declared.script.Script.{Script}
 use Rattle.tb_syntax.specs.Spelling.{kinds_of}
 use Rattle.tb_types.specs.Names.{process_named}
 use Rattle.tb_expand.specs.Scopes.{Scope}
-use Rattle.tb_expand.specs.Expansion.{Expands, proc_step, call_of, expands, expansion_of, declared, sorts_of, value_formals, set_formals, formals_of_call}
+use Rattle.tb_expand.specs.Expansion.{Part, Expands, proc_step, call_of, expands, expansion_of}
 use Rattle.tb_expand.specs.Faults.{IsExpansion}
+use Rattle.tb_expand.proofs.Calling.{call_found, call_missing}
 use Rattle.tb_expand.proofs.ProcInduction.{Related, folds_related}
 use Rattle.tb_expand.proofs.TreeFolds as fold
 use Rattle.tb_script.specs.Programs.{IsTextOf}
@@ -51,9 +52,10 @@ of_none (x ∷ xs) is d e h = by (is x) e
 module _ (script : Script) (all : All HasNone script.procs) where
   called : (body : Proc → Expands) → ((p : Proc) → Follows (own.proc_has_disrupt p) (body p)) → (call : Call) (o : Option ProcDef) → process_named script.procs call.name ≡ o
       → (scope : Scope) (atom slot : ℕ) → tree_has_disrupt (call_of script body call scope atom slot).tree ≡ false
-  called body each call None e scope atom slot = rw e (fold.fold-At Bool tree_step 0)
+  called body each call None e scope atom slot = ap (λ (part : Part). tree_has_disrupt part.tree) (call_missing script body call scope atom slot e) ∙ fold.fold-At Bool tree_step 0
   called body each call (Some d) e scope atom slot =
-      rw e (fold.fold-Let Bool tree_step _ _ ∙ each d.body (of_none script.procs (λ (d : ProcDef). bytes_eq d.name call.name) d e all) _ _ _)
+      ap (λ (part : Part). tree_has_disrupt part.tree) (call_found script body call d scope atom slot e)
+      ∙ (fold.fold-Let Bool tree_step _ _ ∙ each d.body (of_none script.procs (λ (d : ProcDef). bytes_eq d.name call.name) d e all) _ _ _)
 
   related : (body : Proc → Expands) → ((p : Proc) → Follows (own.proc_has_disrupt p) (body p)) → Related Bool Expands own.proc_step (proc_step script body) Follows
   related body each = record {

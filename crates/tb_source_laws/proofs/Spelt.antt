@@ -1,5 +1,5 @@
 -- Tokens without the symbol `>>` spell no disrupt.
-use Rattle.std.proofs.Common.{◌≡◌, ℕ, ◌+◌, Bool, true, false, ◌||◌, List, [], ◌∷◌, ◌++◌, length, Option, Some, None, Contains, refl, ap, ◌∙◌, subst, arith}
+use Rattle.std.proofs.Common.{◌≡◌, ℕ, ◌+◌, Bool, true, false, ◌||◌, List, [], ◌∷◌, ◌++◌, length, Option, Some, None, Contains, codes, refl, ap, ◌∙◌, subst, arith}
 use Rattle.std.specs.List.{All, AllZip}
 use Rattle.std.proofs.lemmas.List.Elements.{All-nil, All-cons, Contains-append_left, Contains-append_right}
 use Rattle.tb_lex.specs.declared.kind.TokenKind.{TokenKind}
@@ -66,14 +66,19 @@ spelt (parens {xs = xs} h) l = spelt h (lacks-within (Sign LeftParen) xs (Sign R
 spelt (atom {a = a} h) l = opened _ _ (outs-Atom a)
 spelt (call {c = c} h) l = opened _ _ (outs-Call c)
 spelt (block {vars = vars} {vs = vs} {x = x} {xs = xs} v h) l =
-    opened _ _ (outs-Let vars x) ∙ spelt h (lacks-first xs _ (lacks-after vs _ (xs ++ _) (lacks-behind _ _ l)))
+    let back = lacks-behind (Lower (codes "let")) (vs ++ Lower (codes "in") ∷ (xs ++ Lower (codes "endlet") ∷ [])) l in
+    opened _ _ (outs-Let vars x)
+    ∙ spelt h (lacks-first xs (Lower (codes "endlet") ∷ []) (lacks-after vs (Lower (codes "in")) (xs ++ Lower (codes "endlet") ∷ []) back))
 spelt (test {e = e} {es = es} {x = x} {xs = xs} s h) l =
-    opened _ _ (outs-If e x None) ∙ spelt h (lacks-first xs _ (lacks-after es _ (xs ++ _) (lacks-behind _ _ l)))
+    let back = lacks-behind (Lower (codes "if")) (es ++ Lower (codes "then") ∷ (xs ++ Lower (codes "fi") ∷ [])) l in
+    opened _ _ (outs-If e x None)
+    ∙ spelt h (lacks-first xs (Lower (codes "fi") ∷ []) (lacks-after es (Lower (codes "then")) (xs ++ Lower (codes "fi") ∷ []) back))
 spelt (test_else {e = e} {es = es} {x = x} {y = y} {xs = xs} {ys = ys} s h k) l =
-    opened _ _ (outs-If e x (Some y)) ∙ (
-    let back : Lacks (xs ++ _) = lacks-after es _ (xs ++ _) (lacks-behind _ _ l) in
-    neither (proc_has_disrupt x) (proc_has_disrupt y) (spelt h (lacks-first xs _ back)) (spelt k (lacks-first ys _ (lacks-after xs _ (ys ++ _) back)))
-    )
+    let whole = lacks-behind (Lower (codes "if")) (es ++ Lower (codes "then") ∷ (xs ++ Lower (codes "else") ∷ (ys ++ Lower (codes "fi") ∷ []))) l in
+    let back = lacks-after es (Lower (codes "then")) (xs ++ Lower (codes "else") ∷ (ys ++ Lower (codes "fi") ∷ [])) whole in
+    let first = lacks-first xs (Lower (codes "else") ∷ (ys ++ Lower (codes "fi") ∷ [])) back in
+    let last = lacks-first ys (Lower (codes "fi") ∷ []) (lacks-after xs (Lower (codes "else")) (ys ++ Lower (codes "fi") ∷ []) back) in
+    opened _ _ (outs-If e x (Some y)) ∙ neither (proc_has_disrupt x) (proc_has_disrupt y) (spelt h first) (spelt k last)
 
 -- the processes of a script
 
@@ -82,8 +87,10 @@ HasNone d = proc_has_disrupt d.body ≡ false
 
 definition-spelt : (at : ℕ) (d : ProcDef) (ks : List TokenKind) → SpellsProcDef at d ks → Lacks ks → HasNone d
 definition-spelt at d ks h l =
-    let rest : Lacks (h.formals ++ _) = lacks-behind _ _ (lacks-behind _ _ (subst Lacks h.is l)) in
-    spelt h.is_body (lacks-after h.formals _ h.body rest)
+    let whole = subst Lacks h.is l in
+    let named = lacks-behind (Lower (codes "process")) (Upper d.name ∷ (h.formals ++ Lower (codes "is") ∷ h.body)) whole in
+    let rest = lacks-behind (Upper d.name) (h.formals ++ Lower (codes "is") ∷ h.body) named in
+    spelt h.is_body (lacks-after h.formals (Lower (codes "is")) h.body rest)
 
 definitions-spelt : {at : ℕ} {procs : List ProcDef} {tools : List ToolDef} {ks : List TokenKind} → SpellsDefinitions at procs tools ks → Lacks ks → All HasNone procs
 definitions-spelt (none at) l = All-nil HasNone
@@ -92,4 +99,4 @@ definitions-spelt (process {at = at} {d = d} {ks = ks} {procs = procs} {rest = r
 definitions-spelt (tool {ks = ks} {rest = rest} h k) l = definitions-spelt k (lacks-rest ks rest l)
 
 pub script-spelt : (script : Script) (ks : List TokenKind) → Spells script ks → Lacks ks → All HasNone script.procs
-script-spelt script ks h l = definitions-spelt h.are_definitions (lacks-first h.definitions _ (subst Lacks h.is l))
+script-spelt script ks h l = definitions-spelt h.are_definitions (lacks-first h.definitions (Lower (codes "toolbus") ∷ in_parens h.roots) (subst Lacks h.is l))

@@ -288,7 +288,6 @@ module _ (l r : Process) (apart : (atom : ℕ) → Contains (atoms_of l) atom �
 
   right-goes : (t : Process) (store : List Slot) → HasOnly (Contains (atoms_of r)) t → All Goes (offers t store)
   right-goes t store h =
-      let OfRight : Process → Type 0 = HasOnly (Contains (atoms_of r)) in
       All-weaker (OffersOnly (Contains (atoms_of r))) Goes
       (λ o f. record {
         left = some-map (HasOnly (Contains (atoms_of r))) (Place l r) o.residual (λ u g. in_right g) f.left;
