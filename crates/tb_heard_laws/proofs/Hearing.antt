@@ -38,7 +38,7 @@ use Rattle.tb_bus.specs.declared.action.ToolAction.{ToolAction}
 use Rattle.tb_bus.specs.declared.action.ToolAction.TheVariants as tool
 use Rattle.tb_bus.specs.declared.exchange.Exchange.{Exchange}
 use Rattle.tb_bus.proofs.BusShapes.{reached-in_shape}
-use Rattle.tb_bus.proofs.ExchangeLemmas.{IsExchange, exchange-is}
+use Rattle.tb_bus.proofs.ExchangeLemmas.{IsValue, IsEvent, exchange-is}
 use Rattle.tb_bus.proofs.LevelLemmas.{offer-shallow}
 use Rattle.tb_bus.proofs.OrderLemmas.{contains-cases}
 use Rattle.tb_bus.proofs.ReachedLemmas.{IsReadyFor, IsMoveOf, step-made}
@@ -76,14 +76,13 @@ module _ (log : List Entry) (its : List ℕ) where
 
   value-heard : (setting : Setting) (patterns : List Pattern) (exchange : Exchange) (terms : List Term) → exchange_for setting (tool.TakeValue terms patterns) ≡ Some exchange → BenchGiven log setting.bench → AreSent 1 terms
       → (term : Term) → Contains (heard_as its kind.RecValue (terms_seen setting (tool.TakeValue terms patterns) exchange)) term → WasGiven log term
-  value-heard setting patterns exchange terms e h sent term c = one-term P by terms sent c
+  value-heard setting patterns exchange terms e h sent term c =
+      one-term (λ (ts : List Term). Contains (heard_as its kind.RecValue (ts ++ values_on exchange.lane setting.bench)) term → WasGiven log term) by terms sent c
     where
+      is : IsValue setting patterns exchange
       is = (exchange-is setting (tool.TakeValue terms patterns) exchange e).is
 
-      P : List Term → Type 0
-      P ts = Contains (heard_as its kind.RecValue (ts ++ values_on exchange.lane setting.bench)) term → WasGiven log term
-
-      by : (named : Term) → P (named ∷ [])
+      by : (named : Term) → Contains (heard_as its kind.RecValue ((named ∷ []) ++ values_on exchange.lane setting.bench)) term → WasGiven log term
       by named d =
           let given = tool-answer (tool_at exchange.lane setting.bench) is.value is.there (h exchange.lane) in
           let seen : values_on exchange.lane setting.bench ≡ is.value ∷ [] = ap (λ (o : Option Term). option_to_list o) is.there in
@@ -99,14 +98,13 @@ module _ (log : List Entry) (its : List ℕ) where
 
   event-heard : (setting : Setting) (patterns : List Pattern) (exchange : Exchange) (terms : List Term) → exchange_for setting (tool.TakeEvent terms patterns) ≡ Some exchange → BenchGiven log setting.bench → AreSent 1 terms
       → (term : Term) → Contains (heard_as its kind.RecEvent (terms_seen setting (tool.TakeEvent terms patterns) exchange)) term → WasGiven log term
-  event-heard setting patterns exchange terms e h sent term c = one-term P by terms sent c
+  event-heard setting patterns exchange terms e h sent term c =
+      one-term (λ (ts : List Term). Contains (heard_as its kind.RecEvent (ts ++ event_at exchange.event (events_at exchange.lane setting.bench))) term → WasGiven log term) by terms sent c
     where
+      is : IsEvent setting patterns exchange
       is = (exchange-is setting (tool.TakeEvent terms patterns) exchange e).is
 
-      P : List Term → Type 0
-      P ts = Contains (heard_as its kind.RecEvent (ts ++ event_at exchange.event (events_at exchange.lane setting.bench))) term → WasGiven log term
-
-      by : (named : Term) → P (named ∷ [])
+      by : (named : Term) → Contains (heard_as its kind.RecEvent ((named ∷ []) ++ event_at exchange.event (events_at exchange.lane setting.bench))) term → WasGiven log term
       by named d =
           let given = tool-event (tool_at exchange.lane setting.bench) exchange.event is.terms is.there (h exchange.lane) in
           let seen : event_at exchange.event (events_at exchange.lane setting.bench) ≡ is.terms = get_or_from_slice_get (events_at exchange.lane setting.bench) exchange.event is.terms [] is.there in

@@ -1,5 +1,5 @@
 -- The line that each term of a step means.
-use Rattle.std.proofs.Common.{◌≡◌, ℕ, ◌≤◌, nat_le, Bool, true, false, ◌&&◌, List, [], ◌∷◌, length, codes, Option, Some, None, if◌then◌else◌, refl, ap, sym, ◌∙◌, subst, arith}
+use Rattle.std.proofs.Common.{◌≡◌, ℕ, ◌≤◌, nat_le, Bool, true, false, ◌&&◌, List, [], ◌∷◌, length, codes, pos, Option, Some, None, if◌then◌else◌, refl, ap, sym, ◌∙◌, subst, arith}
 use Rattle.std.specs.List.{All, list_all}
 use Rattle.std.specs.Str.{bytes_eq}
 use Rattle.std.proofs.lemmas.Bool.{and_parts, and_from, le-leb}
@@ -54,6 +54,6 @@ connect-means name l =
 -- the term of a tool has the type of that tool alone
 pub tool-name : (name tool : List ℕ) (number : ℕ) → has_sort (tool_term name number) (ToolSort tool) ≡ true → name ≡ tool
 tool-name name tool number h =
-    let open_term = has-tool (tool_term name number) tool ∙ ap (is_tool tool) (term.outs-Appl name _) in
-    let both = and_parts (bytes_eq name tool) _ (sym open_term ∙ h) in
+    let open_term = has-tool (tool_term name number) tool ∙ ap (is_tool tool) (term.outs-Appl name (term.Int (pos number) ∷ [])) in
+    let both = and_parts (bytes_eq name tool) (is_one_int (term.Int (pos number) ∷ [])) (sym open_term ∙ h) in
     (bytes_eq-Decides name tool).0 both.0

@@ -78,9 +78,11 @@ some-further log more (Some it) h = tool-further log more it h
 pub bench-further : (log more : List Entry) (bench : BenchState) → BenchGiven log bench → BenchGiven (log ++ more) bench
 bench-further log more bench h lane = some-further log more (lane_at lane bench).tool (h lane)
 
-not-waiting : {A : Type 0} (stage : Stage) → Live ≡ stage ⊎ (Leaving ≡ stage) → stage ≡ Waiting → A
-not-waiting stage (inl e) f = absurd (let t : ◌≡◌ {A = Stage} Live Waiting = e ∙ f in cc)
-not-waiting stage (inr e) f = absurd (let t : ◌≡◌ {A = Stage} Leaving Waiting = e ∙ f in cc)
+live-no : {A : Type 0} → ◌≡◌ {A = Stage} Live Waiting → A
+live-no e = absurd cc
+
+leaving-no : {A : Type 0} → ◌≡◌ {A = Stage} Leaving Waiting → A
+leaving-no e = absurd cc
 
 module _ (log : List Entry) where
   -- tools
@@ -89,10 +91,10 @@ module _ (log : List Entry) where
   answers-none value e = absurd cc
 
   live-given : (it : Tool) → ToolGiven log it → ToolGiven log (record it { stage = Live })
-  live-given it h = record { answer = h.answer; events = h.events; name = λ e. not-waiting Live (inl refl) e }
+  live-given it h = record { answer = h.answer; events = h.events; name = λ e. live-no e }
 
   leaving-given : (it : Tool) → ToolGiven log it → ToolGiven log (record it { stage = Leaving })
-  leaving-given it h = record { answer = h.answer; events = h.events; name = λ e. not-waiting Leaving (inr refl) e }
+  leaving-given it h = record { answer = h.answer; events = h.events; name = λ e. leaving-no e }
 
   asked-given : (it : Tool) → ToolGiven log it → ToolGiven log (record it { eval = Asked })
   asked-given it h = record { answer = λ value e. answers-none value e; events = h.events; name = h.name }
@@ -107,7 +109,7 @@ module _ (log : List Entry) where
   acknowledged-given place it h = record { answer = h.answer; events = h.events; name = h.name }
 
   new-given : (name : List ℕ) (number : ℕ) → ToolGiven log (new_tool name number Live)
-  new-given name number = record { answer = λ value e. answers-none value e; events = All-nil (λ (terms : List Term). IsGiven log (Event terms)); name = λ e. not-waiting Live (inl refl) e }
+  new-given name number = record { answer = λ value e. answers-none value e; events = All-nil (λ (terms : List Term). IsGiven log (Event terms)); name = λ e. live-no e }
 
   waiting-given : (name : List ℕ) (number : ℕ) → IsGiven log (Connect name) → ToolGiven log (new_tool name number Waiting)
   waiting-given name number h = record { answer = λ value e. answers-none value e; events = All-nil (λ (terms : List Term). IsGiven log (Event terms)); name = λ e. h }
@@ -156,10 +158,6 @@ module _ (log : List Entry) where
       by (inl e) = subst (LaneGiven log) (sym e) (h lane)
       by (inr e) = subst (LaneGiven log) (sym e.0) (each (h at))
 
-  tools-given : (change : Tool → Tool) (at : ℕ) (bench : BenchState) → ((it : Tool) → ToolGiven log it → ToolGiven log (change it)) → BenchGiven log bench →
-      LaneGiven log (lane_at at bench) → IfSome (option_map change (lane_at at bench).tool) (ToolGiven log)
-  tools-given change at bench each h k = mapped-given change (lane_at at bench).tool each k
-
   while-given : (up : Bool) (change : Lane → Lane) (at : ℕ) (bench : BenchState) → BenchGiven log (on_lane change at bench) → BenchGiven log bench →
       BenchGiven log (let a : lanes.Answer = if up then record { reply = Took; bench = on_lane change at bench } else record { reply = Dropped why.NotLive; bench = bench } in a.bench)
   while-given true change at bench g h = g
@@ -187,19 +185,19 @@ module _ (log : List Entry) where
   exchange-given setting (tool.Execute which slot) exchange h =
       let change = λ (old : Lane). with_tool (new_tool (kind_name setting which) setting.bench.next_tool Live) (started (unwrap_or (kind_command setting which) []) old) in
       on_lane-given change exchange.lane setting.bench (λ k. new-given (kind_name setting which) setting.bench.next_tool) h
-  exchange-given setting (tool.Connect which slot) exchange h = on_lane-given with_live_tool exchange.lane setting.bench (tools-given (λ it. record it { stage = Live }) exchange.lane setting.bench live-given h) h
+  exchange-given setting (tool.Connect which slot) exchange h = on_lane-given with_live_tool exchange.lane setting.bench (mapped-given (λ it. record it { stage = Live }) (lane_at exchange.lane setting.bench).tool live-given) h
   exchange-given setting (tool.DisconnectAny which slot) exchange h = on_lane-given without_tool exchange.lane setting.bench (λ k. tt) h
   exchange-given setting (tool.Disconnect terms) exchange h = on_lane-given without_tool exchange.lane setting.bench (λ k. tt) h
   exchange-given setting (tool.Eval terms) exchange h =
       told-given asked (behind terms) exchange.lane setting.bench
-      (λ term. on_lane-given (with_question term) exchange.lane setting.bench (tools-given (λ it. record it { eval = Asked }) exchange.lane setting.bench asked-given h) h) h
+      (λ term. on_lane-given (with_question term) exchange.lane setting.bench (mapped-given (λ it. record it { eval = Asked }) (lane_at exchange.lane setting.bench).tool asked-given) h) h
   exchange-given setting (tool.TakeValue terms patterns) exchange h =
-      on_lane-given without_answer exchange.lane setting.bench (tools-given (λ it. record it { eval = Closed }) exchange.lane setting.bench closed-given h) h
+      on_lane-given without_answer exchange.lane setting.bench (mapped-given (λ it. record it { eval = Closed }) (lane_at exchange.lane setting.bench).tool closed-given) h
   exchange-given setting (tool.Do terms) exchange h =
       told-given told (behind terms) exchange.lane setting.bench (λ term. on_lane-given (with_out (tool_line (codes "rec-do") (term ∷ []))) exchange.lane setting.bench (λ k. k) h) h
   exchange-given setting (tool.TakeEvent terms patterns) exchange h =
       on_lane-given (with_received exchange.event) exchange.lane setting.bench
-      (tools-given (λ it. record it { events = remove it.events exchange.event; received = it.received ++ event_at exchange.event it.events ∷ [] }) exchange.lane setting.bench (received-given exchange.event) h) h
+      (mapped-given (λ it. record it { events = remove it.events exchange.event; received = it.received ++ event_at exchange.event it.events ∷ [] }) (lane_at exchange.lane setting.bench).tool (received-given exchange.event)) h
   exchange-given setting (tool.Acknowledge terms) exchange h =
       on_lane-given (with_acknowledged exchange.event) exchange.lane setting.bench (acked-given exchange.event (lane_at exchange.lane setting.bench) (lane_at exchange.lane setting.bench).tool refl) h
   exchange-given setting (tool.Terminate terms) exchange h =
@@ -271,12 +269,12 @@ line-taken log (Value value) lane bench shape h =
     let more = log ++ Fed (input.Line lane (Value value)) Took ∷ [] in
     let further = bench-further log (Fed (input.Line lane (Value value)) Took ∷ []) bench h in
     on_lane-given more (answered value) lane bench
-    (tools-given more (λ it. record it { eval = Answered value }) lane bench (answered-given more value (just-given log lane (Value value) shape)) further) further
+    (mapped-given more (λ it. record it { eval = Answered value }) (lane_at lane bench).tool (answered-given more value (just-given log lane (Value value) shape))) further
 line-taken log (Event terms) lane bench shape h =
     let more = log ++ Fed (input.Line lane (Event terms)) Took ∷ [] in
     let further = bench-further log (Fed (input.Line lane (Event terms)) Took ∷ []) bench h in
     on_lane-given more (with_event terms) lane bench
-    (tools-given more (λ it. record it { events = it.events ++ terms ∷ [] }) lane bench (event-given more terms (just-given log lane (Event terms) shape)) further) further
+    (mapped-given more (λ it. record it { events = it.events ++ terms ∷ [] }) (lane_at lane bench).tool (event-given more terms (just-given log lane (Event terms) shape))) further
 line-taken log (Connect name) lane bench shape h =
     let more = log ++ Fed (input.Line lane (Connect name)) Took ∷ [] in
     let further = bench-further log (Fed (input.Line lane (Connect name)) Took ∷ []) bench h in
