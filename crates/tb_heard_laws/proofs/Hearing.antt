@@ -62,10 +62,15 @@ the-term true one term c = by (contains-cases one term [] c)
 the-term false one term c = no-term term c
 
 -- the first of exactly one term
-one-term : (P : List Term → Type 0) → ((named : Term) → P (named ∷ [])) → (terms : List Term) → AreSent 1 terms → P terms
+pub one-term : (P : List Term → Type 0) → ((named : Term) → P (named ∷ [])) → (terms : List Term) → AreSent 1 terms → P terms
 one-term P h [] sent = let many = sent.many in absurd (omega arith)
 one-term P h (named ∷ []) sent = h named
 one-term P h (named ∷ other ∷ terms) sent = let many = sent.many in absurd (omega arith)
+
+pub ready-in-shape : (bus : Bus) (proc : Proc) (offered : Offered) (does : Action) → IsBusInShape bus → IsReadyFor bus proc offered does → IsActionInShape does
+ready-in-shape bus proc offered does shape ready =
+    let own_shape = All-contains IsProcInShape bus.procs proc shape.procs ready.0.0 in
+    action-in-shape bus.program.bodies proc.body bus.now offered does (offer-shallow proc.term proc.store offered own_shape.store ready.0.1) ready.1
 
 module _ (log : List Entry) (its : List ℕ) where
   -- an answer
@@ -187,11 +192,6 @@ module _ (log : List Entry) (its : List ℕ) where
   effect-heard bus proc (action.Receive patterns) h sent = tt
 
   -- steps
-
-  ready-in-shape : (bus : Bus) (proc : Proc) (offered : Offered) (does : Action) → IsBusInShape bus → IsReadyFor bus proc offered does → IsActionInShape does
-  ready-in-shape bus proc offered does shape ready =
-      let own_shape = All-contains IsProcInShape bus.procs proc shape.procs ready.0.0 in
-      action-in-shape bus.program.bodies proc.body bus.now offered does (offer-shallow proc.term proc.store offered own_shape.store ready.0.1) ready.1
 
   abbrev LabelHeard : Label → Type 0
   LabelHeard label = (term : Term) → Contains (heard_as its label.kind label.terms) term → WasGiven log term

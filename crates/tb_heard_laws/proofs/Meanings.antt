@@ -11,7 +11,7 @@ use Rattle.tb_terms.specs.declared.term.Term.TheOpen.{Term-F}
 use Rattle.tb_terms.specs.declared.term.Term.TheOpen as layer
 use Rattle.tb_terms.specs.declared.sort.Sort.TheVariants.{Tool as ToolSort}
 use Rattle.tb_terms.specs.Sizes.{term_size, term_levels, most_term_size, most_term_levels, is_within_limits, IsWithinLimits}
-use Rattle.tb_terms.specs.Sorts.{has_sort, is_tool, is_one_int}
+use Rattle.tb_terms.specs.Sorts.{has_sort, is_int, is_tool, is_one_int}
 use Rattle.tb_log.specs.Limits.{terms_size}
 use Rattle.tb_log.specs.Shapes.{AreParts, most_tool_name}
 use Rattle.tb_log.specs.declared.entry.ToolLine.{ToolLine}
@@ -57,3 +57,9 @@ tool-name name tool number h =
     let open_term = has-tool (tool_term name number) tool ∙ ap (is_tool tool) (term.outs-Appl name (term.Int (pos number) ∷ [])) in
     let both = and_parts (bytes_eq name tool) (is_one_int (term.Int (pos number) ∷ [])) (sym open_term ∙ h) in
     (bytes_eq-Decides name tool).0 both.0
+
+-- and it has this type
+pub tool-sort : (name : List ℕ) (number : ℕ) → has_sort (tool_term name number) (ToolSort name) ≡ true
+tool-sort name number =
+    has-tool (tool_term name number) name ∙ ap (is_tool name) (term.outs-Appl name (term.Int (pos number) ∷ []))
+    ∙ and_from (bytes_eq name name) (is_one_int (term.Int (pos number) ∷ [])) ((bytes_eq-Decides name name).1 refl) (ap is_int (term.outs-Int (pos number)))
