@@ -91,7 +91,7 @@ unmoved stage e f = let t : ◌≡◌ {A = Stage} Waiting Live = sym e ∙ f in 
 
 nothing-taken : (it : Tool) (line : Term) → Takes it it line → ⊥
 nothing-taken it line (value {value = answer} e f) = unasked it answer e f
-nothing-taken it line (event {terms = terms} e) = never-longer it.received terms e
+nothing-taken it line (event terms e) = never-longer it.received terms e
 nothing-taken it line (name e f) = unmoved it.stage e f
 
 module _ (seen : LabelKind) (shown : List Term) where
@@ -217,7 +217,7 @@ connect-hears setting which slot exchange e =
 
     by : (before : Tool) → (lane_at exchange.lane setting.bench).tool ≡ Some before → (line : Term) → Takes before (record before { stage = Live }) line → Contains (heard_as before.name kind.RecConnect (values_in exchange.binds)) line
     by before f line (value {value = answer} g h) = absurd (unasked before answer g h)
-    by before f line (event {terms = terms} g) = absurd (never-longer before.received terms g)
+    by before f line (event terms g) = absurd (never-longer before.received terms g)
     by before f line (name g h) =
         let found = (exchange-is setting (tool.Connect which slot) exchange e).is in
         let same : found.tool ≡ before = some-same found.tool before (sym found.stands ∙ f) in
@@ -244,7 +244,7 @@ eval-hears setting terms exchange e =
     by : (before : Tool) → (lane_at exchange.lane setting.bench).tool ≡ Some before → (line : Term) → Takes before (record before { eval = Asked }) line → Contains (heard_as before.name kind.SndEval terms) line
     by before f line (value {value = answer} g h) =
         absurd (closed-unasked before.eval answer (subst (λ (o : Option Tool). of_tool (λ (it : Tool). is_closed it.eval) o ≡ true) f closed-there) g)
-    by before f line (event {terms = parts} g) = absurd (never-longer before.received parts g)
+    by before f line (event parts g) = absurd (never-longer before.received parts g)
     by before f line (name g h) = absurd (unmoved before.stage g h)
 
 value-hears : (setting : Setting) (patterns : List Pattern) (exchange : Exchange) (named : Term) → exchange_for setting (tool.TakeValue (named ∷ []) patterns) ≡ Some exchange → ExchangeHears setting (tool.TakeValue (named ∷ []) patterns) exchange
@@ -258,7 +258,7 @@ value-hears setting patterns exchange named e =
         let seen : values_on exchange.lane setting.bench ≡ answer ∷ [] = ap (λ (o : Option Term). option_to_list o) there in
         let type = names-type named (lane_at exchange.lane setting.bench) before (found-tool is_taken_at setting.bench named [] exchange.lane (value-lane setting patterns (named ∷ []) exchange e)) f in
         subst (λ (vs : List Term). Contains (line_if before.name (codes "snd-value") (named ∷ vs)) (Appl (codes "snd-value") (answer ∷ []))) (sym seen) (line-there before.name (codes "snd-value") named (answer ∷ []) type)
-    by before f line (event {terms = parts} g) = absurd (never-longer before.received parts g)
+    by before f line (event parts g) = absurd (never-longer before.received parts g)
     by before f line (name g h) = absurd (unmoved before.stage g h)
 
 event-hears : (setting : Setting) (patterns : List Pattern) (exchange : Exchange) (named : Term) → exchange_for setting (tool.TakeEvent (named ∷ []) patterns) ≡ Some exchange → ExchangeHears setting (tool.TakeEvent (named ∷ []) patterns) exchange
@@ -272,7 +272,7 @@ event-hears setting patterns exchange named e =
     by : (before : Tool) → (lane_at exchange.lane setting.bench).tool ≡ Some before → (line : Term) → Takes before (record before { events = remove before.events exchange.event; received = before.received ++ event_at exchange.event before.events ∷ [] }) line
         → Contains (heard_as before.name kind.RecEvent ((named ∷ []) ++ event_at exchange.event (events_at exchange.lane setting.bench))) line
     by before f line (value {value = answer} g h) = absurd (unasked before answer g h)
-    by before f line (event {terms = parts} g) =
+    by before f line (event parts g) =
         let same : event_at exchange.event before.events ≡ parts = last-same before.received (event_at exchange.event before.events) parts g in
         let seen : event_at exchange.event (events_at exchange.lane setting.bench) ≡ parts = ap (λ (o : Option Tool). event_at exchange.event (events_of o)) f ∙ same in
         let type = names-type named (lane_at exchange.lane setting.bench) before (found-tool is_taken_at setting.bench named [] exchange.lane (event-lane setting patterns (named ∷ []) exchange e)) f in
@@ -291,7 +291,7 @@ acknowledge-hears setting terms exchange =
   where
     by : (before : Tool) → (lane_at exchange.lane setting.bench).tool ≡ Some before → (line : Term) → Takes before (record before { received = remove before.received exchange.event }) line → Contains (heard_as before.name kind.SndAckEvent terms) line
     by before f line (value {value = answer} g h) = absurd (unasked before answer g h)
-    by before f line (event {terms = parts} g) = absurd (never-removed before.received exchange.event parts g)
+    by before f line (event parts g) = absurd (never-removed before.received exchange.event parts g)
     by before f line (name g h) = absurd (unmoved before.stage g h)
 
 exchange-hears : (setting : Setting) (does : ToolAction) (exchange : Exchange) → IsSpeakInShape does → exchange_for setting does ≡ Some exchange → ExchangeHears setting does exchange

@@ -11,6 +11,6 @@ pub data Takes (before later : Tool) : Term → Type 0 where
   -- the answer of the tool is there before the step, and not after it
   value : {value : Term} → answer_of before.eval ≡ Some value → answer_of later.eval ≡ None → Takes before later (Appl (codes "snd-value") (value ∷ []))
   -- the event is the last that was received
-  event : {terms : List Term} → later.received ≡ before.received ++ terms ∷ [] → Takes before later (Appl (codes "snd-event") terms)
+  event : (terms : List Term) → later.received ≡ before.received ++ terms ∷ [] → Takes before later (Appl (codes "snd-event") terms)
   -- the tool waited, and is live
   name : before.stage ≡ Waiting → later.stage ≡ Live → Takes before later (Appl (codes "snd-connect") (Appl before.name [] ∷ []))

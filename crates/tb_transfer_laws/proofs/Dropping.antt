@@ -104,6 +104,7 @@ module _ (l r : Process) (apart : (atom : ℕ) → Contains (atoms_of l) atom �
   first-after x y f (inr h) = inl (away-gone x h.0, inr h.1)
 
   once-after : (t : Process) → HasOnce l r t → After t
+  once-after (At atom age) h = elim h [ ]
   once-after (Seq x y) h = first-after x y (once-after x) h
   once-after (Alt x y) h = both-after x y (Gone x × Gone y) (λ k m. (k, m)) (once-after x) (once-after y) h
   once-after (Star x y) h = both-after x y (Gone x × Gone y × Behind (Star x y)) (λ k m. (k, m, inr h)) (once-after x) (once-after y) h
@@ -196,6 +197,7 @@ module _ (l r : Process) (apart : (atom : ℕ) → Contains (atoms_of l) atom �
   -- where the process is
 
   once-place : (t : Process) → HasOnce l r t → Place l r t
+  once-place (At atom age) h = elim h [ ]
   once-place (Seq x y) (inl h) = in_first (once-place x h.0) (inl h.1)
   once-place (Seq x y) (inr h) = in_first (away h.0) (inr h.1)
   once-place (Alt x y) (inl h) = in_choice (once-place x h.0) (away h.1)

@@ -62,6 +62,7 @@ module _ (l r : Process) where
   in-other x y f atom c = Contains-append_right (atoms_of x) (atoms_of y) atom (f atom c)
 
   has-atoms : (term : Process) → HasDisrupt l r term → HasAtoms term
+  has-atoms (At atom age) h = elim h [ ]
   has-atoms (Seq x y) (inl h) = in-one x y (has-atoms x h)
   has-atoms (Seq x y) (inr h) = in-other x y (has-atoms y h)
   has-atoms (Alt x y) (inl h) = in-one x y (has-atoms x h)
@@ -99,6 +100,7 @@ module _ (l r : Process) where
   one-once x y f g from e (inr h) = inr (free-before from x y e h, g (from + length (atoms_of x)) (ascends-append from (atoms_of x) (atoms_of y) e).1 h)
 
   pub has-once : (term : Process) (from : ℕ) → ascends_by_one from (atoms_of term) ≡ true → HasDisrupt l r term → HasOnce term
+  has-once (At atom age) from e h = elim h [ ]
   has-once (Seq x y) from e h = one-once x y (has-once x) (has-once y) from e h
   has-once (Alt x y) from e h = one-once x y (has-once x) (has-once y) from e h
   has-once (Star x y) from e h = one-once x y (has-once x) (has-once y) from e h
@@ -111,6 +113,7 @@ module _ (l r : Process) where
 
   -- and its sides have no atom in common
   pub has-apart : (term : Process) (from : ℕ) → ascends_by_one from (atoms_of term) ≡ true → HasDisrupt l r term → (atom : ℕ) → Contains (atoms_of l) atom → Contains (atoms_of r) atom → ⊥
+  has-apart (At atom age) from e h = elim h [ ]
   has-apart (Seq x y) from e (inl h) = has-apart x from (ascends-append from (atoms_of x) (atoms_of y) e).0 h
   has-apart (Seq x y) from e (inr h) = has-apart y (from + length (atoms_of x)) (ascends-append from (atoms_of x) (atoms_of y) e).1 h
   has-apart (Alt x y) from e (inl h) = has-apart x from (ascends-append from (atoms_of x) (atoms_of y) e).0 h
