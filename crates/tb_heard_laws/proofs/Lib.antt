@@ -1,0 +1,4 @@
+pub mod Meanings
+pub mod Waiting
+pub mod Hearing
+pub mod Takings

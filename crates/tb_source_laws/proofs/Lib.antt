@@ -1,0 +1,3 @@
+pub mod Spelt
+pub mod Expanded
+pub mod Tools

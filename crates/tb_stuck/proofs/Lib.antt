@@ -1,0 +1,9 @@
+pub mod Held
+pub mod Told
+pub mod Progress
+pub mod Names
+pub mod Tools
+pub mod Talks
+pub mod Stays
+pub mod Entries
+pub mod Rows

@@ -1,0 +1,4 @@
+pub mod AtomLemmas
+pub mod AscendLemmas
+pub mod Places
+pub mod Dropping
