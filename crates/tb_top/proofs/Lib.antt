@@ -3,3 +3,4 @@ pub mod Completeness
 mod OneLog
 pub mod Summaries
 pub mod AskedRings
+pub mod Headlines
