@@ -38,6 +38,7 @@ use Rattle.tb_top.specs.declared.fault.Fault.TheVariants.{Script, Feed, Words, F
 use Rattle.tb_top.specs.declared.status.Status.{Status}
 use Rattle.tb_top.specs.declared.status.Bound.TheVariants as bound
 use Rattle.tb_top.proofs.OneLog.{run-log, sim-log}
+use Rattle.tb_top.proofs.SparseSims.{sparse-sim}
 
 few-entries : (events : ℕ) → events ≤ 4000000 → events < 2 ^ 64
 few-entries events few = omega (arith, few)
@@ -121,6 +122,7 @@ module _ (held : List ℕ → Option (List ℕ)) (request : Request) (few : requ
     the_log_is_a_trace_of_the_script = it.trace;
     no_other_log_has_its_text = one-text log (sim-log held request log last (few-entries request.events few) it);
     it_is_quiet_only_if_no_step_is_possible = idle-at_quiet (start (origin_for request it.program)) log it.trace;
+    it_is_never_quiet_twice_in_a_row = sparse-sim (limits_of request.steps (origin_for request it.program)) (sim_start (start (origin_for request it.program)) it.inputs) log last it.simulated;
   }
 
   sim-wrote : (last : SimEnd) (old new : Option (List ℕ)) → PutsLog held request old new last → WritesLog held request last old new

@@ -2,7 +2,7 @@
 use Rattle.std.specs.Prelude.{◌≡◌, ◌⊎◌, ℕ, List, Option, Result, Ok, Err}
 use Rattle.tb_body.specs.declared.program.Program.{Program}
 use Rattle.tb_headline.specs.Words.{Entry, HasOneText, IsIdleAtQuiet, IsTrace, Writes, WritesPrefix}
-use Rattle.tb_headline.specs.Words.{log_text, start}
+use Rattle.tb_headline.specs.Words.{IsSparse, log_text, start}
 use Rattle.tb_load.specs.Loading.{HasProgram}
 use Rattle.tb_log.specs.declared.entry.Input.{Input}
 use Rattle.tb_sim.specs.Simulation.{IsSim, limits_of, sim_start}
@@ -38,6 +38,7 @@ pub record SimLog (held : Held) (request : Request) (last : SimEnd) (log : List 
   pub no_other_log_has_its_text : HasOneText log
   pub it_is_quiet_only_if_no_step_is_possible :
       IsIdleAtQuiet (start (origin_for request program)) log
+  pub it_is_never_quiet_twice_in_a_row : IsSparse log
 
 -- the text of the log of a simulation was written
 abbrev pub WritesLog : Held → Request → SimEnd → Option (List ℕ) → Option (List ℕ) → Type 0
