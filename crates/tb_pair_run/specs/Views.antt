@@ -21,8 +21,7 @@ pub record PairView : Type 0 where
 abbrev pub pair_of : List LaneView → List LaneView → Option ClockView → ℕ → ℕ → PairView
 pair_of lanes others clock clock_faults crew_faults =
     record {
-      lanes =
-          lanes;
+      lanes = lanes;
       others = others;
       clock = clock;
       clock_faults = clock_faults;

@@ -78,18 +78,16 @@ not-said : (b : Bool) → (b ≡ true → ⊥) → b ≡ false
 not-said true never = absurd (never refl)
 not-said false never = refl
 
+sparse-cons : (sim next : Sim) (entry : Entry) (log : List Entry) → Says sim entry next → IsSparse log → (next.quiet ≡ true → says_quiet (slice_get log 0) ≡ false) → IsSparse (entry ∷ log)
+sparse-cons sim next entry log says rest first zero said = first (says.after said)
+sparse-cons sim next entry log says rest first (suc index) said = rest index said
+
 sparse-from : (limits : Limits) (sim : Sim) (log : List Entry) (end : SimEnd) → IsSim limits sim log end → IsSparse log × (sim.quiet ≡ true → says_quiet (slice_get log 0) ≡ false)
 sparse-from limits sim [] end h = (λ index e. refl, λ quiet. refl)
-sparse-from limits sim (entry ∷ log) end h = (by, λ quiet. not-said (says_quiet (Some entry)) (λ said. false≢true (sym (says.before said) ∙ quiet))) where
-  says : Says sim entry h.0
-  says = turn-says limits sim (first_handing sim.bus.bench) entry h.0 h.1
-
-  rest : IsSparse log × (h.0.quiet ≡ true → says_quiet (slice_get log 0) ≡ false)
-  rest = sparse-from limits h.0 log end h.2
-
-  by : IsSparse (entry ∷ log)
-  by zero said = rest.1 (says.after said)
-  by (suc index) said = rest.0 index said
+sparse-from limits sim (entry ∷ log) end h =
+    let says = turn-says limits sim (first_handing sim.bus.bench) entry h.0 h.1 in
+    let rest = sparse-from limits h.0 log end h.2 in
+    (sparse-cons sim h.0 entry log says rest.0 rest.1, λ quiet. not-said (says_quiet (Some entry)) (λ said. false≢true (sym (says.before said) ∙ quiet)))
 
 pub sparse-sim : (limits : Limits) (sim : Sim) (log : List Entry) (end : SimEnd) → IsSim limits sim log end → IsSparse log
 sparse-sim limits sim log end h = (sparse-from limits sim log end h).0
