@@ -89,7 +89,8 @@ FirstRefused most old new back =
 -- a call on the second bus was rejected because its log was full
 abbrev pub SecondRefused : ℕ → PairView → PairView → CoreState → CoreState → Type 0
 SecondRefused most old new back others_back =
-    BusRefused (ReaderRefused back.log others_back.origin others_back.log) (ClockFailed old new) most
+    BusRefused (ReaderRefused back.log others_back.origin others_back.log) (ClockFailed old new)
+    most
     (second_run old new others_back)
 
 -- Both buses, which ran beside each other and ended for these reasons, each for its own; what the
