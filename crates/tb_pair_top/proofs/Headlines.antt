@@ -42,7 +42,7 @@ from-two P Q weaker (old ∷ olds) [] e = absurd e
 
 -- One of the two buses.
 module _ (side : Side) (program : Program) (has : HasProgram side.told program) (back : CoreState) (is : IsLogOf (pair_origin program side.events) back) where
-  log-of : (missing : ℕ) → EachFromTwo (Heard missing back.log) side.old side.new → EachFromTwo (Took missing back.log) side.old side.new → EachFromTwo (HasCutCause back.log) side.old side.new → BusLog missing side back.log
+  abbrev log-of : (missing : ℕ) → EachFromTwo (Heard missing back.log) side.old side.new → EachFromTwo (Took missing back.log) side.old side.new → EachFromTwo (HasCutCause back.log) side.old side.new → BusLog missing side back.log
   log-of missing heard took cuts = record {
     bus = start back.origin;
     the_bus_starts_with_the_accepted_script = record { program = program; accepted = has; starts = ap start is.origin_is };

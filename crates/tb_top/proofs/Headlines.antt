@@ -48,7 +48,7 @@ module _ (held : List ℕ → Option (List ℕ)) (request : RunRequest) (old new
   abbrev call : RunCall
   call = record { told = held request.script; request = request; old = old; new = new }
 
-  log-of : (missing : ℕ) (Failed : Type 0) (it : RunWhy) (run : IsRun held request old new it) → EachLane (Heard missing run.back.log) 1 old.lanes new.lanes → EachLane (Took missing run.back.log) 1 old.lanes new.lanes →
+  abbrev log-of : (missing : ℕ) (Failed : Type 0) (it : RunWhy) (run : IsRun held request old new it) → EachLane (Heard missing run.back.log) 1 old.lanes new.lanes → EachLane (Took missing run.back.log) 1 old.lanes new.lanes →
       EachLane (HasCutCause run.back.log) 1 old.lanes new.lanes → Ticked missing request.ticks run.back.log old.clock new.clock → EndsTicks request.ticks Failed run.back.log new.clock → RunLog missing Failed call
   log-of missing Failed it run heard took cuts ticked ends = record {
     bus = start run.back.origin;
@@ -79,7 +79,7 @@ module _ (held : List ℕ → Option (List ℕ)) (request : RunRequest) (old new
         a_finish_halt_or_shutdown_was_logged = shut_down-by_step run.back.origin log run.runs.history.trace done.down;
       }
 
-  stopped : (it : RunWhy) (run : IsRun held request old new it) → EachLane (LaneStopped run.back.log) 1 old.lanes new.lanes → ClockStopped run.back.log request.ticks old.clock new.clock (Rose old.clock_faults new.clock_faults) →
+  abbrev stopped : (it : RunWhy) (run : IsRun held request old new it) → EachLane (LaneStopped run.back.log) 1 old.lanes new.lanes → ClockStopped run.back.log request.ticks old.clock new.clock (Rose old.clock_faults new.clock_faults) →
       RunLog 1 (ClockFailed call) call
   stopped it run lanes clock =
       let log = run.back.log in
