@@ -1,5 +1,5 @@
 -- What a log states about the clock after a complete run, and after an interrupted one.
-use Rattle.std.proofs.Common.{◌≡◌, ◌≤◌, ◌+◌, ◌⊎◌, ℕ, List, [], Bool, true, ◌||◌, Option, Some, None, refl, sym, ap, ◌∙◌, subst, inl, inr, ⊎_elim, arith}
+use Rattle.std.proofs.Common.{◌≡◌, ◌+◌, ◌⊎◌, ℕ, List, [], Bool, ◌||◌, Option, Some, None, refl, sym, ap, ◌∙◌, subst, inl, inr, arith}
 use Rattle.std.specs.Prelude.{IfSome}
 use Rattle.tb_edge.specs.Ends.{ClockView, and_ticked}
 use Rattle.tb_headline.specs.Words.{EndsTicks, IsTickedToEnd, Ticked}

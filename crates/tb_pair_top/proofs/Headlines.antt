@@ -1,6 +1,5 @@
 -- The outcome of a pair has its headline.
-use Rattle.std.proofs.Common.{◌≡◌, ◌≤◌, ◌<◌, ◌^◌, ◌⊎◌, ℕ, List, [], ◌∷◌, Option, Result, Ok, Err, refl, ap, inl, inr, arith}
-use Rattle.std.specs.Prelude.{⊤}
+use Rattle.std.proofs.Common.{◌≡◌, ◌≤◌, ◌<◌, ◌^◌, ℕ, List, [], ◌∷◌, Result, Ok, Err, refl, ap, inl, inr, arith}
 use Rattle.tb_body.specs.declared.program.Program.{Program}
 use Rattle.tb_bus.specs.Buses.{start}
 use Rattle.tb_cli.specs.declared.fault.WordFault.{WordFault}
@@ -15,7 +14,7 @@ use Rattle.tb_headline.proofs.Lanes.{each-weaker, ran-cuts, ran-heard, ran-read,
 use Rattle.tb_load.specs.Loading.{HasProgram}
 use Rattle.tb_run.specs.Outcomes.{LaneRan, LaneStopped}
 use Rattle.tb_run.specs.Views.{LaneView}
-use Rattle.tb_pair_run.specs.Outcomes.{BothRan, BusOutcome, IsLogOf, PairRuns}
+use Rattle.tb_pair_run.specs.Outcomes.{BothRan, BusOutcome, IsLogOf}
 use Rattle.tb_pair_run.specs.Views.{EachFromTwo}
 use Rattle.tb_pair_run.specs.declared.ends.BusWhy.{BusWhy}
 use Rattle.tb_pair_run.specs.declared.ends.BusWhy.TheVariants as bus_why

@@ -1,5 +1,5 @@
 -- A call of `pair`, as the headline speaks of it: the call, and each of its two buses.
-use Rattle.std.specs.Prelude.{◌≡◌, ◌++◌, ℕ, List, Option}
+use Rattle.std.specs.Prelude.{◌≡◌, ℕ, List, Option}
 use Rattle.tb_body.specs.declared.program.Program.{Program}
 use Rattle.tb_cli.specs.declared.pair_command.PairCommand.{PairCommand}
 use Rattle.tb_headline.specs.Words.{Bus, Entry, LaneView, Rose, Writes, WritesPrefix, start}

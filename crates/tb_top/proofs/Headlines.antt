@@ -1,5 +1,5 @@
 -- The outcome of a command has its headline.
-use Rattle.std.proofs.Common.{◌≡◌, ◌≤◌, ◌<◌, ◌^◌, ℕ, List, Option, Result, Ok, Err, refl, sym, ap, ◌∙◌, subst, inl, inr, ⊎_elim, arith}
+use Rattle.std.proofs.Common.{◌≡◌, ◌≤◌, ◌<◌, ◌^◌, ℕ, List, Option, Result, Ok, Err, refl, ap, inl, inr, arith}
 use Rattle.tb_cli.specs.declared.command.Command.{Command}
 use Rattle.tb_cli.specs.declared.command.Command.TheVariants as command
 use Rattle.tb_cli.specs.declared.fault.WordFault.{WordFault}
@@ -9,7 +9,7 @@ use Rattle.tb_cli.proofs.Ranges.{asked-within}
 use Rattle.tb_bus.specs.Buses.{start}
 use Rattle.tb_bus.specs.Traces.{replay}
 use Rattle.tb_edge.specs.Faults.{Rose}
-use Rattle.tb_edge.specs.Sinks.{Writes, WritesPrefix}
+use Rattle.tb_edge.specs.Sinks.{Writes}
 use Rattle.tb_headline.specs.Words.{EndsTicks, HasCutCause, Heard, IsReadToEnd, Ticked, Took}
 use Rattle.tb_headline.proofs.Clocks.{ran-ends, ran-over, ran-ticked, stopped-ends, stopped-ticked}
 use Rattle.tb_headline.proofs.Entries.{idle-at_quiet, one-text, shut_down-by_step}
@@ -29,7 +29,7 @@ use Rattle.tb_top.specs.Headlines.{HasHeadline}
 use Rattle.tb_top.specs.Outcomes.{CommandOutcome, Comes}
 use Rattle.tb_top.specs.Reporting.{Reported}
 use Rattle.tb_top.specs.Run.{IsRun, IsUntouched, LiveOutcome, RunRequest}
-use Rattle.tb_top.specs.RunCalls.{ClockFailed, NothingHappened, RunCall, WrotePrefix}
+use Rattle.tb_top.specs.RunCalls.{ClockFailed, NothingHappened, RunCall}
 use Rattle.tb_top.specs.Sim.{IsSimOf, PutsLog, PutsPrefix, Request, SimOutcome, origin_for}
 use Rattle.tb_top.specs.SimHeadline.{SimHeadline, SimLog, WritesLog, WritesPart}
 use Rattle.tb_top.specs.Views.{Seen}

@@ -1,5 +1,5 @@
 -- The log of a simulation never has two successive `quiet` entries.
-use Rattle.std.proofs.Common.{◌≡◌, ◌+◌, ℕ, zero, suc, List, [], ◌∷◌, ◌++◌, Bool, true, false, if◌then◌else◌, Option, Some, None, refl, sym, ◌∙◌, subst}
+use Rattle.std.proofs.Common.{◌≡◌, ◌+◌, zero, suc, List, [], ◌∷◌, ◌++◌, Bool, true, false, if◌then◌else◌, Option, Some, None, refl, sym, ◌∙◌, subst}
 use Rattle.std.specs.Prelude.{nat_le, slice_get}
 use Rattle.std.proofs.lemmas.Bool.{false≢true}
 use Rattle.tb_bus.specs.Steps.{Step, steps}
@@ -11,7 +11,7 @@ use Rattle.tb_log.specs.declared.entry.Input.{Input}
 use Rattle.tb_log.specs.declared.entry.Input.TheVariants.{NoTicks}
 use Rattle.tb_log.specs.declared.entry.Entry.{Entry}
 use Rattle.tb_log.specs.declared.entry.Entry.TheVariants.{Did, Quiet, Fed, Gave}
-use Rattle.tb_sim.specs.Simulation.{Handing, IsSim, Limits, Sim, Turn, Ends, Makes, first_handing, input_turn, makes, outside_turn, step_turn, turn, turn_by}
+use Rattle.tb_sim.specs.Simulation.{Handing, IsSim, Limits, Sim, Ends, Makes, first_handing, input_turn, makes, outside_turn, step_turn, turn_by}
 use Rattle.tb_sim.specs.declared.ends.SimEnd.{SimEnd}
 use Rattle.tb_sim.specs.declared.ends.SimEnd.TheVariants.{Down, Steps, Events}
 
