@@ -246,7 +246,7 @@ module _ (Pipe : Type 0) (most : ℕ) (lane lane' : LaneView) (olds news : List 
     (side : SideCame olds news begun last pipe_begun pipe_done tick_begun tick_done pipe_end tick_end ends) (pipe : pipe_end ≡ end.Full → Pipe)
     (tick : tick_end ≡ end.Full → TickRefused last.origin last.seen most clock_old clock_new ⊎ NoTicksRefused last.origin last.seen most clock_old clock_new Failed) where
   abbrev Refused : Type 0
-  Refused = BusRefused Pipe most (lane ∷ olds) (lane' ∷ news) clock_old clock_new Failed last.origin last.seen
+  Refused = BusRefused Pipe Failed most (record { lanes_old = (lane ∷ olds); lanes_new = (lane' ∷ news); clock_old = clock_old; clock_new = clock_new; origin = last.origin; log = last.seen })
 
   by_rest : list_any is_full_end ends ≡ true → Refused
   by_rest h = ⊎_elim (λ lane. inl lane) (λ step. inr (inr (inr (inr step)))) (side.refused h)
@@ -283,7 +283,7 @@ lanes_full origin log lane (old ∷ olds) (new ∷ news) (inr s) = lanes_full or
 
 -- a bus that was refused a call is at its limit
 bus_full : (Pipe : Type 0) (most : ℕ) (lanes lanes' : List LaneView) (clock_old clock_new : Option ClockView) (Failed : Type 0) (origin : Origin) (log : List Entry) → (Pipe → WasFull origin log)
-    → BusRefused Pipe most lanes lanes' clock_old clock_new Failed origin log → WasFull origin log
+    → BusRefused Pipe Failed most (record { lanes_old = lanes; lanes_new = lanes'; clock_old = clock_old; clock_new = clock_new; origin = origin; log = log }) → WasFull origin log
 bus_full Pipe most [] [] clock_old clock_new Failed origin log f (inl s) = absurd s
 bus_full Pipe most [] (x ∷ xs) clock_old clock_new Failed origin log f (inl s) = absurd s
 bus_full Pipe most (x ∷ xs) [] clock_old clock_new Failed origin log f (inl s) = absurd s
@@ -481,10 +481,10 @@ module _ (law : LaterLaw) (most : ℕ) (olds news others_olds others_news : List
       others_seen_few = subst (λ (l : List Entry). length l ≤ others_last.origin.limit) others_closes.log (subst (λ (o : Origin). length others_core.log ≤ o.limit) others_closes.origin others_few)
 
       abbrev First : Type 0
-      First = BusRefused Pipe most (lane ∷ olds) (lane' ∷ news) clock_old clock_new (Rose faults_old faults_new) last.origin last.seen
+      First = BusRefused Pipe (Rose faults_old faults_new) most (record { lanes_old = (lane ∷ olds); lanes_new = (lane' ∷ news); clock_old = clock_old; clock_new = clock_new; origin = last.origin; log = last.seen })
 
       abbrev Second : Type 0
-      Second = BusRefused OthersPipe most (other ∷ others_olds) (other' ∷ others_news) clock_old clock_new (Rose faults_old faults_new) others_last.origin others_last.seen
+      Second = BusRefused OthersPipe (Rose faults_old faults_new) most (record { lanes_old = (other ∷ others_olds); lanes_new = (other' ∷ others_news); clock_old = clock_old; clock_new = clock_new; origin = others_last.origin; log = others_last.seen })
 
       first_refused : list_any is_full_end (writer ∷ tick ∷ ends) ≡ true → First
       first_refused = bus_refused Pipe most lane lane' olds news clock_old clock_new (Rose faults_old faults_new) begun last pipe_begun pipe_done tick_begun tick_done writer tick ends f.one writer_so tick_so

@@ -38,7 +38,7 @@ use Rattle.tb_run.proofs.TraceLemmas.{trace_before}
 use Rattle.tb_pair.specs.Clocks.{TimePasses}
 use Rattle.tb_pair.specs.Passing.{Passes}
 use Rattle.tb_pair.specs.Piping.{events, connect, lines_of}
-use Rattle.tb_pair_run.specs.Outcomes.{BothRan, BusOutcome, IsLogOf, PairRuns, of_both}
+use Rattle.tb_pair_run.specs.Outcomes.{BothRan, BusOutcome, FirstRefused, IsLogOf, PairRuns, SecondRefused, of_both}
 use Rattle.tb_pair_run.specs.Refusals.{BusRefused, ReaderRefused, TickRefused, WriterRefused}
 use Rattle.tb_pair_run.specs.Views.{EachFromTwo, PairTells, PairView, SomeFromTwo, TellFromTwo}
 use Rattle.tb_pair_run.specs.declared.ends.BusWhy.{BusWhy}
@@ -278,7 +278,7 @@ module _ (law : FullLaw) (back : CoreState) (trace : IsTrace (start back.origin)
   not_lanes (old ∷ olds) (new ∷ news) tells ran some = no_lane 2 olds news tells ran.1 some
 
   not_refused : (Pipe : Type 0) (most given : ℕ) (ended : Bool) (lanes lanes' : List LaneView) (clock clock' : Option ClockView) (view : ClockView) (Failed Other : Type 0) → (Pipe → ⊥) → TellFromTwo lanes → clock ≡ Some view → EachFromTwo (LaneRan back.log) lanes lanes'
-      → clock' ≡ and_ticked clock given ended → TimePasses back.log most given ended Failed ⊥ → BusRefused Pipe most lanes lanes' clock clock' Other back.origin back.log → ⊥
+      → clock' ≡ and_ticked clock given ended → TimePasses back.log most given ended Failed ⊥ → BusRefused Pipe Other most (record { lanes_old = lanes; lanes_new = lanes'; clock_old = clock; clock_new = clock'; origin = back.origin; log = back.log }) → ⊥
   not_refused Pipe most given ended lanes lanes' clock clock' view Failed Other never tells clock_tells ran told passes (inl some) = not_lanes lanes lanes' tells ran some
   not_refused Pipe most given ended lanes lanes' clock clock' view Failed Other never tells clock_tells ran told passes (inr (inl pipe)) = never pipe
   not_refused Pipe most given ended lanes lanes' clock clock' view Failed Other never tells clock_tells ran told passes (inr (inr (inl tick))) = not_tick back.origin back.log most given ended clock clock' view Failed clock_tells told passes tick
@@ -293,22 +293,15 @@ is_events end.NoMemory = false
 no_clash : false ≡ true → ⊥
 no_clash e = let clash : false ≡ true = e in cc
 
--- a call on the first bus was refused, or one on the second
-abbrev OneRefused : ℕ → PairView → PairView → CoreState → Type 0
-OneRefused most old new back = BusRefused (WriterRefused back.origin back.log) most old.lanes new.lanes old.clock new.clock (Rose old.clock_faults new.clock_faults) back.origin back.log
-
-abbrev OtherRefused : ℕ → PairView → PairView → CoreState → CoreState → Type 0
-OtherRefused most old new back others_back = BusRefused (ReaderRefused back.log others_back.origin others_back.log) most old.others new.others old.clock new.clock (Rose old.clock_faults new.clock_faults) others_back.origin others_back.log
-
 not_first : FullLaw → (most : ℕ) (old new : PairView) (origin : Origin) (back others_back : CoreState) → PairTells old → log_size back.log + max 131072 (largest_command back.origin) ≤ most_size → IsLogOf origin back
-    → BothRan most old new back others_back end.Ended end.Ended ⊥ → OneRefused most old new back → ⊥
+    → BothRan most old new back others_back end.Ended end.Ended ⊥ → FirstRefused most old new back → ⊥
 not_first law most old new origin back others_back tells small log ran refused =
     let never = no_out law back log.history.trace log.within small ran.first.1 1 in
     not_refused law back log.history.trace log.within small ran.first.1 (WriterRefused back.origin back.log) most ran.clock.given ran.clock.ended old.lanes new.lanes old.clock new.clock tells.clock.0 ⊥ (Rose old.clock_faults new.clock_faults)
     (not_writer back.origin back.log others_back.log ran.pipe never) tells.lanes tells.clock.1 ran.first.0 ran.clock.told ran.clock.first refused
 
 not_second : FullLaw → (most : ℕ) (old new : PairView) (origin : Origin) (back others_back : CoreState) → PairTells old → log_size others_back.log + max 131072 (largest_command others_back.origin) ≤ most_size → IsLogOf origin others_back
-    → BothRan most old new back others_back end.Ended end.Ended ⊥ → OtherRefused most old new back others_back → ⊥
+    → BothRan most old new back others_back end.Ended end.Ended ⊥ → SecondRefused most old new back others_back → ⊥
 not_second law most old new origin back others_back tells small log ran refused =
     let never = no_out law others_back log.history.trace log.within small ran.second.1 1 in
     not_refused law others_back log.history.trace log.within small ran.second.1 (ReaderRefused back.log others_back.origin others_back.log) most ran.clock.given ran.clock.ended old.others new.others old.clock new.clock tells.clock.0 ⊥ (Rose old.clock_faults new.clock_faults)
@@ -320,7 +313,7 @@ pub not_both : FullLaw → (most : ℕ) (old new : PairView) (origin others_orig
 not_both law most old new origin others_origin origin' others_origin' back others_back tells small others_small ended full =
     go full.outcome.why full.outcome.others_why full.outcome.is full.outcome.ran.first full.outcome.ran.second
   where
-    go : (one other : BusWhy) → of_both one other ≡ end.Events → BusOutcome (OneRefused most old new back) old.lanes new.lanes back one → BusOutcome (OtherRefused most old new back others_back) old.others new.others others_back other → ⊥
+    go : (one other : BusWhy) → of_both one other ≡ end.Events → BusOutcome (FirstRefused most old new back) old.lanes new.lanes back one → BusOutcome (SecondRefused most old new back others_back) old.others new.others others_back other → ⊥
     go end.Events other e it others = not_first law most old new origin back others_back tells small ended.first ended.outcome it.2
     go end.Ended end.Events e it others = not_second law most old new others_origin back others_back tells others_small ended.second ended.outcome others.2
     go end.Ended end.Ended e it others = no_clash (ap is_events e)

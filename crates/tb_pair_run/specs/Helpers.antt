@@ -1,4 +1,5 @@
--- Definitions that proofs and private functions need, and that nobody has to believe who believes what the public calls say.
+-- Definitions that proofs and private functions need, and that nobody has to believe who believes
+-- what the public calls say.
 pub mod Parts
 pub mod Reasons
 pub mod Teams

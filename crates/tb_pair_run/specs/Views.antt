@@ -19,16 +19,32 @@ pub record PairView : Type 0 where
   pub crew_faults : ℕ
 
 abbrev pub pair_of : List LaneView → List LaneView → Option ClockView → ℕ → ℕ → PairView
-pair_of lanes others clock clock_faults crew_faults = record { lanes = lanes; others = others; clock = clock; clock_faults = clock_faults; crew_faults = crew_faults }
+pair_of lanes others clock clock_faults crew_faults =
+    record {
+      lanes = lanes;
+      others = others;
+      clock = clock;
+      clock_faults = clock_faults;
+      crew_faults = crew_faults;
+    }
 
 -- What is seen of lanes with two boxed ends, of a clock and of a crew: each tells it by its trait.
-abbrev pub pair_seen : {X Y C P : Type 0} {A : X → Type 0} {B : Y → Type 0} → InletTells (DynBox X Global A) → OutletTells (DynBox Y Global B) → ClockTells C → CrewTells P → List (LanePair X Y A B) → List (LanePair X Y A B) → C → P → PairView
+abbrev pub pair_seen : {X Y C P : Type 0} {A : X → Type 0} {B : Y → Type 0}
+    → InletTells (DynBox X Global A) → OutletTells (DynBox Y Global B) → ClockTells C → CrewTells P
+    → List (LanePair X Y A B) → List (LanePair X Y A B) → C → P → PairView
 pair_seen inlet outlet clock crew lanes others c p =
-    pair_of (map (λ pair. lane_view inlet.told inlet.faults outlet.told outlet.faults pair.inlet pair.outlet) lanes)
-    (map (λ pair. lane_view inlet.told inlet.faults outlet.told outlet.faults pair.inlet pair.outlet) others) (clock.told c) (clock.faults c) (crew.faults p)
+    pair_of
+    (map
+    (λ pair. lane_view inlet.told inlet.faults outlet.told outlet.faults pair.inlet pair.outlet)
+    lanes)
+    (map
+    (λ pair. lane_view inlet.told inlet.faults outlet.told outlet.faults pair.inlet pair.outlet)
+    others)
+    (clock.told c) (clock.faults c) (crew.faults p)
 
--- Lane 1 of a bus of a pair belongs to the pipe, so the two ends that the caller has given for it aren't used: they gave and took
--- nothing. The outlet is closed, which may raise its count of faults.
+-- Lane 1 of a bus of a pair belongs to the pipe, so the two ends that the caller has given for it
+-- aren't used: they gave and took nothing. The outlet is closed, which may raise its count of
+-- faults.
 pub record IsUnused (old new : LaneView) : Type 0 where
   pub gave : new.gave ≡ old.gave
   pub inlet_faults : new.inlet_faults ≡ old.inlet_faults

@@ -1,5 +1,6 @@
 //! The calls in which a crew does all jobs of a pair concurrently.
-ghost use Rattle.std.specs.Prelude.{◌≡◌, ◌≤◌, ◌++◌, [], None, MatchOption, IfOk, IfErr, OnOk, length, vec_capacity};
+ghost use Rattle.std.specs.Prelude.{◌≡◌, ◌≤◌, ◌++◌, [], None, MatchOption, IfOk, IfErr, OnOk};
+ghost use Rattle.std.specs.Prelude.{length, vec_capacity};
 ghost use Rattle.std.specs.List.{All};
 ghost use Rattle.tb_edge.specs.Faults.{Rose};
 ghost use Rattle.tb_edge.specs.Jobs.{AllDone, FailsOnly, jobs_of};
@@ -7,7 +8,8 @@ ghost use Rattle.tb_run.specs.Jobs.{IsReady as IsReadyWorker, WorkDone};
 ghost use Rattle.tb_run.specs.Running.{FailsFor};
 ghost use Rattle.tb_pair.specs.Jobs.{CanServe, IsReady, JobDone};
 ghost use Rattle.tb_pair.specs.Ticking.{CanTick, TicksPair};
-ghost use Rattle.tb_pair_run.specs.Helpers.Teams.{CanBegin, IsTeam, TeamDone, TeamSame, jobs_of as team_of};
+ghost use Rattle.tb_pair_run.specs.Helpers.Teams.{CanBegin, IsTeam, TeamDone, TeamSame};
+ghost use Rattle.tb_pair_run.specs.Helpers.Teams.{jobs_of as team_of};
 
 use crate::apart::{put_together, take_apart};
 use crate::idle::Idle;

@@ -2,7 +2,8 @@
 ghost use Rattle.std.specs.Prelude.{◌≡◌};
 ghost use Rattle.tb_run.specs.Reasons as reasons;
 ghost use Rattle.tb_pair_run.specs.Outcomes.{of_both};
-ghost use Rattle.tb_pair_run.specs.Helpers.Reasons.{bus_why, by_both, of_refusals, of_ticks, pair_why, no_crew};
+ghost use Rattle.tb_pair_run.specs.Helpers.Reasons.{bus_why, by_both, of_refusals, of_ticks};
+ghost use Rattle.tb_pair_run.specs.Helpers.Reasons.{pair_why, no_crew};
 
 use crate::ends::{BusWhy, PairWhy};
 use tb_run::{RunWhy, WorkEnd, any_full, any_no_memory};

@@ -1,5 +1,6 @@
 //! The run of two buses and of the pipe between them.
-ghost use Rattle.std.specs.Prelude.{◌≡◌, ◌≤◌, ◌∷◌, [], length, false, IsTrue, map, vec_len, vec_capacity};
+ghost use Rattle.std.specs.Prelude.{◌≡◌, ◌≤◌, ◌∷◌, [], length, false, IsTrue, map, vec_len};
+ghost use Rattle.std.specs.Prelude.{vec_capacity};
 ghost use Rattle.std.specs.List.{list_all};
 ghost use Rattle.tb_log.specs.Proper.{is_proper_entry};
 ghost use Rattle.tb_lock.specs.Calls.{Closes};

@@ -1,5 +1,6 @@
 //! All workers of both buses, from the first seat of each until their seats are one again.
-ghost use Rattle.std.specs.Prelude.{◌≡◌, ◌≤◌, ◌++◌, ◌∷◌, [], List, None, length, map, vec_capacity, MatchOption};
+ghost use Rattle.std.specs.Prelude.{◌≡◌, ◌≤◌, ◌++◌, ◌∷◌, [], List, None, length, map, vec_capacity};
+ghost use Rattle.std.specs.Prelude.{MatchOption};
 ghost use Rattle.std.specs.List.{All};
 ghost use Rattle.rtrb.specs.Ring.{IsPair, received, sent};
 ghost use Rattle.tb_lock.specs.Seats.{first_seat};
@@ -10,7 +11,8 @@ ghost use Rattle.tb_run.specs.Parting.{parted};
 ghost use Rattle.tb_pair.specs.declared.piece.Piece.{Piece};
 ghost use Rattle.tb_pair_run.specs.Helpers.Parts.{lane_rights, pipe_seat_of, tick_seat_of, rest_of};
 ghost use Rattle.tb_pair_run.specs.Helpers.Reasons.{bus_why, no_crew, pair_why};
-ghost use Rattle.tb_pair_run.specs.Helpers.Running.{AreFifteen, CanFinish, CanGather, HasCome, ends_seen};
+ghost use Rattle.tb_pair_run.specs.Helpers.Running.{AreFifteen, CanFinish, CanGather, HasCome};
+ghost use Rattle.tb_pair_run.specs.Helpers.Running.{ends_seen};
 
 use crate::crewing::{Back, Crowd, Lists, work};
 use crate::ending::{bus_why, no_crew, pair_why};

@@ -41,7 +41,7 @@ not-longer one other two others_two is other_is same less =
     let next = next_entry one other (codes "--\n" ++ log_text two) (codes "--\n" ++ log_text others_two) is other_is less same in
     no-entry (1 + length one) next.entry (log_text two) next.line
 
-two-logs : (one two other others_two : List Entry) → IsLog one → IsLog two → IsLog other → IsLog others_two → pair_text one two ≡ pair_text other others_two → (one ≡ other) × (two ≡ others_two)
+pub two-logs : (one two other others_two : List Entry) → IsLog one → IsLog two → IsLog other → IsLog others_two → pair_text one two ≡ pair_text other others_two → (one ≡ other) × (two ≡ others_two)
 two-logs one two other others_two one_is two_is other_is others_is same = by (cases_order (length one) (length other)) where
   both : length one ≡ length other → (one ≡ other) × (two ≡ others_two)
   both e =
@@ -53,7 +53,7 @@ two-logs one two other others_two one_is two_is other_is others_is same = by (ca
   by (inr (inl less)) = absurd (not-longer one other two others_two one_is other_is same less)
   by (inr (inr more)) = absurd (not-longer other one others_two two other_is one_is (sym same) more)
 
-log-is : (origin : Origin) (back : CoreState) → IsLogOf origin back → origin.limit < 2 ^ 64 → IsLog back.log
+pub log-is : (origin : Origin) (back : CoreState) → IsLogOf origin back → origin.limit < 2 ^ 64 → IsLog back.log
 log-is origin back log few =
     let limit : back.origin.limit ≡ origin.limit = ap (λ (o : Origin). o.limit) log.origin_is in
     record {

@@ -1,4 +1,5 @@
--- The conditions on the files and on the environment for which a pair ends well, unless a log is full or memory runs out.
+-- The conditions on the files and on the environment for which a pair ends well, unless a log is
+-- full or memory runs out.
 use Rattle.std.specs.Prelude.{◌≡◌, ◌≤◌, ℕ, List, Option, Some, length}
 use Rattle.tb_body.specs.declared.program.Program.{Program}
 use Rattle.tb_edge.specs.Faults.{Rose}

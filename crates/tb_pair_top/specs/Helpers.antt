@@ -1,2 +1,3 @@
--- Definitions that proofs and private functions need. A reader who trusts the program's call needn't trust them.
+-- Definitions that proofs and private functions need. A reader who trusts the program's call
+-- needn't trust them.
 pub mod Parts

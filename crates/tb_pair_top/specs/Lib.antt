@@ -1,6 +1,9 @@
 pub mod Views
 pub mod Loading
 pub mod Outcomes
+pub mod PairCalls
+pub mod Headline
+pub mod Headlines
 pub mod Completeness
 pub mod Lines
 pub mod Statuses

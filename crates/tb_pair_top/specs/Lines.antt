@@ -3,7 +3,8 @@ use Rattle.std.specs.Prelude.{ℕ, List, [], ◌∷◌, ◌++◌, codes}
 use Rattle.tb_script.specs.Lines.{script_line}
 use Rattle.tb_cli.specs.Lines.{word_line}
 use Rattle.tb_pair_top.specs.declared.fault.PairFault.{PairFault}
-use Rattle.tb_pair_top.specs.declared.fault.PairFault.TheVariants.{Script, Words, File, Out, Clock, Crew, Limit, NoMemory}
+use Rattle.tb_pair_top.specs.declared.fault.PairFault.TheVariants.{Script, Words, File, Out, Clock}
+use Rattle.tb_pair_top.specs.declared.fault.PairFault.TheVariants.{Crew, Limit, NoMemory}
 
 -- the message of an error
 abbrev pub fault_words : PairFault → List ℕ

@@ -10,9 +10,10 @@ AsksFirst first old new = new ≡ old ++ first ∷ []
 abbrev pub AsksBoth : List ℕ → List ℕ → List (List ℕ) → List (List ℕ) → Type 0
 AsksBoth first second old new = new ≡ old ++ first ∷ second ∷ []
 
--- `Is` holds for the file of the first script, and only this file was requested; or the first script is accepted, `Is` holds for the file
--- of the second script, and both files were requested.
-abbrev pub IsOfOne : (Option (List ℕ) → Type 0) → (List ℕ → Option (List ℕ)) → List ℕ → List ℕ → List (List ℕ) → List (List ℕ) → Type 0
+-- `Is` holds for the file of the first script, and only this file was requested; or the first
+-- script is accepted, `Is` holds for the file of the second script, and both files were requested.
+abbrev pub IsOfOne : (Option (List ℕ) → Type 0) → (List ℕ → Option (List ℕ)) → List ℕ → List ℕ
+    → List (List ℕ) → List (List ℕ) → Type 0
 IsOfOne Is held first second old new =
     (Is (held first) × AsksFirst first old new)
     ⊎ (IsAccepted (held first) × Is (held second) × AsksBoth first second old new)

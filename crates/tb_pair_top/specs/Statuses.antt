@@ -4,7 +4,8 @@ use Rattle.tb_pair_top.specs.declared.status.PairStatus.{PairStatus}
 use Rattle.tb_pair_top.specs.declared.status.PairStatus.TheVariants as status
 use Rattle.tb_pair_top.specs.declared.status.PairEdge.TheVariants as edge
 use Rattle.tb_pair_top.specs.declared.fault.PairFault.{PairFault}
-use Rattle.tb_pair_top.specs.declared.fault.PairFault.TheVariants.{Script, Words, File, Out, Clock, Crew, Limit, NoMemory}
+use Rattle.tb_pair_top.specs.declared.fault.PairFault.TheVariants.{Script, Words, File, Out, Clock}
+use Rattle.tb_pair_top.specs.declared.fault.PairFault.TheVariants.{Crew, Limit, NoMemory}
 
 abbrev pub status_of : PairFault → PairStatus
 status_of (Script fault) = status.Script fault

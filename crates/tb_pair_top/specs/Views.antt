@@ -11,7 +11,8 @@ use Rattle.tb_edge.specs.declared.sink.Sink.{Ghosts as SinkTells}
 use Rattle.tb_edge.specs.declared.lane_pair.LanePair.{LanePair}
 use Rattle.tb_pair_run.specs.Views.{PairView, pair_seen}
 
--- the lanes, the clock and the crew of a run; the bytes that the sink of the two logs took, if it reports them, and its count of failures
+-- the lanes, the clock and the crew of a run; the bytes that the sink of the two logs took, if it
+-- reports them, and its count of failures
 pub record Outside : Type 0 where
   pub run : PairView
   pub put : Option (List ℕ)
@@ -25,14 +26,30 @@ pub record Seen : Type 0 where
   pub file_faults : ℕ
   pub outside : Outside
 
--- The reported values of the lanes of both buses, which have boxed ends, of a clock, of a crew, and of the sink of the logs. Each reports
--- its values through its trait.
-abbrev pub outside_seen : {X Y C P O : Type 0} {A : X → Type 0} {B : Y → Type 0} → InletTells (DynBox X Global A) → OutletTells (DynBox Y Global B) → ClockTells C → CrewTells P → SinkTells O →
+-- The reported values of the lanes of both buses, which have boxed ends, of a clock, of a crew, and
+-- of the sink of the logs. Each reports its values through its trait.
+abbrev pub outside_seen : {X Y C P O : Type 0} {A : X → Type 0} {B : Y → Type 0}
+    → InletTells (DynBox X Global A) → OutletTells (DynBox Y Global B) → ClockTells C → CrewTells P
+    → SinkTells O →
     List (LanePair X Y A B) → List (LanePair X Y A B) → C → P → O → Outside
-outside_seen inlet outlet clock crew sink lanes others c p o = record { run = pair_seen inlet outlet clock crew lanes others c p; put = sink.taken o; out_faults = sink.faults o }
+outside_seen inlet outlet clock crew sink lanes others c p o =
+    record {
+      run =
+          pair_seen inlet outlet clock crew lanes others c p;
+      put = sink.taken o;
+      out_faults = sink.faults o;
+    }
 
 -- these reported values, and the reported values of files
-abbrev pub all_seen : {F X Y C P O : Type 0} {A : X → Type 0} {B : Y → Type 0} → FilesTell F → InletTells (DynBox X Global A) → OutletTells (DynBox Y Global B) → ClockTells C → CrewTells P → SinkTells O →
+abbrev pub all_seen : {F X Y C P O : Type 0} {A : X → Type 0} {B : Y → Type 0} → FilesTell F
+    → InletTells (DynBox X Global A) → OutletTells (DynBox Y Global B) → ClockTells C → CrewTells P
+    → SinkTells O →
     F → List (LanePair X Y A B) → List (LanePair X Y A B) → C → P → O → Seen
 all_seen files inlet outlet clock crew sink f lanes others c p o =
-    record { held = files.held f; asked = files.asked f; file_faults = files.faults f; outside = outside_seen inlet outlet clock crew sink lanes others c p o }
+    record {
+      held =
+          files.held f;
+      asked = files.asked f;
+      file_faults = files.faults f;
+      outside = outside_seen inlet outlet clock crew sink lanes others c p o;
+    }

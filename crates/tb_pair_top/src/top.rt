@@ -4,6 +4,7 @@ ghost use Rattle.tb_cli.specs.Words.{asked_pair};
 ghost use Rattle.tb_cli.specs.Table.{IsPairWithin};
 ghost use Rattle.tb_edge.specs.Faults.{Rose};
 ghost use Rattle.tb_edge.specs.FilesHeld.{AsksSome};
+ghost use Rattle.tb_pair_top.specs.Headlines.{HasHeadline};
 ghost use Rattle.tb_pair_top.specs.Outcomes.{Comes, files_of};
 ghost use Rattle.tb_pair_top.specs.Reporting.{Reported};
 ghost use Rattle.tb_pair_top.specs.Views.{all_seen};
@@ -43,6 +44,14 @@ pub fn pair<R: Threads + Wait + Sync, F: Files, O: Sink, E: Sink, C: Clock + Sen
     ensures outcome { let seen = all_seen F.Files ⟦<Box<dyn Inlet + Send> as Inlet>⟧
         ⟦<Box<dyn Outlet + Send> as Outlet>⟧ C.Clock P.Crew O.Sink in
         Reported {A = Unit {0}} (Comes (asked_pair (map string_bytes words.now.items))
+        (seen files.old first.old.items second.old.items clock.old crew.old out.old)
+        (seen files.new first.new.items second.new.items clock.new crew.new out.new))
+        (E.taken err.old) (E.taken err.new) result }
+
+    // The headline: what the written logs state about the scripts and the environment.
+    ensures headline { let seen = all_seen F.Files ⟦<Box<dyn Inlet + Send> as Inlet>⟧
+        ⟦<Box<dyn Outlet + Send> as Outlet>⟧ C.Clock P.Crew O.Sink in
+        Reported {A = Unit {0}} (HasHeadline (asked_pair (map string_bytes words.now.items))
         (seen files.old first.old.items second.old.items clock.old crew.old out.old)
         (seen files.new first.new.items second.new.items clock.new crew.new out.new))
         (E.taken err.old) (E.taken err.new) result }

@@ -43,7 +43,7 @@ one-log bytes log other old new other_old other_new is other_is writes other_wri
     same_logs log other is other_is (sym (text-put bytes (log_text log) old new has writes) ∙ text-put bytes (log_text other) other_old other_new other_has other_writes)
 
 -- of two simulations
-sim-log : (held : List ℕ → Option (List ℕ)) (request : Request) (log : List Entry) (last : SimEnd) → request.events < 2 ^ 64 → IsSimOf held request log last → IsLog log
+pub sim-log : (held : List ℕ → Option (List ℕ)) (request : Request) (log : List Entry) (last : SimEnd) → request.events < 2 ^ 64 → IsSimOf held request log last → IsLog log
 sim-log held request log last few s =
     is-log (origin_for request s.program) log s.trace s.proper (let within = s.within in omega (arith, within, few))
 
@@ -62,7 +62,7 @@ runs-put most old new origin back why.Out r all = absurd all
 runs-put most old new origin back why.NoMemory r all = absurd all
 runs-put most old new origin back why.Crew r all = absurd all
 
-run-log : (held : List ℕ → Option (List ℕ)) (request : RunRequest) (old new : OutsideView) (it : RunWhy) → request.events < 2 ^ 64 → (run : IsRun held request old new it) → IsLog run.back.log
+pub run-log : (held : List ℕ → Option (List ℕ)) (request : RunRequest) (old new : OutsideView) (it : RunWhy) → request.events < 2 ^ 64 → (run : IsRun held request old new it) → IsLog run.back.log
 run-log held request old new it few run =
     let limit : run.back.origin.limit ≡ request.events = ap (λ (o : Origin). o.limit) run.runs.origin_is in
     is-log run.back.origin run.back.log run.runs.history.trace run.runs.proper (let within = run.runs.within in omega (arith, within, limit, few))

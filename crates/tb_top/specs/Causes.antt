@@ -5,7 +5,8 @@ use Rattle.tb_top.specs.Views.{Seen}
 use Rattle.tb_top.specs.declared.fault.Fault.{Fault}
 use Rattle.tb_top.specs.declared.fault.Fault.TheVariants.{File, Out, Clock, Crew}
 
--- An answer names a part of the environment only if the count of failures of this part rose in the call.
+-- An answer names a part of the environment only if the count of failures of this part rose in the
+-- call.
 abbrev pub IsCaused : {A : Type 0} → Seen → Seen → Result A Fault → Type 0
 IsCaused old new (Err File) = Rose old.file_faults new.file_faults
 IsCaused old new (Err Out) = Rose old.outside.out_faults new.outside.out_faults

@@ -9,9 +9,10 @@ use Rattle.tb_top.specs.declared.fault.Fault.TheVariants.{Script, File, Out, NoM
 abbrev pub ok_line : List ℕ
 ok_line = codes "ok\n"
 
--- the claims about `check` by its answer, for the reported content of the script's file, and the bytes of the sink before and after the
--- call
-abbrev pub CheckOutcome : {A : Type 0} → Option (List ℕ) → Option (List ℕ) → Option (List ℕ) → Result A Fault → Type 0
+-- the claims about `check` by its answer, for the reported content of the script's file, and the
+-- bytes of the sink before and after the call
+abbrev pub CheckOutcome : {A : Type 0} → Option (List ℕ) → Option (List ℕ) → Option (List ℕ)
+    → Result A Fault → Type 0
 -- the script is accepted
 CheckOutcome told old new (Ok done) = IsAccepted told × Writes old new ok_line
 -- the script is accepted, and the sink failed

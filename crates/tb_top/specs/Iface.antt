@@ -11,10 +11,11 @@ use Rattle.tb_top.specs.declared.fault.Fault.{Fault}
 use Rattle.tb_top.specs.declared.fault.Fault.TheVariants.{Script, File, Out, NoMemory, Stranger}
 
 -- The script has a program, in which the tool of this name has this interface.
-pub record HasInterface (told : Option (List ℕ)) (tool : List ℕ) (interface : Interface) : Type 0 where
-  pub program : Program
-  pub has : HasProgram told program
-  pub is : interface_of program tool ≡ Some interface
+pub record HasInterface (told : Option (List ℕ)) (tool : List ℕ) (interface : Interface) : Type 0
+  where
+    pub program : Program
+    pub has : HasProgram told program
+    pub is : interface_of program tool ≡ Some interface
 
 -- The script has a program, in which no tool has this name.
 pub record HasNoTool (told : Option (List ℕ)) (tool : List ℕ) : Type 0 where
@@ -22,13 +23,18 @@ pub record HasNoTool (told : Option (List ℕ)) (tool : List ℕ) : Type 0 where
   pub has : HasProgram told program
   pub none : interface_of program tool ≡ None
 
--- the claims about `iface` by its answer, for the reported content of the script's file, the tool's name, and the bytes of the sink before
--- and after the call
-abbrev pub IfaceOutcome : {A : Type 0} → Option (List ℕ) → List ℕ → Option (List ℕ) → Option (List ℕ) → Result A Fault → Type 0
+-- the claims about `iface` by its answer, for the reported content of the script's file, the tool's
+-- name, and the bytes of the sink before and after the call
+abbrev pub IfaceOutcome : {A : Type 0} → Option (List ℕ) → List ℕ → Option (List ℕ)
+    → Option (List ℕ) → Result A Fault → Type 0
 -- the tool's interface was written
-IfaceOutcome told tool old new (Ok done) = (interface : Interface) × HasInterface told tool interface × Writes old new (interface_text tool interface)
+IfaceOutcome told tool old new (Ok done) =
+    (interface : Interface) × HasInterface told tool interface
+    × Writes old new (interface_text tool interface)
 -- the sink failed: a prefix of the interface was written
-IfaceOutcome told tool old new (Err Out) = (interface : Interface) × HasInterface told tool interface × WritesPrefix old new (interface_text tool interface)
+IfaceOutcome told tool old new (Err Out) =
+    (interface : Interface) × HasInterface told tool interface
+    × WritesPrefix old new (interface_text tool interface)
 -- the script is accepted, and has no such tool
 IfaceOutcome told tool old new (Err Stranger) = HasNoTool told tool × (new ≡ old)
 -- the script was rejected

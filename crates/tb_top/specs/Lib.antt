@@ -2,6 +2,8 @@ pub mod Asking
 pub mod Causes
 pub mod Check
 pub mod Completeness
+pub mod Headline
+pub mod Headlines
 pub mod Helpers
 pub mod Iface
 pub mod Lines
@@ -11,7 +13,9 @@ pub mod Outcomes
 pub mod Reporting
 pub mod Ring
 pub mod Run
+pub mod RunCalls
 pub mod Sim
+pub mod SimHeadline
 pub mod Statuses
 pub mod Verify
 pub mod Views

@@ -5,7 +5,8 @@ use Rattle.tb_script.specs.Lines.{script_line}
 use Rattle.tb_feed.specs.Lines.{feed_line}
 use Rattle.tb_cli.specs.Lines.{word_line}
 use Rattle.tb_top.specs.declared.fault.Fault.{Fault}
-use Rattle.tb_top.specs.declared.fault.Fault.TheVariants.{Script, Feed, Words, File, Out, Clock, Crew, Limit, NoMemory, Log, Stranger}
+use Rattle.tb_top.specs.declared.fault.Fault.TheVariants.{Script, Feed, Words, File, Out, Clock}
+use Rattle.tb_top.specs.declared.fault.Fault.TheVariants.{Crew, Limit, NoMemory, Log, Stranger}
 use Rattle.tb_top.specs.declared.status.Bound.{Bound}
 use Rattle.tb_top.specs.declared.status.Bound.TheVariants as bound
 use Rattle.tb_top.specs.declared.status.LogWrong.{LogWrong}

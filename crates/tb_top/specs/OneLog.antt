@@ -1,4 +1,5 @@
--- The requirements of the theorems about one log: the written bytes, and the reasons for which the whole text of a log was written.
+-- The requirements of the theorems about one log: the written bytes, and the reasons for which the
+-- whole text of a log was written.
 use Rattle.std.specs.Prelude.{◌≡◌, ℕ, List, ◌++◌, Option, Some, None, ⊤}
 use Rattle.tb_run.specs.declared.ends.RunWhy.{RunWhy}
 use Rattle.tb_run.specs.declared.ends.RunWhy.TheVariants.{Ended, Crew, Clock, Out, Events, NoMemory}

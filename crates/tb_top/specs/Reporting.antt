@@ -8,13 +8,17 @@ use Rattle.tb_top.specs.declared.status.Status.{Status}
 use Rattle.tb_top.specs.declared.status.Status.TheVariants.{Ended, Outside}
 use Rattle.tb_top.specs.declared.status.Edge.TheVariants as edge
 
--- standard error gets nothing after `Ok`. After an error, it gets the error's line, or a prefix of this line if standard error failed
-abbrev pub Reports : {A : Type 0} → Result A Fault → Option (List ℕ) → Option (List ℕ) → Status → Type 0
+-- standard error gets nothing after `Ok`. After an error, it gets the error's line, or a prefix of
+-- this line if standard error failed
+abbrev pub Reports : {A : Type 0} → Result A Fault → Option (List ℕ) → Option (List ℕ) → Status
+    → Type 0
 Reports (Ok done) old new status = (status ≡ Ended) × (new ≡ old)
 Reports (Err fault) old new status =
     ((status ≡ status_of fault) × Writes old new (fault_line fault))
     ⊎ ((status ≡ Outside edge.Err) × WritesPrefix old new (fault_line fault))
 
 -- Some answer comes, and it is reported.
-abbrev pub Reported : {A : Type 0} → (Result A Fault → Type 0) → Option (List ℕ) → Option (List ℕ) → Status → Type 0
-Reported {A} Comes old new status = (answer : Result A Fault) × Comes answer × Reports answer old new status
+abbrev pub Reported : {A : Type 0} → (Result A Fault → Type 0) → Option (List ℕ) → Option (List ℕ)
+    → Status → Type 0
+Reported {A} Comes old new status =
+    (answer : Result A Fault) × Comes answer × Reports answer old new status

@@ -4,7 +4,8 @@ use Rattle.tb_top.specs.declared.status.Status.{Status}
 use Rattle.tb_top.specs.declared.status.Status.TheVariants as status
 use Rattle.tb_top.specs.declared.status.Edge.TheVariants as edge
 use Rattle.tb_top.specs.declared.fault.Fault.{Fault}
-use Rattle.tb_top.specs.declared.fault.Fault.TheVariants.{Script, Feed, Words, File, Out, Clock, Crew, Limit, NoMemory, Log, Stranger}
+use Rattle.tb_top.specs.declared.fault.Fault.TheVariants.{Script, Feed, Words, File, Out, Clock}
+use Rattle.tb_top.specs.declared.fault.Fault.TheVariants.{Crew, Limit, NoMemory, Log, Stranger}
 
 abbrev pub status_of : Fault → Status
 status_of (Script fault) = status.Script fault

@@ -20,13 +20,23 @@ pub record Seen : Type 0 where
   -- the lanes, the clock, the crew and the sink of the log
   pub outside : OutsideView
 
--- The reported values of files, lanes with boxed ends, a clock, a crew and the sink of the log. Each reports its values through its trait.
-abbrev pub all_seen : {F X Y C P O : Type 0} {A : X → Type 0} {B : Y → Type 0} → FilesTell F → InletTells (DynBox X Global A) → OutletTells (DynBox Y Global B) → ClockTells C → CrewTells P → SinkTells O →
+-- The reported values of files, lanes with boxed ends, a clock, a crew and the sink of the log.
+-- Each reports its values through its trait.
+abbrev pub all_seen : {F X Y C P O : Type 0} {A : X → Type 0} {B : Y → Type 0} → FilesTell F
+    → InletTells (DynBox X Global A) → OutletTells (DynBox Y Global B) → ClockTells C → CrewTells P
+    → SinkTells O →
     F → List (LanePair X Y A B) → C → P → O → Seen
 all_seen files inlet outlet clock crew sink f lanes c p o =
-    record { held = files.held f; asked = files.asked f; file_faults = files.faults f; outside = outside_seen inlet outlet clock crew sink lanes c p o }
+    record {
+      held =
+          files.held f;
+      asked = files.asked f;
+      file_faults = files.faults f;
+      outside = outside_seen inlet outlet clock crew sink lanes c p o;
+    }
 
--- no lane gave or took anything, the clock gave no tick, and the counts of failures of lanes, clock and crew are unchanged
+-- no lane gave or took anything, the clock gave no tick, and the counts of failures of lanes, clock
+-- and crew are unchanged
 pub record IsLeft (old new : OutsideView) : Type 0 where
   pub lanes : new.lanes ≡ old.lanes
   pub clock : new.clock ≡ old.clock

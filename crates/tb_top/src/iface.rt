@@ -1,5 +1,6 @@
 //! `iface`: writes the interface of a tool of a script.
-ghost use Rattle.std.specs.Prelude.{◌≡◌, ◌≢◌, ℕ, List, [], Option, Err, IfErr, IfOk, IfSome, OnErr, find};
+ghost use Rattle.std.specs.Prelude.{◌≡◌, ◌≢◌, ℕ, List, [], Option, Err, IfErr, IfOk, IfSome, OnErr};
+ghost use Rattle.std.specs.Prelude.{find};
 ghost use Rattle.std.specs.Option.{option_copied};
 ghost use Rattle.std.specs.Str.{bytes_eq};
 ghost use Rattle.tb_edge.specs.Faults.{Rose};
@@ -7,7 +8,8 @@ ghost use Rattle.tb_iface.specs.PatternTexts.{interface_text};
 ghost use Rattle.tb_top.specs.Asking.{AsksBeside};
 ghost use Rattle.tb_top.specs.Iface.{HasInterface, IfaceOutcome};
 ghost use Rattle.tb_load.specs.Loading.{HasProgram};
-ghost use Rattle.tb_top.specs.Helpers.Parts.{HasNoInterface, IsBehindScript, IsInside, IsInterfaceText};
+ghost use Rattle.tb_top.specs.Helpers.Parts.{HasNoInterface, IsBehindScript, IsInside};
+ghost use Rattle.tb_top.specs.Helpers.Parts.{IsInterfaceText};
 
 use crate::fault::Fault;
 use crate::loading::load_script;

@@ -1,8 +1,10 @@
 //! Theorems about the commands of the program. The calls change nothing: their contracts are the theorems.
-ghost use Rattle.std.specs.Prelude.{◌≡◌, ◌≢◌, ◌≤◌, ◌<◌, ◌^◌, ◌+◌, ◌*◌, ◌⊎◌, ◌++◌, ◌∷◌, [], ℕ, List, Option, Ok, Some, codes, length};
+ghost use Rattle.std.specs.Prelude.{◌≡◌, ◌≢◌, ◌≤◌, ◌<◌, ◌^◌, ◌+◌, ◌*◌, ◌⊎◌, ◌++◌, ◌∷◌, [], ℕ, List};
+ghost use Rattle.std.specs.Prelude.{Option, Ok, Some, codes, length};
 ghost use Rattle.std.specs.Fmt.{decimal};
 ghost use Rattle.tb_body.specs.declared.program.Program.{Program};
-ghost use Rattle.tb_cli.specs.declared.command.Command.TheVariants.{Check, Iface, Ring, Run, Sim, Verify};
+ghost use Rattle.tb_cli.specs.declared.command.Command.TheVariants.{Check, Iface, Ring, Run, Sim};
+ghost use Rattle.tb_cli.specs.declared.command.Command.TheVariants.{Verify};
 ghost use Rattle.tb_cli.specs.Words.{asked};
 ghost use Rattle.tb_edge.specs.Faults.{Rose};
 ghost use Rattle.tb_edge.specs.Sinks.{Writes};
@@ -89,7 +91,8 @@ pub fn a_ring_is_put()
         → (status ≡ Status.Ended) ⊎ (status ≡ Status.NoMemory) }
 
     // The arguments are accepted only with numbers in these ranges.
-    ensures numbers { (n k : ℕ) (old new : Seen) (told more : Option (List ℕ)) (status : Status) → 2 ≤ n
+    ensures numbers { (n k : ℕ) (old new : Seen) (told more : Option (List ℕ)) (status : Status)
+        → 2 ≤ n
         → n ≤ 10000 → 1 ≤ k → n * k ≤ 1000000
         → (Rose old.outside.out_faults new.outside.out_faults → ⊥)
         → (status ≡ Status.Outside Edge.Err → ⊥)

@@ -7,7 +7,8 @@ ghost use Rattle.tb_load.specs.Loading.{HasProgram, IsLoadedWithin, IsRefused};
 ghost use Rattle.tb_top.specs.Loading.{IsUnloaded};
 ghost use Rattle.tb_top.specs.Sim.{IsFed};
 ghost use Rattle.tb_top.specs.Verify.{most_log_bytes};
-ghost use Rattle.tb_top.specs.Helpers.Parts.{AsksFor, AsksForFeed, IsBadFeed, IsLogUnread, IsRefusedBy, IsUnread};
+ghost use Rattle.tb_top.specs.Helpers.Parts.{AsksFor, AsksForFeed, IsBadFeed, IsLogUnread};
+ghost use Rattle.tb_top.specs.Helpers.Parts.{IsRefusedBy, IsUnread};
 
 use crate::fault::Fault;
 use crate::status::LogWrong;

@@ -1,10 +1,12 @@
 //! `ring`: writes a summary of the simulation of processes that pass a message round a ring.
-ghost use Rattle.std.specs.Prelude.{◌≡◌, ◌≤◌, ◌*◌, ◌++◌, [], false, Err, IfOk, IfErr, OnOk, OnErr, sum_by, length, decimal};
+ghost use Rattle.std.specs.Prelude.{◌≡◌, ◌≤◌, ◌*◌, ◌++◌, [], false, Err, IfOk, IfErr, OnOk, OnErr};
+ghost use Rattle.std.specs.Prelude.{sum_by, length, decimal};
 ghost use Rattle.tb_edge.specs.Faults.{Rose};
 ghost use Rattle.tb_edge.specs.Sinks.{Writes, WritesPrefix};
 ghost use Rattle.tb_gen.specs.Ring.{ring_text};
 ghost use Rattle.tb_log.specs.Seens.{entry_seen};
-ghost use Rattle.tb_top.specs.Ring.{RingOutcome, last_word, ring_origin, steps_in, summary, word_after};
+ghost use Rattle.tb_top.specs.Ring.{RingOutcome, last_word, ring_origin, steps_in, summary};
+ghost use Rattle.tb_top.specs.Ring.{word_after};
 ghost use Rattle.tb_top.specs.Helpers.Parts.{IsBehindFeed, IsInside, IsRingSimulated, PutsWhole};
 
 use crate::fault::{Fault, after_end};

@@ -1,5 +1,6 @@
 //! `sim`: writes the log of a script's simulation.
-ghost use Rattle.std.specs.Prelude.{◌≡◌, ◌≤◌, ℕ, List, [], option_to_list, Err, IfErr, IsTrue, length, false};
+ghost use Rattle.std.specs.Prelude.{◌≡◌, ◌≤◌, ℕ, List, [], option_to_list, Err, IfErr, IsTrue};
+ghost use Rattle.std.specs.Prelude.{length, false};
 ghost use Rattle.std.specs.List.{list_all};
 ghost use Rattle.tb_edge.specs.Faults.{Rose};
 ghost use Rattle.tb_bus.specs.Buses.{origin_of};
@@ -9,7 +10,8 @@ ghost use Rattle.tb_log.specs.Shapes.{lane_count};
 ghost use Rattle.tb_top.specs.Asking.{AsksBeside};
 ghost use Rattle.tb_load.specs.Loading.{HasProgram};
 ghost use Rattle.tb_top.specs.Sim.{IsFed, SimOutcome};
-ghost use Rattle.tb_top.specs.Helpers.Parts.{AsksForFeed, IsBehindFeed, IsBehindScript, IsInside, IsSimulated, PutsText};
+ghost use Rattle.tb_top.specs.Helpers.Parts.{AsksForFeed, IsBehindFeed, IsBehindScript, IsInside};
+ghost use Rattle.tb_top.specs.Helpers.Parts.{IsSimulated, PutsText};
 
 use crate::fault::{Fault, after_end};
 use crate::loading::{load_feed, load_script};
@@ -40,7 +42,13 @@ pub fn sim<F: Files, O: Sink>(
     requires connects { length connects.now ≤ lane_count }
     requires events { events ≤ 4000000 }
     ensures outcome { SimOutcome (F.held files.old)
-        (record { script = script.now; feed = feed.now; connects = connects.now; steps = steps; events = events })
+        (record {
+          script = script.now;
+          feed = feed.now;
+          connects = connects.now;
+          steps = steps;
+          events = events;
+        })
         (O.taken out.old) (O.taken out.new) result }
     ensures asks { AsksBeside (F.held files.old script.now) script.now (option_to_list feed.now)
         (F.asked files.old) (F.asked files.new) result }
@@ -69,7 +77,13 @@ fn sim_program<F: Files, O: Sink>(
     requires events { events ≤ 4000000 }
     ensures outcome { (script : List ℕ) → HasProgram (F.held files.old script) program
         → SimOutcome (F.held files.old)
-        (record { script = script; feed = feed.now; connects = connects.now; steps = steps; events = events })
+        (record {
+          script = script;
+          feed = feed.now;
+          connects = connects.now;
+          steps = steps;
+          events = events;
+        })
         (O.taken out.old) (O.taken out.new) result }
     ensures behind { IfErr result IsBehindScript }
     ensures asks { AsksForFeed feed.now (F.asked files.old) (F.asked files.new) result }

@@ -5,6 +5,7 @@ ghost use Rattle.tb_cli.specs.Table.{IsWithin};
 ghost use Rattle.tb_edge.specs.Faults.{Rose};
 ghost use Rattle.tb_edge.specs.FilesHeld.{AsksSome};
 ghost use Rattle.tb_top.specs.Asking.{Asks};
+ghost use Rattle.tb_top.specs.Headlines.{HasHeadline};
 ghost use Rattle.tb_top.specs.Outcomes.{Comes, CommandOutcome, files_of};
 ghost use Rattle.tb_top.specs.Reporting.{Reported};
 ghost use Rattle.tb_top.specs.Views.{all_seen};
@@ -50,6 +51,15 @@ pub fn toolbus<R: Threads + Wait + Sync, F: Files, O: Sink, E: Sink, C: Clock + 
         ⟦<Box<dyn Outlet + Send> as Outlet>⟧ C.Clock P.Crew O.Sink in
         Reported {A = Unit {0}}
         (Comes (asked (map string_bytes words.now.items))
+        (seen files.old lanes.old.items clock.old crew.old out.old)
+        (seen files.new lanes.new.items clock.new crew.new out.new))
+        (E.taken err.old) (E.taken err.new) result }
+
+    // The headline: what the written log of `run` and of `sim` states about the script and the environment.
+    ensures headline { let seen = all_seen F.Files ⟦<Box<dyn Inlet + Send> as Inlet>⟧
+        ⟦<Box<dyn Outlet + Send> as Outlet>⟧ C.Clock P.Crew O.Sink in
+        Reported {A = Unit {0}}
+        (HasHeadline (asked (map string_bytes words.now.items))
         (seen files.old lanes.old.items clock.old crew.old out.old)
         (seen files.new lanes.new.items clock.new crew.new out.new))
         (E.taken err.old) (E.taken err.new) result }

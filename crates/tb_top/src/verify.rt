@@ -1,5 +1,6 @@
 //! `verify`: writes `trace` if a log is a trace of a script.
-ghost use Rattle.std.specs.Prelude.{◌≡◌, ◌≢◌, ◌≤◌, ℕ, List, [], ◌∷◌, Option, Err, IfErr, OnErr, length};
+ghost use Rattle.std.specs.Prelude.{◌≡◌, ◌≢◌, ◌≤◌, ℕ, List, [], ◌∷◌, Option, Err, IfErr, OnErr};
+ghost use Rattle.std.specs.Prelude.{length};
 ghost use Rattle.tb_edge.specs.Faults.{Rose};
 ghost use Rattle.tb_log.specs.Shapes.{lane_count};
 ghost use Rattle.tb_top.specs.Asking.{AsksBeside};

@@ -1,4 +1,5 @@
--- The rights of the workers of lanes 2 to 16 of a bus, in the order of their jobs: the readers, the writers, the one that makes steps.
+-- The rights of the workers of lanes 2 to 16 of a bus, in the order of their jobs: the readers, the
+-- writers, the one that makes steps.
 use Rattle.std.specs.Prelude.{List, [], ◌∷◌, ◌++◌, map}
 use Rattle.tb_lock.specs.declared.rights.Rights.{Rights}
 use Rattle.tb_lock.specs.Seats.{SeatView, kept_of, handed_on}

@@ -13,11 +13,14 @@ use Rattle.tb_pair_run.specs.declared.ends.PairWhy.{PairWhy}
 use Rattle.tb_pair_run.specs.declared.ends.PairWhy.TheVariants as pair
 
 abbrev pub of_refusals : Bool → Bool → BusWhy
-of_refusals no_memory full = if no_memory then bus.NoMemory else if full then bus.Events else bus.Ended
+of_refusals no_memory full =
+    if no_memory then bus.NoMemory else if full then bus.Events else bus.Ended
 
 -- from why the worker of the pipe, the ticker and all others ended
 abbrev pub bus_why : WorkEnd → WorkEnd → List WorkEnd → BusWhy
-bus_why pipe tick ends = of_refusals (list_any is_no_memory (pipe ∷ tick ∷ ends)) (list_any is_full_end (pipe ∷ tick ∷ ends))
+bus_why pipe tick ends =
+    of_refusals (list_any is_no_memory (pipe ∷ tick ∷ ends))
+    (list_any is_full_end (pipe ∷ tick ∷ ends))
 
 -- from why the ticker ended at each bus, where both went to their end
 abbrev pub of_ticks : WorkEnd → WorkEnd → PairWhy

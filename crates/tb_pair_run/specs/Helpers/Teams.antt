@@ -13,7 +13,8 @@ abbrev pub others_of : {W J Plan Taken : Type 0} → List J → List (PairJob W 
 others_of jobs = map (λ job. Other job) jobs
 
 -- the writer, the reader, and all others
-abbrev pub jobs_of : {W J Plan Taken : Type 0} → PipeWriting W Plan Taken → PipeReading W Plan Taken → List J → List (PairJob W J Plan Taken)
+abbrev pub jobs_of : {W J Plan Taken : Type 0} → PipeWriting W Plan Taken → PipeReading W Plan Taken
+    → List J → List (PairJob W J Plan Taken)
 jobs_of writing reading others = Writes writing ∷ Reads reading ∷ others_of others
 
 -- jobs of which none has an end of the pipe
@@ -34,14 +35,18 @@ IsTeam (Writes job ∷ Writes job' ∷ jobs) = ⊥
 IsTeam (Writes job ∷ Reads job' ∷ jobs) = AreOthers jobs
 
 -- what was done with each
-pub record TeamDone {W J Plan Taken : Type 0} (done : J → J → Type 0) (writing writing' : PipeWriting W Plan Taken) (reading reading' : PipeReading W Plan Taken) (workers workers' others others' : List J) : Type 0 where
+pub record TeamDone {W J Plan Taken : Type 0} (done : J → J → Type 0)
+    (writing writing' : PipeWriting W Plan Taken) (reading reading' : PipeReading W Plan Taken)
+    (workers workers' others others' : List J) : Type 0 where
   pub wrote : WritingDone writing.seat writing'.seat writing.pipe writing'.pipe writing'.end
   pub read : ReadingDone reading.seat reading'.seat reading.pipe reading'.pipe reading'.end
   pub worked : AllDone done workers workers'
   pub others_worked : AllDone done others others'
 
 -- nothing was done
-pub record TeamSame {W J Plan Taken : Type 0} (writing writing' : PipeWriting W Plan Taken) (reading reading' : PipeReading W Plan Taken) (workers workers' others others' : List J) : Type 0 where
+pub record TeamSame {W J Plan Taken : Type 0} (writing writing' : PipeWriting W Plan Taken)
+    (reading reading' : PipeReading W Plan Taken) (workers workers' others others' : List J) : Type
+    0 where
   pub writes_same : writing' ≡ writing
   pub reads_same : reading' ≡ reading
   pub workers_same : workers' ≡ workers

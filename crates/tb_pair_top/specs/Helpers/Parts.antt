@@ -11,20 +11,26 @@ use Rattle.tb_pair_top.specs.Loading.{IsOfOne}
 use Rattle.tb_core.specs.Cores.{Stays, started}
 use Rattle.tb_pair_top.specs.Outcomes.{ArePut, pair_origin}
 use Rattle.tb_pair_top.specs.declared.fault.PairFault.{PairFault}
-use Rattle.tb_pair_top.specs.declared.fault.PairFault.TheVariants.{Script, Words, File, Out, Clock, Crew, Limit, NoMemory}
+use Rattle.tb_pair_top.specs.declared.fault.PairFault.TheVariants.{Script, Words, File, Out, Clock}
+use Rattle.tb_pair_top.specs.declared.fault.PairFault.TheVariants.{Crew, Limit, NoMemory}
 use Rattle.tb_pair_top.specs.declared.loading.Programs.{Programs}
 use Rattle.tb_pair_top.specs.declared.running.Cores.{Cores}
 
 -- the files of these names have these programs
-pub record HavePrograms (held : List ℕ → Option (List ℕ)) (first second : List ℕ) (programs : Programs) : Type 0 where
+pub record HavePrograms (held : List ℕ → Option (List ℕ)) (first second : List ℕ)
+    (programs : Programs) : Type 0 where
   pub has : HasProgram (held first) programs.first
   pub others_has : HasProgram (held second) programs.second
 
 -- why two files don't give two programs, and which files were requested
-abbrev pub AreUnloaded : (List ℕ → Option (List ℕ)) → List ℕ → List ℕ → List (List ℕ) → List (List ℕ) → LoadFault → Type 0
-AreUnloaded held first second old new (load.Script fault) = IsOfOne (λ told. IsBadScript told fault) held first second old new
-AreUnloaded held first second old new load.File = IsOfOne (λ told. Unit {0}) held first second old new
-AreUnloaded held first second old new load.NoMemory = (new ≡ old) ⊎ IsOfOne (λ told. Unit {0}) held first second old new
+abbrev pub AreUnloaded : (List ℕ → Option (List ℕ)) → List ℕ → List ℕ → List (List ℕ)
+    → List (List ℕ) → LoadFault → Type 0
+AreUnloaded held first second old new (load.Script fault) =
+    IsOfOne (λ told. IsBadScript told fault) held first second old new
+AreUnloaded held first second old new load.File =
+    IsOfOne (λ told. Unit {0}) held first second old new
+AreUnloaded held first second old new load.NoMemory =
+    (new ≡ old) ⊎ IsOfOne (λ told. Unit {0}) held first second old new
 
 -- the error of a pair, by the error of its files
 abbrev pub of_load : LoadFault → PairFault
@@ -33,13 +39,20 @@ of_load load.File = File
 of_load load.NoMemory = NoMemory
 
 -- The answer of writing the text of both logs after a pair that ended for this reason.
-abbrev pub PutsLogs : {A : Type 0} → PairWhy → List ℕ → Option (List ℕ) → Option (List ℕ) → ℕ → ℕ → Result A PairFault → Type 0
-PutsLogs it text old new faults_old faults_new (Ok done) = (it ≡ why.Ended) × Writes old new text × (faults_new ≡ faults_old)
-PutsLogs it text old new faults_old faults_new (Err Clock) = (it ≡ why.Clock) × Writes old new text × (faults_new ≡ faults_old)
-PutsLogs it text old new faults_old faults_new (Err Limit) = (it ≡ why.Events) × Writes old new text × (faults_new ≡ faults_old)
-PutsLogs it text old new faults_old faults_new (Err Out) = ArePut it × WritesPrefix old new text × Rose faults_old faults_new
-PutsLogs it text old new faults_old faults_new (Err Crew) = (it ≡ why.Crew) × (new ≡ old) × (faults_new ≡ faults_old)
-PutsLogs it text old new faults_old faults_new (Err NoMemory) = ((it ≡ why.NoMemory) × (new ≡ old)) ⊎ (ArePut it × WritesPrefix old new text)
+abbrev pub PutsLogs : {A : Type 0} → PairWhy → List ℕ → Option (List ℕ) → Option (List ℕ) → ℕ → ℕ
+    → Result A PairFault → Type 0
+PutsLogs it text old new faults_old faults_new (Ok done) =
+    (it ≡ why.Ended) × Writes old new text × (faults_new ≡ faults_old)
+PutsLogs it text old new faults_old faults_new (Err Clock) =
+    (it ≡ why.Clock) × Writes old new text × (faults_new ≡ faults_old)
+PutsLogs it text old new faults_old faults_new (Err Limit) =
+    (it ≡ why.Events) × Writes old new text × (faults_new ≡ faults_old)
+PutsLogs it text old new faults_old faults_new (Err Out) =
+    ArePut it × WritesPrefix old new text × Rose faults_old faults_new
+PutsLogs it text old new faults_old faults_new (Err Crew) =
+    (it ≡ why.Crew) × (new ≡ old) × (faults_new ≡ faults_old)
+PutsLogs it text old new faults_old faults_new (Err NoMemory) =
+    ((it ≡ why.NoMemory) × (new ≡ old)) ⊎ (ArePut it × WritesPrefix old new text)
 PutsLogs it text old new faults_old faults_new (Err (Script fault)) = ⊥
 PutsLogs it text old new faults_old faults_new (Err (Words fault)) = ⊥
 PutsLogs it text old new faults_old faults_new (Err File) = ⊥
