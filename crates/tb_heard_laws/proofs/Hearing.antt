@@ -1,6 +1,6 @@
 -- A line that a step takes from a tool was given by a lane, and the bus took it.
-use Rattle.std.proofs.Common.{◌≡◌, ℕ, suc, ◌≤◌, ◌⊎◌, inl, inr, List, [], ◌∷◌, ◌++◌, length, append_assoc, append-nil, slice_get, slice_index_or, Bool, true, false, ◌&&◌, Option, Some, None, IfSome, option_map, option_to_list, is_some, codes, if◌then◌else◌, Contains, refl, ap, sym, ◌∙◌, subst, arith}
-use Rattle.std.specs.List.{All, list_all}
+use Rattle.std.proofs.Common.{◌≡◌, ℕ, ◌⊎◌, inl, inr, List, [], ◌∷◌, ◌++◌, length, append_assoc, append-nil, slice_get, Bool, true, false, Option, Some, None, IfSome, option_map, option_to_list, is_some, codes, if◌then◌else◌, Contains, refl, ap, sym, subst, arith}
+use Rattle.std.specs.List.{list_all}
 use Rattle.std.proofs.lemmas.List.Elements.{All-contains}
 use Rattle.std.proofs.lemmas.Option.{get_or_from_slice_get}
 use Rattle.tb_terms.specs.declared.term.Term.{Term}
@@ -8,7 +8,6 @@ use Rattle.tb_terms.specs.declared.term.Term.TheVariants.{Appl}
 use Rattle.tb_terms.specs.declared.sort.Sort.TheVariants.{Tool as ToolSort}
 use Rattle.tb_terms.specs.declared.pattern.Pattern.{Pattern}
 use Rattle.tb_terms.specs.Sorts.{has_sort}
-use Rattle.tb_match.specs.declared.bind.Bind.{Bind}
 use Rattle.tb_process_steps.specs.Offers.{Offered}
 use Rattle.tb_process_steps.proofs.Offering.{contains-at}
 use Rattle.tb_notes.specs.Inboxes.{oldest_match}
@@ -16,16 +15,15 @@ use Rattle.tb_log.specs.declared.entry.Entry.{Entry}
 use Rattle.tb_log.specs.declared.entry.Entry.TheVariants.{Did}
 use Rattle.tb_log.specs.declared.entry.Label.{Label}
 use Rattle.tb_log.specs.declared.entry.LabelKind.TheVariants as kind
-use Rattle.tb_log.specs.declared.entry.ToolLine.{ToolLine}
 use Rattle.tb_log.specs.declared.entry.ToolLine.TheVariants.{Value, Event, Connect}
 use Rattle.tb_tools.specs.declared.stage.Stage.{Stage}
 use Rattle.tb_tools.specs.declared.stage.Stage.TheVariants.{Waiting, Live, Leaving}
-use Rattle.tb_tools.specs.Acts.{answer_by, answer_at, events_of, events_at, event_at}
-use Rattle.tb_tools.specs.Lanes.{Tool, BenchState, tool_at, of_tool, is_same_stage, term_of}
+use Rattle.tb_tools.specs.Acts.{answer_by, events_of, events_at, event_at}
+use Rattle.tb_tools.specs.Lanes.{Tool, tool_at, of_tool, is_same_stage, term_of}
 use Rattle.tb_bus.specs.declared.origin.Origin.{Origin}
 use Rattle.tb_bus.specs.Buses.{Bus, Proc, start}
 use Rattle.tb_bus.specs.Effects.{Nothing, PutsNote, Effect, effect_of, own_effect, speaking, setting_of, creation, may_create, taking, takes_note}
-use Rattle.tb_bus.specs.Exchanges.{Setting, exchange_for, kind_of, terms_seen, values_in, values_on}
+use Rattle.tb_bus.specs.Exchanges.{Setting, exchange_for, terms_seen, values_in, values_on}
 use Rattle.tb_bus.specs.Reached.{Reaches}
 use Rattle.tb_bus.specs.Steps.{Move, Own, Handshake, Finish, Halt, Step, label_of}
 use Rattle.tb_bus.specs.Traces.{IsLegal, IsTrace, after, replay}
@@ -47,7 +45,7 @@ use Rattle.tb_bus.proofs.TraceLemmas.{replay-append, trace-prefix, trace-rest}
 use Rattle.tb_iface.specs.Hearing.{line_if, heard_as, heard_by}
 use Rattle.tb_heard_laws.specs.Given.{WasGiven}
 use Rattle.tb_heard_laws.proofs.Meanings.{value-means, event-means, connect-means, tool-name}
-use Rattle.tb_heard_laws.proofs.Waiting.{IsGiven, ToolGiven, BenchGiven, bench-further, entry-given, opening-given}
+use Rattle.tb_heard_laws.proofs.Waiting.{IsGiven, ToolGiven, BenchGiven, entry-given, opening-given}
 
 -- no term is in an empty list, and one is in a list of one
 no-term : {A : Type 0} (term : Term) → Contains [] term → A

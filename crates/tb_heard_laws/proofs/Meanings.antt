@@ -1,13 +1,12 @@
 -- The line that each term of a step means.
-use Rattle.std.proofs.Common.{◌≡◌, ℕ, ◌≤◌, nat_le, Bool, true, false, ◌&&◌, List, [], ◌∷◌, length, codes, pos, Option, Some, None, if◌then◌else◌, refl, ap, sym, ◌∙◌, subst, arith}
+use Rattle.std.proofs.Common.{◌≡◌, ℕ, ◌≤◌, nat_le, Bool, true, List, [], ◌∷◌, length, codes, pos, Some, if◌then◌else◌, refl, ap, sym, ◌∙◌, arith}
 use Rattle.std.specs.List.{All, list_all}
 use Rattle.std.specs.Str.{bytes_eq}
 use Rattle.std.proofs.lemmas.Bool.{and_parts, and_from, le-leb}
 use Rattle.std.proofs.lemmas.List.Elements.{All-head, All-tail}
 use Rattle.std.proofs.lemmas.Slice.Eq.{bytes_eq-Decides}
-use Rattle.tb_terms.specs.declared.term.Term.{Term, out-Term}
+use Rattle.tb_terms.specs.declared.term.Term.{Term}
 use Rattle.tb_terms.specs.declared.term.Term.TheVariants as term
-use Rattle.tb_terms.specs.declared.term.Term.TheOpen.{Term-F}
 use Rattle.tb_terms.specs.declared.term.Term.TheOpen as layer
 use Rattle.tb_terms.specs.declared.sort.Sort.TheVariants.{Tool as ToolSort}
 use Rattle.tb_terms.specs.Sizes.{term_size, term_levels, most_term_size, most_term_levels, is_within_limits, IsWithinLimits}

@@ -1,8 +1,8 @@
 -- A line that a step takes from the tool of a lane is one that the program takes by the entry of the step.
-use Rattle.std.proofs.Common.{◌≡◌, ℕ, zero, suc, ◌+◌, ◌-◌, ◌≤◌, ◌⊎◌, inl, inr, List, [], ◌∷◌, ◌++◌, length, take, drop, remove, slice_get, slice_index_or, map, Bool, true, false, not, ◌&&◌, Option, Some, None, IfSome, option_map, option_and_then, option_to_list, is_some, is_none, unwrap_or, codes, if◌then◌else◌, Contains, refl, ap, sym, ◌∙◌, subst, arith, length-append, length-take, length-drop}
+use Rattle.std.proofs.Common.{◌≡◌, ℕ, zero, suc, ◌-◌, ◌⊎◌, inl, inr, List, [], ◌∷◌, ◌++◌, length, take, drop, remove, slice_index_or, map, Bool, true, false, not, ◌&&◌, Option, Some, None, IfSome, option_map, option_and_then, option_to_list, is_some, is_none, unwrap_or, codes, if◌then◌else◌, Contains, refl, ap, sym, ◌∙◌, subst, arith, length-append, length-take, length-drop}
 use Rattle.std.specs.List.{list_all}
 use Rattle.std.proofs.lemmas.Bool.{and_parts}
-use Rattle.std.proofs.lemmas.Option.{MatchOption-at_some, get_or_from_slice_get}
+use Rattle.std.proofs.lemmas.Option.{MatchOption-at_some}
 use Rattle.tb_terms.specs.declared.term.Term.{Term}
 use Rattle.tb_terms.specs.declared.term.Term.TheVariants.{Appl}
 use Rattle.tb_terms.specs.contracts.term.Term as term_row
@@ -21,13 +21,13 @@ use Rattle.tb_log.specs.declared.entry.LabelKind.TheVariants as kind
 use Rattle.tb_log.specs.declared.entry.Out.{Out}
 use Rattle.tb_tools.specs.declared.found.FoundEvent.{FoundEvent}
 use Rattle.tb_tools.specs.declared.stage.Stage.{Stage}
-use Rattle.tb_tools.specs.declared.stage.Stage.TheVariants.{Waiting, Live, Leaving}
+use Rattle.tb_tools.specs.declared.stage.Stage.TheVariants.{Waiting, Live}
 use Rattle.tb_tools.specs.declared.stage.Eval.{Eval}
 use Rattle.tb_tools.specs.declared.stage.Eval.TheVariants.{Closed, Asked, Answered}
-use Rattle.tb_tools.specs.Acts.{is_closed, answer_of, answer_by, answer_at, events_of, events_at, event_at, is_live_at, is_taken_at, can_execute, can_eval, with_live_tool, with_question, without_answer, with_received, with_acknowledged_of, with_acknowledged, asked, told, terminated, tool_line, last_line, ended_with, dismissed, gone_down}
+use Rattle.tb_tools.specs.Acts.{is_closed, answer_of, answer_by, answer_at, events_of, events_at, event_at, is_live_at, is_taken_at, with_live_tool, with_question, without_answer, with_received, with_acknowledged_of, with_acknowledged, asked, told, terminated, tool_line, last_line, ended_with, dismissed, gone_down}
 use Rattle.tb_tools.specs.Finding.{find_tool, has_tool, oldest_event}
 use Rattle.tb_tools.specs.First.{NoLane, IsFirstLane}
-use Rattle.tb_tools.specs.Lanes.{Tool, Lane, BenchState, unused, of_tool, is_empty, is_open, is_free, lane_at, tool_at, on_lane, new_tool, started, with_tool, without_tool, with_out, with_next_tool, tool_term, term_of}
+use Rattle.tb_tools.specs.Lanes.{Tool, Lane, BenchState, unused, of_tool, is_empty, is_open, is_free, lane_at, tool_at, on_lane, new_tool, started, with_tool, without_tool, with_out, term_of}
 use Rattle.tb_tools.proofs.Lowest.{first_lane-lowest}
 use Rattle.tb_tools.proofs.Staying.{with_lane-or}
 use Rattle.tb_bus.specs.declared.origin.Origin.{Origin}
@@ -37,7 +37,7 @@ use Rattle.tb_bus.specs.Exchanges.{Setting, kind_name, kind_command, behind, lan
 use Rattle.tb_bus.specs.Reached.{Reaches}
 use Rattle.tb_bus.specs.Steps.{Move, Own, Handshake, Finish, Halt, Step, apply, label_of, finish_reason, halt_reason}
 use Rattle.tb_bus.specs.Traces.{IsLegal, after}
-use Rattle.tb_bus.specs.Waiting.{IsProcInShape, IsBusInShape}
+use Rattle.tb_bus.specs.Waiting.{IsBusInShape}
 use Rattle.tb_bus.specs.declared.action.Action.{Action}
 use Rattle.tb_bus.specs.declared.action.Action.TheVariants as action
 use Rattle.tb_bus.specs.declared.action.OwnAction.{OwnAction}
@@ -46,9 +46,9 @@ use Rattle.tb_bus.specs.declared.action.ToolAction.{ToolAction}
 use Rattle.tb_bus.specs.declared.action.ToolAction.TheVariants as tool
 use Rattle.tb_bus.specs.declared.exchange.Exchange.{Exchange}
 use Rattle.tb_bus.proofs.BusShapes.{reached-in_shape}
-use Rattle.tb_bus.proofs.ExchangeLemmas.{IsValue, IsEvent, exchange-is}
+use Rattle.tb_bus.proofs.ExchangeLemmas.{exchange-is}
 use Rattle.tb_bus.proofs.ReachedLemmas.{IsMoveOf, step-made}
-use Rattle.tb_bus.proofs.SentLemmas.{AreSent, IsOwnInShape, IsSpeakInShape, IsActionInShape}
+use Rattle.tb_bus.proofs.SentLemmas.{IsOwnInShape, IsSpeakInShape, IsActionInShape}
 use Rattle.tb_iface.specs.Hearing.{line_if, heard_as, heard_by}
 use Rattle.tb_heard_laws.specs.Taking.{Takes, value, event, name}
 use Rattle.tb_heard_laws.proofs.Hearing.{one-term, ready-in-shape}

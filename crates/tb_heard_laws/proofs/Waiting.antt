@@ -1,6 +1,5 @@
 -- Each answer, event, and name that waits with a tool was given by a lane, and the bus took it.
-use Rattle.std.proofs.Common.{◌≡◌, ℕ, zero, suc, ◌-◌, ◌≤◌, ◌⊎◌, inl, inr, List, [], ◌∷◌, ◌++◌, map, length, replicate, remove, append_assoc, append-nil, slice_get, slice_index_or, Bool, true, false, not, ◌&&◌, Option, Some, None, IfSome, option_map, option_and_then, is_some, unwrap_or, codes, if◌then◌else◌, Contains, refl, ap, sym, ◌∙◌, subst, arith}
-use Rattle.std.specs.Prelude.{⊤}
+use Rattle.std.proofs.Common.{◌≡◌, ℕ, zero, suc, ◌-◌, ◌⊎◌, inl, inr, List, [], ◌∷◌, ◌++◌, map, length, replicate, remove, slice_index_or, Bool, true, false, Option, Some, None, IfSome, option_map, is_some, unwrap_or, codes, if◌then◌else◌, Contains, refl, ap, sym, subst, arith}
 use Rattle.std.specs.List.{All, list_all}
 use Rattle.std.proofs.lemmas.List.Elements.{All-nil, All-push, All-weaker, All-map, All-append, All-replicate, Contains-append_left, Contains-append_right}
 use Rattle.tb_terms.specs.declared.term.Term.{Term}
@@ -24,13 +23,13 @@ use Rattle.tb_tools.specs.declared.stage.Stage.TheVariants.{Waiting, Live, Leavi
 use Rattle.tb_tools.specs.declared.stage.Eval.TheVariants.{Closed, Asked, Answered}
 use Rattle.tb_tools.specs.Acts.{answer_of, event_at, with_live_tool, with_question, without_answer, with_received, with_acknowledged_of, with_acknowledged, asked, told, terminated, tool_line, last_line, ended_with, dismissed, gone_down, without_out, handed_out}
 use Rattle.tb_tools.specs.Inputs as lanes
-use Rattle.tb_tools.specs.Inputs.{departed_by, departed, closed, lost, while_up, answered, with_event, with_line, line_by, dropped}
-use Rattle.tb_tools.specs.Lanes.{Tool, Lane, BenchState, unused, lane_at, on_lane, is_open, new_tool, started, with_tool, without_tool, with_out, with_next_tool, opening}
+use Rattle.tb_tools.specs.Inputs.{departed_by, departed, closed, lost, answered, with_event, with_line, line_by, dropped}
+use Rattle.tb_tools.specs.Lanes.{Tool, Lane, BenchState, unused, lane_at, on_lane, is_open, new_tool, started, with_tool, without_tool, with_out, opening}
 use Rattle.tb_tools.proofs.Staying.{with_lane-or}
 use Rattle.tb_bus.specs.Buses.{Bus, Proc}
 use Rattle.tb_bus.specs.Effects.{Nothing, PutsNote, Effect, changed, effect_of, own_effect, speaking, setting_of, creation, may_create, taking, takes_note}
 use Rattle.tb_bus.specs.Exchanges.{Setting, kind_name, kind_command, behind, exchange_for, with_told, bench_after}
-use Rattle.tb_bus.specs.Steps.{Move, Own, Handshake, Finish, Halt, Step, apply, label_of, finish_reason, halt_reason}
+use Rattle.tb_bus.specs.Steps.{Move, Own, Handshake, Finish, Halt, Step, apply, finish_reason, halt_reason}
 use Rattle.tb_bus.specs.Traces.{Answer, IsLegal, after, took, fed, declares}
 use Rattle.tb_bus.specs.declared.action.Action.{Action}
 use Rattle.tb_bus.specs.declared.action.Action.TheVariants as action

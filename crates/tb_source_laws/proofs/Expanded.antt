@@ -1,24 +1,19 @@
 -- Processes without a disrupt expand to trees without one.
-use Rattle.std.proofs.Common.{◌≡◌, ℕ, zero, suc, ◌+◌, Bool, true, false, ◌||◌, cond, List, [], ◌∷◌, length, Option, Some, None, Contains, refl, ap, ◌∙◌, sym, subst, arith}
+use Rattle.std.proofs.Common.{◌≡◌, ℕ, zero, suc, Bool, true, false, ◌||◌, cond, List, [], ◌∷◌, length, Option, Some, None, Contains, refl, ap, ◌∙◌, subst}
 use Rattle.std.specs.Prelude.{find}
 use Rattle.std.specs.Str.{bytes_eq}
 use Rattle.std.specs.List.{All, AllZip}
 use Rattle.std.proofs.lemmas.List.Elements.{All-head, All-tail, All-contains, All-nil, All-cons}
-use Rattle.tb_terms.specs.declared.expr.Expr.{Expr}
 use Rattle.tb_body.specs.declared.body.Body.{Body}
 use Rattle.tb_body.specs.declared.program.Program.{Program}
-use Rattle.tb_body.specs.declared.tree.Tree.{Tree}
-use Rattle.tb_body.specs.declared.tree.Setting.{Setting}
-use Rattle.tb_body.specs.declared.tree.Tree.TheVariants as tree
-use Rattle.tb_syntax.specs.declared.ast.Ast.{Ast}
 use Rattle.tb_syntax.specs.declared.proc.Call.{Call}
-use Rattle.tb_syntax.specs.declared.proc.Proc.{Proc, Proc-F}
+use Rattle.tb_syntax.specs.declared.proc.Proc.{Proc}
 use Rattle.tb_syntax.specs.declared.script.ProcDef.{ProcDef}
 use Rattle.tb_syntax.specs.declared.script.Script.{Script}
 use Rattle.tb_syntax.specs.Spelling.{kinds_of}
 use Rattle.tb_types.specs.Names.{process_named}
 use Rattle.tb_expand.specs.Scopes.{Scope}
-use Rattle.tb_expand.specs.Expansion.{Part, Expands, proc_step, call_of, expands, expansion_of}
+use Rattle.tb_expand.specs.Expansion.{Part, Expands, proc_step, call_of, expands}
 use Rattle.tb_expand.specs.Faults.{IsExpansion}
 use Rattle.tb_expand.proofs.Calling.{call_found, call_missing}
 use Rattle.tb_expand.proofs.ProcInduction.{Related, folds_related}

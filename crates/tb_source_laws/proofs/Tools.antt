@@ -1,6 +1,6 @@
 -- The tools of an accepted script don't have the name of a type.
-use Rattle.std.proofs.Common.{◌≡◌, ℕ, Bool, true, false, List, [], ◌∷◌, map, Contains, refl, ap, ◌∙◌, sym, subst}
-use Rattle.std.specs.List.{All, AllByRecursion, flat_map}
+use Rattle.std.proofs.Common.{◌≡◌, ℕ, false, List, [], Contains, sym, subst}
+use Rattle.std.specs.List.{All, flat_map}
 use Rattle.std.proofs.lemmas.List.Elements.{All-from_recursion, All-map, All-weaker, All-contains}
 use Rattle.tb_body.specs.declared.program.Program.{Program}
 use Rattle.tb_body.specs.declared.program.Tool.{Tool}

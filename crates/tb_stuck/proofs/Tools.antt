@@ -10,7 +10,7 @@ use Rattle.tb_tools.specs.declared.stage.Stage.TheVariants.{Waiting, Live, Leavi
 use Rattle.tb_tools.specs.declared.stage.Eval.{Eval}
 use Rattle.tb_tools.specs.declared.stage.Eval.TheVariants.{Closed, Asked, Answered}
 use Rattle.tb_tools.specs.Acts.{is_closed, without_out, handed_out}
-use Rattle.tb_tools.specs.Inputs.{departed_by, departed, closed, lost, while_up, gone, cut}
+use Rattle.tb_tools.specs.Inputs.{departed_by, departed, closed, lost, gone, cut}
 use Rattle.tb_tools.specs.Lanes.{Tool, Lane, BenchState, lane_at, tool_at, is_same_stage, on_lane, term_of, unused}
 use Rattle.tb_tools.proofs.Staying.{with_lane-or}
 use Rattle.tb_log.specs.declared.entry.Reply.TheVariants.{Took, Dropped}

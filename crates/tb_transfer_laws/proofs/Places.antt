@@ -1,12 +1,11 @@
 -- Where the process is in a disrupt: not in it, in both sides, or in the right side alone.
-use Rattle.std.proofs.Common.{◌≡◌, ℕ, ◌+◌, ◌⊎◌, inl, inr, List, [], ◌∷◌, ◌++◌, length, map, Option, Some, None, IfSome, true, Contains, refl, ap, sym, subst, ◌∙◌}
-use Rattle.std.specs.List.{All}
+use Rattle.std.proofs.Common.{◌≡◌, ℕ, ◌+◌, ◌⊎◌, inl, inr, List, ◌++◌, length, true, Contains, ap, sym, subst, ◌∙◌}
 use Rattle.std.proofs.lemmas.List.Elements.{Contains-append_left, Contains-append_right}
 use Rattle.tb_body.specs.InRange.{ascends_by_one}
-use Rattle.tb_process_steps.specs.Processes.{Process, At, Seq, Alt, Star, Par, Disrupt, If, When, Let, aged}
+use Rattle.tb_process_steps.specs.Processes.{Process, At, Seq, Alt, Star, Par, Disrupt, If, When, Let}
 use Rattle.tb_process_steps.specs.Transfers.{atoms_of}
-use Rattle.tb_transfer_laws.specs.Entering.{HasDisrupt, Enters}
-use Rattle.tb_transfer_laws.proofs.AtomLemmas.{HasOnly, only-from, only-aged}
+use Rattle.tb_transfer_laws.specs.Entering.{HasDisrupt}
+use Rattle.tb_transfer_laws.proofs.AtomLemmas.{HasOnly, only-from}
 use Rattle.tb_transfer_laws.proofs.AscendLemmas.{ascends-append, ascends-apart}
 
 pub only-weaker : (P Q : ℕ → Type 0) → ((atom : ℕ) → P atom → Q atom) → (term : Process) → HasOnly P term → HasOnly Q term

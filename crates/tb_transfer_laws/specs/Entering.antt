@@ -1,5 +1,5 @@
 -- Where a disrupt is in a term, and the terms to which a process comes before it enters this disrupt again.
-use Rattle.std.specs.Prelude.{◌≡◌, ◌⊎◌, ℕ, List, Some, Contains}
+use Rattle.std.specs.Prelude.{◌≡◌, ◌⊎◌, List, Some, Contains}
 use Rattle.tb_func.specs.declared.slot.Slot.{Slot}
 use Rattle.tb_process_steps.specs.Processes.{Process, At, Seq, Alt, Star, Par, Disrupt, If, When, Let, aged}
 use Rattle.tb_process_steps.specs.Offers.{Offered, offers}
