@@ -38,11 +38,11 @@ other false y e = e
 
 of_none : (xs : List ProcDef) (is : ProcDef → Bool) (d : ProcDef) → find is xs ≡ Some d → All HasNone xs → HasNone d
 of_none [] is d e h = absurd (let t : ◌≡◌ {A = Option ProcDef} None (Some d) = e in cc)
-of_none (x ∷ xs) is d e h = by (is x) e
+of_none (x ∷ xs) is d e h = by (is x) e (λ f. of_none xs is d f (All-tail HasNone x xs h))
   where
-    by : (b : Bool) → cond b (Some x) (find is xs) ≡ Some d → HasNone d
-    by true f = let same : x ≡ d = cc in subst HasNone same (All-head HasNone x xs h)
-    by false f = of_none xs is d f (All-tail HasNone x xs h)
+    by : (b : Bool) → cond b (Some x) (find is xs) ≡ Some d → (find is xs ≡ Some d → HasNone d) → HasNone d
+    by true f rest = let same : x ≡ d = cc in subst HasNone same (All-head HasNone x xs h)
+    by false f rest = rest f
 
 module _ (script : Script) (all : All HasNone script.procs) where
   called : (body : Proc → Expands) → ((p : Proc) → Follows (own.proc_has_disrupt p) (body p)) → (call : Call) (o : Option ProcDef) → process_named script.procs call.name ≡ o
