@@ -76,7 +76,7 @@ pages:
 installed:
 	tests/install
 
-# Checks docs/ARCHITECTURE.md against the definitions and crates.txt. Some seconds. It needs no program.
+# Compares what docs/ARCHITECTURE.md and docs/ADDING.md say of the sources with them. tests/order --write writes it. It needs no program.
 order:
 	tests/order
 
