@@ -1,5 +1,6 @@
 -- Reads texts, a line each in hexadecimal, and says what each reads as: with the argument `terms` in the words of terms.txt, with
 -- `lines` in those of to-tool.txt. With `refuse NAME`, sends the wrong line of this name in kits/test.
+-- With `bare`, is a tool without handlers.
 local toolbus = dofile((arg[0]:match("^.*/") or "") .. "../lua/toolbus.lua")
 local appl = toolbus.appl
 
@@ -60,6 +61,8 @@ end
 
 if arg[1] == "refuse" then
   refuse(arg[2])
+elseif arg[1] == "bare" then
+  toolbus.tool():run()
 else
   for text in io.stdin:lines() do io.stdout:write(answers[arg[1]](decoded(text)), "\n") end
 end

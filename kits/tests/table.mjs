@@ -1,5 +1,6 @@
 // Reads texts, a line each in hexadecimal, and says what each reads as: with the argument `terms` in the words of terms.txt, with
 // `lines` in those of to-tool.txt. With `refuse NAME`, sends the wrong line of this name in kits/test.
+// With `bare`, is a tool without handlers.
 import { readFileSync } from 'node:fs';
 import { Appl, TermError, Tool, readLine, readTerm, writeTerm } from '../javascript/toolbus.mjs';
 
@@ -62,6 +63,8 @@ function refuse(wrong) {
 const [, , word, wrong] = process.argv;
 if (word === 'refuse') {
   refuse(wrong);
+} else if (word === 'bare') {
+  new Tool().run();
 } else {
   const answer = word === 'lines' ? lineAnswer : termAnswer;
   const texts = readFileSync(0, 'latin1').split('\n').slice(0, -1);

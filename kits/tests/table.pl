@@ -1,6 +1,7 @@
 #!/usr/bin/perl
 # Reads texts, a line each in hexadecimal, and says what each reads as: with the argument `terms` in the words of terms.txt, with
 # `lines` in those of to-tool.txt. With `refuse NAME`, sends the wrong line of this name in kits/test.
+# With `bare`, is a tool without handlers.
 use strict;
 use warnings;
 use FindBin;
@@ -59,6 +60,9 @@ sub refuse {
 my ($word, $wrong) = @ARGV;
 if ($word eq 'refuse') {
     refuse($wrong);
+}
+elsif ($word eq 'bare') {
+    ToolBus->new->run;
 }
 else {
     my $answer = $word eq 'lines' ? \&line_answer : \&term_answer;

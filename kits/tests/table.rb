@@ -1,5 +1,6 @@
 # Reads texts, a line each in hexadecimal, and says what each reads as: with the argument `terms` in the words of terms.txt, with
 # `lines` in those of to-tool.txt. With `refuse NAME`, sends the wrong line of this name in kits/test.
+# With `bare`, is a tool without handlers.
 require_relative '../ruby/toolbus'
 include ToolBus
 
@@ -48,6 +49,7 @@ end
 
 case ARGV
 in ['refuse', wrong] then refuse(Tool.new, wrong)
+in ['bare'] then Tool.new.run
 in [word]
   $stdin.each_line(chomp: true) do |text|
     puts word == 'lines' ? line_answer([text].pack('H*')) : term_answer([text].pack('H*'))

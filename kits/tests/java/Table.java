@@ -1,5 +1,6 @@
 // Reads texts, a line each in hexadecimal, and says what each reads as: with the argument `terms` in the words of terms.txt, with
 // `lines` in those of to-tool.txt. With `refuse NAME`, sends the wrong line of this name in kits/test.
+// With `bare`, is a tool without handlers.
 import static toolbus.ToolBus.*;
 
 import java.io.BufferedReader;
@@ -16,6 +17,10 @@ public class Table {
     public static void main(String[] words) throws IOException {
         if (words[0].equals("refuse")) {
             refuse(new ToolBus(), words[1]);
+            return;
+        }
+        if (words[0].equals("bare")) {
+            new ToolBus().run();
             return;
         }
         Function<byte[], String> answer = words[0].equals("lines") ? Table::lineAnswer : Table::termAnswer;

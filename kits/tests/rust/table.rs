@@ -1,9 +1,10 @@
 //! Reads texts, a line each in hexadecimal, and says what each reads as: with the argument `terms` in the words of terms.txt, with
 //! `lines` in those of to-tool.txt. With `refuse NAME`, sends the wrong line of this name in kits/test.
+//! With `bare`, is a tool without handlers.
 mod toolbus;
 use std::io::BufRead;
 use std::process::ExitCode;
-use toolbus::{Bus, Error, Term};
+use toolbus::{Bus, Error, Term, Tool};
 
 fn decoded(text: &str) -> Vec<u8> {
     let digit = |byte: u8| (byte as char).to_digit(16).expect("a digit") as u8;
@@ -43,6 +44,10 @@ fn line_answer(text: &[u8]) -> String {
     }
 }
 
+struct Bare;
+
+impl Tool for Bare {}
+
 fn refused(wrong: &str) -> Result<(), Error> {
     let letters = |count| Term::from("a".repeat(count));
     let deep = (1..65).fold(Term::Int(1), |term, _| vec![term].into());
@@ -65,6 +70,9 @@ fn refused(wrong: &str) -> Result<(), Error> {
 
 fn main() -> ExitCode {
     let words: Vec<String> = std::env::args().collect();
+    if words[1] == "bare" {
+        return toolbus::run(Bare);
+    }
     if words[1] == "refuse" {
         return refused(&words[2]).map_or_else(
             |error| {

@@ -1,5 +1,6 @@
 // Reads texts, a line each in hexadecimal, and says what each reads as: with the argument `terms` in the words of terms.txt, with
 // `lines` in those of to-tool.txt. With `refuse NAME`, sends the wrong line of this name in kits/test.
+// With `bare`, is a tool without handlers.
 package main
 
 import (
@@ -78,8 +79,14 @@ func refuse(wrong string) {
 }
 
 func main() {
-	if os.Args[1] == "refuse" {
+	switch os.Args[1] {
+	case "refuse":
 		refuse(os.Args[2])
+		return
+	case "bare":
+		if err := toolbus.New().Run(); err != nil {
+			log.Fatal(err)
+		}
 		return
 	}
 	answer := map[string]func([]byte) string{"terms": termAnswer, "lines": lineAnswer}[os.Args[1]]
